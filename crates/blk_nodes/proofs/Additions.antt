@@ -10,7 +10,7 @@ use Rattle.blk_graph.specs.Edits.{IsLone, child_of}
 use Rattle.blk_graph.specs.declared.edge.Edge.{Edge}
 use Rattle.blk_graph.specs.declared.edge.Role.{Role}
 use Rattle.blk_graph.specs.Edits.{with_edge, without_parent}
-use Rattle.blk_graph.specs.Graph.{Graph, NodeRow, HasNode, ids, IsSoundGraph, with_node as with_graph_node}
+use Rattle.blk_graph.specs.Graph.{Graph, NodeRow, HasNode, ids, IsSoundGraph, with_node}
 use Rattle.blk_graph.specs.Judged.{other_nodes, without_node}
 use Rattle.blk_graph.specs.Refreshed.{kind_at, no_kind, refreshed, IsRefreshed}
 use Rattle.blk_graph.specs.declared.kind.NodeKind.{NodeKind}
@@ -23,9 +23,9 @@ use Rattle.blk_graph.proofs.Members.{Contains-here, Contains-there, Contains-cas
 use Rattle.blk_graph.specs.Ids.{IsLowestFree}
 use Rattle.blk_graph.specs.Rule.{first_conflict}
 use Rattle.blk_graph.specs.declared.edge.Conflict.{Conflict as Pair}
-use Rattle.blk_nodes.specs.Adding.{with_node, with_device, with_below, file_edge, Breaks}
-use Rattle.blk_nodes.specs.Contents.{below}
-use Rattle.blk_nodes.specs.Nodes.{Nodes, DeviceState, is_of, row_at, device_in, size_by, size_of, file_of, backing_of, node_kind}
+use Rattle.blk_nodes.specs.Adding.{with_node_row, with_node_device, with_below, file_edge, Breaks}
+use Rattle.blk_nodes.specs.Contents.{disk_under}
+use Rattle.blk_nodes.specs.Nodes.{Nodes, DeviceSeen, is_device_of, row_at, device_in, size_by, node_size, file_of, backing_of, node_kind}
 use Rattle.blk_nodes.specs.Joined.{IsFile, HasSize, IsPartOfFile, HasBelow, IsSized, IsJoined, DifferInNode}
 use Rattle.blk_nodes.specs.declared.row.Driver.{Driver}
 use Rattle.blk_nodes.specs.declared.row.Driver.TheVariants.{File, Raw, Qcow2, CopyOnRead}
@@ -45,7 +45,7 @@ module _ (old new : Nodes) (e : Extends old new) where
   size_kept : (node size : ℕ) → HasSize old node size → HasSize new node size
   size_kept node size has = record { row = has.row; there = e.rows node has.row has.there; is = has.is }
 
-  size_same : (file : ℕ) → IsFile old file → size_of new file ≡ size_of old file
+  size_same : (file : ℕ) → IsFile old file → node_size new file ≡ node_size old file
   size_same file is = ap size_by (e.rows file is.row is.there ∙ sym is.there)
 
   pub below_kept : (node size : ℕ) (row : Row) (driver : Driver) → IsJoined old → row_at old node ≡ Some row → HasBelow old node size driver → HasBelow new node size driver
@@ -68,37 +68,37 @@ module _ (old new : Nodes) (e : Extends old new) where
   below_kept node size row CopyOnRead joined there is = record { child = is.child; edge = e.files node row there ∙ is.edge; same = size_kept is.child size is.same }
 
 -- a device more at the end
-find_or : (node : ℕ) (a b : DeviceState) (devices : List DeviceState) (here : Bool)
+find_or : (node : ℕ) (a b : DeviceSeen) (devices : List DeviceSeen) (here : Bool)
     → (IsSome (device_in devices node) → device_in (devices ++ b ∷ []) node ≡ device_in devices node)
-    → IsSome (cond here (Some a) (device_in devices node)) → ◌≡◌ {A = Option DeviceState} (cond here (Some a) (device_in (devices ++ b ∷ []) node)) (cond here (Some a) (device_in devices node))
+    → IsSome (cond here (Some a) (device_in devices node)) → ◌≡◌ {A = Option DeviceSeen} (cond here (Some a) (device_in (devices ++ b ∷ []) node)) (cond here (Some a) (device_in devices node))
 find_or node a b devices true rest is = refl
 find_or node a b devices false rest is = rest is
 
-device_kept : (devices : List DeviceState) (b : DeviceState) (node : ℕ) → IsSome (device_in devices node) → device_in (devices ++ b ∷ []) node ≡ device_in devices node
+device_kept : (devices : List DeviceSeen) (b : DeviceSeen) (node : ℕ) → IsSome (device_in devices node) → device_in (devices ++ b ∷ []) node ≡ device_in devices node
 device_kept [] b node is = absurd (cc is)
-device_kept (a ∷ devices) b node is = find_or node a b devices (is_of node a) (device_kept devices b node) is
+device_kept (a ∷ devices) b node is = find_or node a b devices (is_device_of node a) (device_kept devices b node) is
 
-new_or : (node : ℕ) (a b : DeviceState) (devices : List DeviceState) (here : Bool) → (device_in devices node ≡ None → device_in (devices ++ b ∷ []) node ≡ cond (is_of node b) (Some b) None)
-    → cond here (Some a) (device_in devices node) ≡ None → cond here (Some a) (device_in (devices ++ b ∷ []) node) ≡ cond (is_of node b) (Some b) None
+new_or : (node : ℕ) (a b : DeviceSeen) (devices : List DeviceSeen) (here : Bool) → (device_in devices node ≡ None → device_in (devices ++ b ∷ []) node ≡ cond (is_device_of node b) (Some b) None)
+    → cond here (Some a) (device_in devices node) ≡ None → cond here (Some a) (device_in (devices ++ b ∷ []) node) ≡ cond (is_device_of node b) (Some b) None
 new_or node a b devices true rest is = absurd (cc is)
 new_or node a b devices false rest is = rest is
 
-pub device_new : (devices : List DeviceState) (b : DeviceState) (node : ℕ) → device_in devices node ≡ None → device_in (devices ++ b ∷ []) node ≡ cond (is_of node b) (Some b) None
+pub device_new : (devices : List DeviceSeen) (b : DeviceSeen) (node : ℕ) → device_in devices node ≡ None → device_in (devices ++ b ∷ []) node ≡ cond (is_device_of node b) (Some b) None
 device_new [] b node is = refl
-device_new (a ∷ devices) b node is = new_or node a b devices (is_of node a) (device_new devices b node) is
+device_new (a ∷ devices) b node is = new_or node a b devices (is_device_of node a) (device_new devices b node) is
 
 -- a device of the list is found by its node
-pub device_held : (devices : List DeviceState) (device : DeviceState) → Contains devices device → IsSome (device_in devices device.node)
+pub device_held : (devices : List DeviceSeen) (device : DeviceSeen) → Contains devices device → IsSome (device_in devices device.node)
 device_held [] device there = absurd (omega (arith, there.1))
 device_held (a ∷ devices) device there =
-    by_node (is_of device.node a) refl (device_held devices device) (Contains-cases a devices device there)
+    by_node (is_device_of device.node a) refl (device_held devices device) (Contains-cases a devices device there)
   where
-    by_node : (b : Bool) → is_of device.node a ≡ b → (Contains devices device → IsSome (device_in devices device.node))
+    by_node : (b : Bool) → is_device_of device.node a ≡ b → (Contains devices device → IsSome (device_in devices device.node))
         → (device ≡ a) ⊎ Contains devices device
         → IsSome (cond b (Some a) (device_in devices device.node))
     by_node true is later cases = refl
     by_node false is later (inl here) =
-        let own : is_of device.node a ≡ true = ap (λ (d : DeviceState). is_of device.node d) (sym here) ∙ eq-eqb device.node device.node refl in
+        let own : is_device_of device.node a ≡ true = ap (λ (d : DeviceSeen). is_device_of device.node d) (sym here) ∙ eq-eqb device.node device.node refl in
         let bad = sym is ∙ own in absurd (cc bad)
     by_node false is later (inr rest) = later rest
 
@@ -205,15 +205,15 @@ module _ (old new : Nodes) (id : ℕ) (name : List ℕ) (row : Row) (joined : Is
   }
 
 -- a `file` node with its device
-module _ (nodes : Nodes) (id size : ℕ) (name : List ℕ) (is_read_only : Bool) (device : DeviceState) (joined : IsJoined nodes) (absent : HasNode nodes.graph id → ⊥)
+module _ (nodes : Nodes) (id size : ℕ) (name : List ℕ) (is_read_only : Bool) (device : DeviceSeen) (joined : IsJoined nodes) (absent : HasNode nodes.graph id → ⊥)
     (small : id < 64) (node : device.node ≡ id) where
   abbrev file_row : Row
   file_row = record { driver = File; size = size; is_read_only = is_read_only }
 
   abbrev added : Nodes
-  added = with_device (with_node nodes id name file_row) device
+  added = with_node_device (with_node_row nodes id name file_row) device
 
-  held_or : (n : ℕ) (found : Option DeviceState) → device_in nodes.devices n ≡ found → IsSome (device_in (nodes.devices ++ device ∷ []) n)
+  held_or : (n : ℕ) (found : Option DeviceSeen) → device_in nodes.devices n ≡ found → IsSome (device_in (nodes.devices ++ device ∷ []) n)
       → ((n ≡ id) × (File ≡ File)) ⊎ IsSome (device_in nodes.devices n)
   held_or n (Some d) is some = inr (rw is refl)
   held_or n None is some = elim (cases_eq n id) [
@@ -233,7 +233,7 @@ module _ (nodes : Nodes) (id size : ℕ) (name : List ℕ) (is_read_only : Bool)
     backings = λ n row there. refl;
   }
 
-  others : (k : ℕ) (d : DeviceState) → k < length nodes.devices → DifferInNode (get_or nodes.devices k d) device
+  others : (k : ℕ) (d : DeviceSeen) → k < length nodes.devices → DifferInNode (get_or nodes.devices k d) device
   others k d within = λ same.
       let there : Contains nodes.devices (get_or nodes.devices k d) = Contains-get_or nodes.devices k d within in
       let held = device_held nodes.devices (get_or nodes.devices k d) there in
@@ -267,7 +267,7 @@ set-back (x ∷ xs) (suc i) v d is = ap (λ ys. x ∷ ys) (set-back xs i v d is)
 
 pub taken_back : (graph : Graph) (id : ℕ) (name : List ℕ) (kind : NodeKind) → IsSoundGraph graph → (HasNode graph id → ⊥)
     → IsLone graph.edges id → IsRefreshed (set graph.kinds id kind) graph.edges
-    → without_node id (with_graph_node graph id name kind) ≡ graph
+    → without_node id (with_node graph id name kind) ≡ graph
 taken_back graph id name kind sound absent lone stays =
     let make : List NodeRow → List NodeKind → List Edge → Graph = λ nodes kinds edges. record { nodes = nodes; kinds = kinds; edges = edges } in
     let kinds' : List NodeKind = set graph.kinds id kind in
@@ -279,25 +279,25 @@ taken_back graph id name kind sound absent lone stays =
     ∙ ap (λ (ks : List NodeKind). make graph.nodes ks edges') kinds_are
     ∙ ap (make graph.nodes graph.kinds) edges_are
 
-pub graph_back : (old mid new : Graph) (id : ℕ) (name : List ℕ) (kind : NodeKind) → IsSoundGraph old → (HasNode old id → ⊥) → mid ≡ with_graph_node old id name kind
+pub graph_back : (old mid new : Graph) (id : ℕ) (name : List ℕ) (kind : NodeKind) → IsSoundGraph old → (HasNode old id → ⊥) → mid ≡ with_node old id name kind
     → IsLone mid.edges id → IsSoundGraph mid → new ≡ without_node id mid → new ≡ old
 graph_back old mid new id name kind sound absent more lone sound' gone =
     let lone' : IsLone old.edges id = rw more at lone in
-    let made : IsSoundGraph (with_graph_node old id name kind) = rw more at sound' in
+    let made : IsSoundGraph (with_node old id name kind) = rw more at sound' in
     gone ∙ ap (without_node id) more ∙ taken_back old id name kind sound absent lone' made.just.refreshed
 
 pub has_after : (graph : Graph) (id : ℕ) (name : List ℕ) (kind : NodeKind) (node : ℕ) → HasNode graph node
-    → HasNode (with_graph_node graph id name kind) node
+    → HasNode (with_node graph id name kind) node
 has_after graph id name kind node has =
     rw (map-append (λ (r : NodeRow). r.id) graph.nodes (record { id = id; name = name } ∷ [])) (Contains-append_left (ids graph) (id ∷ []) node has)
 
 pub ids_after : (graph : Graph) (id : ℕ) (name : List ℕ) (kind : NodeKind)
-    → ids (with_graph_node graph id name kind) ≡ ids graph ++ id ∷ []
+    → ids (with_node graph id name kind) ≡ ids graph ++ id ∷ []
 ids_after graph id name kind = map-append (λ (r : NodeRow). r.id) graph.nodes (record { id = id; name = name } ∷ [])
 
 -- what the edges of a new node break
 pub breaks : (nodes : Nodes) (id : ℕ) (name : List ℕ) (kind : NodeKind) (edges : ℕ → List Edge → List Edge) (found : Option Pair) → IsLowestFree (ids nodes.graph) id
-    → first_conflict (ids (with_graph_node nodes.graph id name kind)) (refreshed (set nodes.graph.kinds id kind) (edges id nodes.graph.edges)) ≡ found
+    → first_conflict (ids (with_node nodes.graph id name kind)) (refreshed (set nodes.graph.kinds id kind) (edges id nodes.graph.edges)) ≡ found
     → Breaks nodes kind edges found
 breaks nodes id name kind edges found lowest first = record { id = id; lowest = lowest; first = rw (ids_after nodes.graph id name kind) at first }
 
@@ -308,7 +308,7 @@ file_is_node nodes file joined is = joined.only file (rw is.there refl)
 module _ (nodes : Nodes) (id file : ℕ) (name : List ℕ) (row : Row) (joined : IsJoined nodes) (absent : HasNode nodes.graph id → ⊥)
     (small : id < 64) (lone : IsLone nodes.graph.edges id) (is_file : IsFile nodes file) where
   abbrev over_file : Nodes
-  over_file = with_below (with_node nodes id name row) (file_edge id file)
+  over_file = with_below (with_node_row nodes id name row) (file_edge id file)
 
   abbrev kinds_after : List NodeKind
   kinds_after = set nodes.graph.kinds id (node_kind row)
@@ -336,7 +336,7 @@ module _ (nodes : Nodes) (id file : ℕ) (name : List ℕ) (row : Row) (joined :
   file_below = child_of-refreshed kinds_after (Node id) FileRole edges_after ∙ child-new (file_edge id file) nodes.graph.edges lone.leaves
 
   pub joined_raw : (offset size : ℕ) → IsSoundGraph over_file.graph → row.driver ≡ Raw (record { offset = offset; size = size }) → row.size ≡ size
-      → offset + size ≤ size_of nodes file → offset + size ≤ 9223372036854775808 → IsJoined over_file
+      → offset + size ≤ node_size nodes file → offset + size ≤ 9223372036854775808 → IsJoined over_file
   joined_raw offset size sound driver whole within fits =
       let same = size_same nodes over_file extends_over file is_file in
       let sized : (size ≡ row.size) × (offset + row.size ≤ 9223372036854775808) = (sym whole, omega (arith, whole, fits)) in

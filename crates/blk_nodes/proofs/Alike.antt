@@ -8,9 +8,9 @@ use Rattle.q2_image.specs.Image.{Known, IsOpen}
 use Rattle.q2_image.specs.Writing.{HasHeaderOf}
 use Rattle.blk_graph.specs.declared.kind.Kind.{Kind}
 use Rattle.blk_graph.specs.declared.kind.NodeKind.{NodeKind}
-use Rattle.blk_nodes.specs.Contents.{below, disk_by, disk_in, disk_of, bytes_of, file_node_disk}
+use Rattle.blk_nodes.specs.Contents.{disk_under, disk_by, disk_down, disk_of, bytes_of, file_node_disk}
 use Rattle.blk_nodes.specs.Joined.{IsFile, HasSize, HasBelow, IsJoined, IsSized}
-use Rattle.blk_nodes.specs.Nodes.{Nodes, DeviceState, row_at, device_in, size_by, size_of, file_of, backing_of, kind_of, node_kind}
+use Rattle.blk_nodes.specs.Nodes.{Nodes, DeviceSeen, row_at, device_in, size_by, node_size, file_of, backing_of, driver_kind, node_kind}
 use Rattle.blk_nodes.specs.Walk.{IsKnownAt}
 use Rattle.blk_nodes.specs.Writing.{IsDriverAfter, IsRowAfter, AreRowsAfter}
 use Rattle.blk_nodes.specs.declared.row.Driver.{Driver}
@@ -41,17 +41,17 @@ alike_but a b node others own n = elim (cases_eq n node) [
 ]
 
 -- what is the same of two rows
-kind_by : (d e : Driver) → IsDriverAfter d e → kind_of e ≡ kind_of d
-kind_by File e is = ap kind_of is
-kind_by (Raw part) e is = ap kind_of is
-kind_by (Qcow2 image) e is = ap kind_of is.1
-kind_by CopyOnRead e is = ap kind_of is
+kind_by : (d e : Driver) → IsDriverAfter d e → driver_kind e ≡ driver_kind d
+kind_by File e is = ap driver_kind is
+kind_by (Raw part) e is = ap driver_kind is
+kind_by (Qcow2 image) e is = ap driver_kind is.1
+kind_by CopyOnRead e is = ap driver_kind is
 
 kind_stays : (old now : Row) → IsRowAfter old now → node_kind now ≡ node_kind old
 kind_stays old now is =
     let kind_with : Kind → Bool → NodeKind = λ kind writes. record { kind = kind; writes = writes } in
     ap (λ (k : Kind). kind_with k (not now.is_read_only)) (kind_by old.driver now.driver is.driver)
-    ∙ ap (λ (r : Bool). kind_with (kind_of old.driver) (not r)) is.is_read_only
+    ∙ ap (λ (r : Bool). kind_with (driver_kind old.driver) (not r)) is.is_read_only
 
 sized_by : (d e : Driver) (size : ℕ) → IsDriverAfter d e → IsSized size d → IsSized size e
 sized_by File e size is has = subst (IsSized size) (sym is) has
@@ -60,7 +60,7 @@ sized_by (Qcow2 image) e size is has = subst (IsSized size) (sym is.1) (size_sta
 sized_by CopyOnRead e size is has = subst (IsSized size) (sym is) has
 
 -- other rows and devices
-module _ (a : Nodes) (rows : List (Option Row)) (devices : List DeviceState)
+module _ (a : Nodes) (rows : List (Option Row)) (devices : List DeviceSeen)
     (alike : (n : ℕ) → AreRowsAfter (row_at a n) (get_or rows n None)) where
   abbrev b : Nodes
   b = record a { rows = rows; devices = devices }
@@ -80,10 +80,10 @@ module _ (a : Nodes) (rows : List (Option Row)) (devices : List DeviceState)
       let P : Option Row → Type 0 = λ found. AreRowsAfter found (row_at b n) in
       subst P there (alike n)
 
-  size_same : (n : ℕ) → size_of b n ≡ size_of a n
+  size_same : (n : ℕ) → node_size b n ≡ node_size a n
   size_same n = by (row_at a n) refl (alike n)
     where
-      by : (found : Option Row) → row_at a n ≡ found → AreRowsAfter found (row_at b n) → size_of b n ≡ size_of a n
+      by : (found : Option Row) → row_at a n ≡ found → AreRowsAfter found (row_at b n) → node_size b n ≡ node_size a n
       by None is after = ap size_by after ∙ sym (ap size_by is)
       by (Some old) is after = ap size_by after.1 ∙ after.2.size ∙ sym (ap size_by is)
 
@@ -103,7 +103,7 @@ module _ (a : Nodes) (rows : List (Option Row)) (devices : List DeviceState)
       (known : (n : ℕ) (row : Row) (image : Known) (file : ℕ) → row_at b n ≡ Some row → row.driver ≡ Qcow2 image → file_of a n ≡ Some file → IsKnownAt file devices image)
       (after : (n : ℕ) → IsSome (device_in a.devices n) → IsSome (device_in devices n))
       (before : (n : ℕ) → IsSome (device_in devices n) → IsSome (device_in a.devices n))
-      (names : map (λ (d : DeviceState). d.node) devices ≡ map (λ (d : DeviceState). d.node) a.devices)
+      (names : map (λ (d : DeviceSeen). d.node) devices ≡ map (λ (d : DeviceSeen). d.node) a.devices)
       (joined : IsJoined a) where
     below_by : (n : ℕ) (row : Row) (d e : Driver) → row_at b n ≡ Some row → row.driver ≡ e → IsDriverAfter d e → HasBelow a n row.size d → HasBelow b n row.size e
     below_by n row File e there driver is has = subst (HasBelow b n row.size) (sym is) (after n has)
@@ -151,7 +151,7 @@ module _ (a : Nodes) (rows : List (Option Row)) (alike : (n : ℕ) → AreRowsAf
   file_same : (n : ℕ) → file_node_disk mid n ≡ file_node_disk a n
   file_same n = ap (λ (s : ℕ). file_disk s (bytes_of a n)) (size_same a rows a.devices alike n)
 
-  below_same : (f g : ℕ → List ℕ) → ((n : ℕ) → f n ≡ g n) → (next : Option ℕ) → below f next ≡ below g next
+  below_same : (f g : ℕ → List ℕ) → ((n : ℕ) → f n ≡ g n) → (next : Option ℕ) → disk_under f next ≡ disk_under g next
   below_same f g each None = refl
   below_same f g each (Some next) = each next
 
@@ -160,7 +160,7 @@ module _ (a : Nodes) (rows : List (Option Row)) (alike : (n : ℕ) → AreRowsAf
   same_driver f g each n (Raw part) e is =
       ap (disk_by mid f n) is ∙ ap (raw_disk part.offset part.size) (below_same (file_node_disk mid) (file_node_disk a) file_same (file_of a n))
   same_driver f g each n (Qcow2 image) e is =
-      ap (disk_by mid f n) is.1 ∙ ap (image_disk (below (bytes_of a) (file_of a n))) (below_same f g each (backing_of a n))
+      ap (disk_by mid f n) is.1 ∙ ap (image_disk (disk_under (bytes_of a) (file_of a n))) (below_same f g each (backing_of a n))
   same_driver f g each n CopyOnRead e is = ap (disk_by mid f n) is ∙ below_same f g each (file_of a n)
 
   abbrev disk_found : Nodes → (ℕ → List ℕ) → ℕ → Option Row → List ℕ
@@ -170,9 +170,9 @@ module _ (a : Nodes) (rows : List (Option Row)) (alike : (n : ℕ) → AreRowsAf
   same_row f g each n None y is = ap (disk_found mid f n) is
   same_row f g each n (Some old) y is = ap (disk_found mid f n) is.1 ∙ same_driver f g each n old.driver is.0.driver is.2.driver
 
-  same_in : (turns n : ℕ) → disk_in turns mid n ≡ disk_in turns a n
+  same_in : (turns n : ℕ) → disk_down turns mid n ≡ disk_down turns a n
   same_in zero n = refl
-  same_in (suc turns) n = same_row (disk_in turns mid) (disk_in turns a) (same_in turns) n (row_at a n) (row_at mid n) (alike n)
+  same_in (suc turns) n = same_row (disk_down turns mid) (disk_down turns a) (same_in turns) n (row_at a n) (row_at mid n) (alike n)
 
   pub disks_alike : (n : ℕ) → disk_of mid n ≡ disk_of a n
   unfolding disk_of

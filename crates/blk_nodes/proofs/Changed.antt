@@ -18,7 +18,7 @@ use Rattle.q2_image.specs.Made.{WriteStep, IsKnownBy, WroteOwn, known_after, cle
 use Rattle.q2_image.specs.Room.{cluster_of, entry_for, is_whole}
 use Rattle.q2_image.specs.Writing.{HasEntriesBut, autocleared, host_for, needs_host, needs_table, table_for, with_host, with_table, with_taken}
 use Rattle.blk_nodes.specs.Changing.{seen, ChangesAround, ChangesBySteps, ChangesInPlace, ChangesPart, IsImageWritten, IsZeroed, MakesChange, ZeroesBy, ZeroesPart}
-use Rattle.blk_nodes.specs.Nodes.{DeviceState}
+use Rattle.blk_nodes.specs.Nodes.{DeviceSeen}
 
 -- P holds of what is known behind each of some steps
 abbrev AllKnown : (Known → Type 0) → List WriteStep → Type 0
@@ -174,7 +174,7 @@ same_entries image now cluster (NoSpace dev) same = same
 by_tables : (image now : Known) → now.tables ≡ image.tables → (n : ℕ) → word_in now n ≡ word_in image n
 by_tables image now same n = ap (λ (t : tables.Kept). get_or t.words n 0) same
 
-module _ (image now : Known) (cluster : ℕ) (before after : DeviceState) (steps : List WriteStep) (place : ℕ) (bytes : List ℕ) (but : AllKnown (KeepsBut image cluster) steps)
+module _ (image now : Known) (cluster : ℕ) (before after : DeviceSeen) (steps : List WriteStep) (place : ℕ) (bytes : List ℕ) (but : AllKnown (KeepsBut image cluster) steps)
     (first : AllBefore (Keeps image cluster) steps) where
   made_entries : MakesChange steps place bytes None image now before after → HasEntriesBut image now cluster
   made_entries is = left_known (KeepsBut image cluster) image steps None is.made.writes.made now is.made.known (λ other apart. refl) but
@@ -189,7 +189,7 @@ module _ (image now : Known) (cluster : ℕ) (before after : DeviceState) (steps
   steps_entries IsMade (Io dev count) is = stopped_entries (stops.Io count) is
   steps_entries IsMade (NoSpace dev) is = by_tables image now (ap (λ (k : Known). k.tables) is.0)
 
-module _ (IsDisk : List ℕ → Type 0) (image now : Known) (part : Extent) (bytes : List ℕ) (before after : DeviceState) where
+module _ (IsDisk : List ℕ → Type 0) (image now : Known) (part : Extent) (bytes : List ℕ) (before after : DeviceSeen) where
   around_entries : (o : Outcome) → ChangesAround IsDisk part bytes image now before after o → LeavesEntries image now (cluster_of image part) o
   around_entries Good is =
       made_entries image now (cluster_of image part) before after (put_steps image (cluster_of image part) is.0.cluster) _ _ (put_but image (cluster_of image part) is.0.cluster) (put_before image (cluster_of image part) is.0.cluster)
@@ -223,7 +223,7 @@ module _ (IsDisk : List ℕ → Type 0) (image now : Known) (part : Extent) (byt
   written_entries o is = part_entries (entry_for image part) o is
 
 -- and zeros
-pub zeroed_entries : (IsDisk : List ℕ → Type 0) (image now : Known) (part : Extent) (before after : DeviceState) (o : Outcome) → IsZeroed IsDisk part image now before after o
+pub zeroed_entries : (IsDisk : List ℕ → Type 0) (image now : Known) (part : Extent) (before after : DeviceSeen) (o : Outcome) → IsZeroed IsDisk part image now before after o
     → LeavesEntries image now (cluster_of image part) o
 zeroed_entries IsDisk image now part before after o is = by_whole (is_whole image part) is
   where

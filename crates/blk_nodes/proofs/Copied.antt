@@ -32,14 +32,14 @@ use Rattle.q2_image.specs.Writing.{PutFits}
 use Rattle.q2_image.proofs.Guests.{guest_unallocated}
 use Rattle.q2_image.proofs.Mapped.{entry_of_file}
 use Rattle.blk_nodes.specs.Changing.{IsImageWritten, ChangesAround, ChangesPart, ChangesRow, LeavesRow}
-use Rattle.blk_nodes.specs.Contents.{IsToldDisk, below, disk_by, disk_of, bytes_by, bytes_of}
+use Rattle.blk_nodes.specs.Contents.{IsToldDisk, disk_under, disk_by, disk_of, bytes_by, bytes_of}
 use Rattle.blk_nodes.specs.Copying.{AtEach, HasRoomIn, GoesWhole, IsMappedAt, IsRoomInEach, LeavesRest, is_unallocated, is_copy_on_read, shows_below_at, puts_below, images_met_in}
 use Rattle.blk_nodes.specs.Joined.{IsOverlay, IsCopying, IsJoined, DifferInNode}
-use Rattle.blk_nodes.specs.Nodes.{Nodes, DeviceState, AreTold, is_of, row_at, device_in, size_by, size_of, file_of, backing_of}
+use Rattle.blk_nodes.specs.Nodes.{Nodes, DeviceSeen, AreTold, is_device_of, row_at, device_in, size_by, node_size, file_of, backing_of}
 use Rattle.blk_nodes.specs.Parts.{OfImage}
 use Rattle.blk_nodes.specs.Reading.{LeadsTo}
 use Rattle.blk_nodes.specs.Sources.{in_file, in_image, in_below, step_by_entry, step_by, step_of}
-use Rattle.blk_nodes.specs.Writing.{IsTornAt, HasPieceCause, WritesImage, WritesBy, WritesPiece, IsDriverAfter, AreRowsAfter, LeavesNodes, HasImageIn, OwnsFile, CanBeWritten, MayWrite, FitsAt, HasRoomAt, own_file, own_place_by, rest_place}
+use Rattle.blk_nodes.specs.Writing.{IsTornAt, HasPieceCause, WritesImage, WritesBy, WritesPiece, IsDriverAfter, AreRowsAfter, LeavesNodes, HasImageIn, OwnsFile, CanBeWritten, MayWriteThrough, FitsAt, HasRoomAt, own_file, own_place_by, rest_place}
 use Rattle.blk_nodes.specs.declared.row.Driver.{Driver}
 use Rattle.blk_nodes.specs.declared.row.Driver.TheVariants.{File, Raw, Qcow2, CopyOnRead}
 use Rattle.blk_nodes.specs.declared.row.Row.{Row}
@@ -127,13 +127,13 @@ module _ (nodes : Nodes) (joined : IsJoined nodes) (node place next : ℕ) (over
   overlay : (image : Known) → over.row.driver ≡ Qcow2 image → IsOverlay nodes node image
   overlay image driver = rw driver at (joined.below node over.row over.there)
 
-  pub below_size : size_of nodes next ≡ size_of nodes node
+  pub below_size : node_size nodes next ≡ node_size nodes node
   below_size = elim over.how [
     | inl filter ↦
         let is : IsCopying nodes node over.row.size = rw filter.0 at (joined.below node over.row over.there) in
         let child : is.child ≡ next = cc (sym is.edge ∙ filter.1) in
         let has = is.same in
-        ap (size_of nodes) (sym child) ∙ ap size_by has.there ∙ has.is ∙ sym (ap size_by over.there)
+        ap (node_size nodes) (sym child) ∙ ap size_by has.there ∙ has.is ∙ sym (ap size_by over.there)
     | inr image ↦
         let is : IsOverlay nodes node image.0 = overlay image.0 image.1 in
         let has = is.backing next image.3 in
@@ -141,13 +141,13 @@ module _ (nodes : Nodes) (joined : IsJoined nodes) (node place next : ℕ) (over
         ap size_by has.there ∙ has.is ∙ sized ∙ sym (ap size_by over.there)
   ]
 
-  module _ (told : AreTold nodes.devices) (start n : ℕ) (here : start ≡ place) (block : start % 65536 + n ≤ 65536) (inside : start + n ≤ size_of nodes node) where
+  module _ (told : AreTold nodes.devices) (start n : ℕ) (here : start ≡ place) (block : start % 65536 + n ≤ 65536) (inside : start + n ≤ node_size nodes node) where
     disk_unfolds : (driver : Driver) → over.row.driver ≡ driver → disk_of nodes node ≡ disk_by nodes (disk_of nodes) node driver
     disk_unfolds driver is = unfolds nodes joined node over.row over.there ∙ ap (disk_by nodes (disk_of nodes) node) is
 
     point : (i : ℕ) → i < n → get_or (disk_of nodes node) (start + i) 0 ≡ get_or (disk_of nodes next) (start + i) 0
     point i less = elim over.how [
-      | inl filter ↦ ap (λ (d : List ℕ). get_or d (start + i) 0) (disk_unfolds CopyOnRead filter.0 ∙ ap (below (disk_of nodes)) filter.1)
+      | inl filter ↦ ap (λ (d : List ℕ). get_or d (start + i) 0) (disk_unfolds CopyOnRead filter.0 ∙ ap (disk_under (disk_of nodes)) filter.1)
       | inr image ↦
           let is : IsOverlay nodes node image.0 = overlay image.0 image.1 in
           let held = told_held is.file nodes.devices told (held_by nodes is.file joined is.is_file) in
@@ -155,7 +155,7 @@ module _ (nodes : Nodes) (joined : IsJoined nodes) (node place next : ℕ) (over
           let bits : (header_of (bytes_of nodes is.file)).cluster_bits ≡ 16 = ap (λ (h : Header). h.cluster_bits) known.header ∙ is.opened.cluster_bits in
           let whole : (header_of (bytes_of nodes is.file)).size ≡ image.0.header.size = ap (λ (h : Header). h.size) known.header in
           let sized : image.0.header.size ≡ over.row.size = rw image.1 at (joined.sized node over.row over.there) in
-          let size : size_of nodes node ≡ over.row.size = ap size_by over.there in
+          let size : node_size nodes node ≡ over.row.size = ap size_by over.there in
           let block_is : cluster_size_in image.0 ≡ 65536 = let opened = is.opened.cluster_bits in rw opened refl in
           let same : (start + i) / 65536 ≡ place / 65536 = omega (arith, here, block, less) in
           let entry : file_entry (bytes_of nodes is.file) ((start + i) / 65536) ≡ entries.Unallocated
@@ -164,8 +164,8 @@ module _ (nodes : Nodes) (joined : IsJoined nodes) (node place next : ℕ) (over
           ∙ ap (λ (c : ℕ). entry_in image.0 (place / c)) (sym block_is) ∙ image.2 in
           ap (λ (d : List ℕ). get_or d (start + i) 0)
           (disk_unfolds (Qcow2 image.0) image.1
-          ∙ ap (λ (f : Option ℕ). image_disk (below (bytes_of nodes) f) (below (disk_of nodes) (backing_of nodes node))) is.edge
-          ∙ ap (λ (b : Option ℕ). image_disk (bytes_of nodes is.file) (below (disk_of nodes) b)) image.3)
+          ∙ ap (λ (f : Option ℕ). image_disk (disk_under (bytes_of nodes) f) (disk_under (disk_of nodes) (backing_of nodes node))) is.edge
+          ∙ ap (λ (b : Option ℕ). image_disk (bytes_of nodes is.file) (disk_under (disk_of nodes) b)) image.3)
           ∙ get_or-image_disk (bytes_of nodes is.file) (disk_of nodes next) (start + i) (omega (arith, inside, less, whole, sized, size))
           ∙ guest_unallocated (bytes_of nodes is.file) (disk_of nodes next) (start + i) bits entry
     ]
@@ -312,11 +312,11 @@ module _ (nodes : Nodes) (joined : IsJoined nodes) (node : ℕ) (span : Extent) 
       let same : is.file ≡ file = cc (sym is.edge ∙ edge) in
       held_by nodes file joined (rw (sym same) is.is_file)
 
-  pub cluster_there : span.start < size_of nodes node → OfImage (row_at nodes node) (λ image. span.start / 65536 < clusters_in image)
+  pub cluster_there : span.start < node_size nodes node → OfImage (row_at nodes node) (λ image. span.start / 65536 < clusters_in image)
   cluster_there inside =
       let bits = into_overlay.opened.cluster_bits in
       let sized : into.image.header.size ≡ into.row.size = rw into.driver at (joined.sized node into.row into.there) in
-      let size : size_of nodes node ≡ into.row.size = ap size_by into.there in
+      let size : node_size nodes node ≡ into.row.size = ap size_by into.there in
       of_image (row_at nodes node) into.row into.image (λ image. span.start / 65536 < clusters_in image) into.there into.driver (rw bits (omega (arith, inside, sized, size)))
 
   pub room_said : (file : ℕ) (room : Outcome) → file_of nodes node ≡ Some file
@@ -326,7 +326,7 @@ module _ (nodes : Nodes) (joined : IsJoined nodes) (node : ℕ) (span : Extent) 
       has : HasRoomAt file nodes.devices (PutFits into.image (span.start / 65536)) room
       has = image_found (row_at nodes node) into.row into.image (λ image. HasRoomAt file nodes.devices (PutFits image (span.start / 65536)) room) into.there into.driver said
 
-      device : (device : DeviceState) × (device_in nodes.devices file ≡ Some device)
+      device : (device : DeviceSeen) × (device_in nodes.devices file ≡ Some device)
       device = some_device (device_in nodes.devices file) (held_there file edge)
 
       by : (o : Outcome) → HasRoomAt file nodes.devices (PutFits into.image (span.start / 65536)) o → IsRoomInEach (node ∷ []) nodes span o
@@ -353,10 +353,10 @@ module _ (nodes : Nodes) (joined : IsJoined nodes) (node : ℕ) (span : Extent) 
 
 -- ---- devices that tell their bytes
 
-noded : (devices : List DeviceState) (x : DeviceState) → AllPairs DifferInNode devices → Contains devices x → device_in devices x.node ≡ Some x
+noded : (devices : List DeviceSeen) (x : DeviceSeen) → AllPairs DifferInNode devices → Contains devices x → device_in devices x.node ≡ Some x
 noded [] x once there = absurd (Contains-nil x there)
 noded (d ∷ devices) x once there = elim (Contains-cases d devices x there) [
-  | inl here ↦ let at : (d.node == x.node) ≡ true = eq-eqb d.node x.node (ap (λ (y : DeviceState). y.node) (sym here)) in rw at (ap (λ (y : DeviceState). Some y) (sym here))
+  | inl here ↦ let at : (d.node == x.node) ≡ true = eq-eqb d.node x.node (ap (λ (y : DeviceSeen). y.node) (sym here)) in rw at (ap (λ (y : DeviceSeen). Some y) (sym here))
   | inr later ↦
       let past : (d.node == x.node) ≡ false = ne_eqb d.node x.node (head_pairs DifferInNode d devices once x later) in
       rw past (noded devices x (tail_pairs DifferInNode d devices once) later)
@@ -368,7 +368,7 @@ size_after (Some row) b is = ap size_by is.1 ∙ is.2.size
 
 -- ---- a piece that is written to an image
 
-module _ (old new : Nodes) (joined : IsJoined old) (now : IsJoined new) (node : ℕ) (span : Extent) (bytes : List ℕ) (outcome : Outcome) (may : MayWrite old node)
+module _ (old new : Nodes) (joined : IsJoined old) (now : IsJoined new) (node : ℕ) (span : Extent) (bytes : List ℕ) (outcome : Outcome) (may : MayWriteThrough old node)
     (into : IsPutInto old node span.start) (wrote : WritesPiece old new node span bytes outcome) (kept : LeavesNodes old new node) where
   abbrev place : Option ℕ
   place = own_place_by (entry_for into.image span) into.image span
@@ -419,7 +419,7 @@ module _ (old new : Nodes) (joined : IsJoined old) (now : IsJoined new) (node : 
     }
   ]
 
-  sizes_same : (n : ℕ) → size_of new n ≡ size_of old n
+  sizes_same : (n : ℕ) → node_size new n ≡ node_size old n
   sizes_same n = elim (cases_eq n node) [
     | inl same ↦ rw same (size_after (row_at old node) (row_at new node) kept.own)
     | inr apart ↦ ap size_by (kept.others n apart)
@@ -430,13 +430,13 @@ module _ (old new : Nodes) (joined : IsJoined old) (now : IsJoined new) (node : 
     | inl only ↦ elim (cases_eq d.node written.file) [
       | inl same ↦
           let is : d ≡ written.after = cc (sym (noded new.devices d now.once there) ∙ ap (device_in new.devices) same ∙ written.left) in
-          ap (λ (x : DeviceState). is_some x.content) is ∙ written.device.told ∙ told written.before (find-Some (is_of written.file) old.devices written.before written.held).0
+          ap (λ (x : DeviceSeen). is_some x.content) is ∙ written.device.told ∙ told written.before (find-Some (is_device_of written.file) old.devices written.before written.held).0
       | inr apart ↦
-          told d (find-Some (is_of d.node) old.devices d (sym (only.others d.node apart) ∙ noded new.devices d now.once there)).0
+          told d (find-Some (is_device_of d.node) old.devices d (sym (only.others d.node apart) ∙ noded new.devices d now.once there)).0
     ]
     | inr risen ↦
         let was = before_rise d.node old.devices new.devices d risen (noded new.devices d now.once there) in
-        ap (λ (x : DeviceState). is_some x.content) was.2.same ∙ told was.0 (find-Some (is_of d.node) old.devices was.0 was.1).0
+        ap (λ (x : DeviceSeen). is_some x.content) was.2.same ∙ told was.0 (find-Some (is_device_of d.node) old.devices was.0 was.1).0
   ]
 
   -- it leaves the rest
@@ -504,7 +504,7 @@ module _ (old mid : Nodes) (images : List ℕ) (outcome : Outcome) (rest : Leave
   mid_child n role = ap (λ (g : Graph). child_of (Node n) role g.edges) rest.graph
 
   -- a node that may be written and isn't one of them still may be
-  pub may_still : (n : ℕ) → AtEach (λ m. n ≢ m) images → MayWrite old n → MayWrite mid n
+  pub may_still : (n : ℕ) → AtEach (λ m. n ≢ m) images → MayWriteThrough old n → MayWriteThrough mid n
   may_still n apart may = record {
     row = may.row;
     there = rest.rows n apart ∙ may.there;
@@ -526,8 +526,8 @@ module _ (old mid : Nodes) (images : List ℕ) (outcome : Outcome) (rest : Leave
           is over file (sym (mid_child n Backing) ∙ backing) (sym (mid_child n FileRole) ∙ edge) (subst (λ (g : Graph). LeadsTo g.edges over file) rest.graph leads)
       can CopyOnRead is = is
 
-  module _ (place : ℕ) (apart_of : ℕ) (apart : AtEach (λ m. apart_of ≢ m) images) (may : AtEach (MayWrite old) images) (into : AtEach (λ m. IsPutInto old m place) images) where
-    owned : (f m : ℕ) → HasImageIn old apart_of f → apart_of ≢ m → MayWrite old m → IsPutInto old m place → file_of old m ≡ Some f → ⊥
+  module _ (place : ℕ) (apart_of : ℕ) (apart : AtEach (λ m. apart_of ≢ m) images) (may : AtEach (MayWriteThrough old) images) (into : AtEach (λ m. IsPutInto old m place) images) where
+    owned : (f m : ℕ) → HasImageIn old apart_of f → apart_of ≢ m → MayWriteThrough old m → IsPutInto old m place → file_of old m ≡ Some f → ⊥
     owned f m has other may into edge =
         let same : may.row ≡ into.row = cc (sym may.there ∙ into.there) in
         other (may.owns f (ap (own_file old m) (ap (λ (r : Row). r.driver) same ∙ into.driver) ∙ edge) apart_of has)
@@ -535,8 +535,8 @@ module _ (old mid : Nodes) (images : List ℕ) (outcome : Outcome) (rest : Leave
     -- the file of an image that isn't one of them is no file of theirs
     pub files_apart : (f : ℕ) → HasImageIn old apart_of f → AtEach (λ m. file_of old m ≢ Some f) images
     files_apart f has =
-        each_so (λ m. (apart_of ≢ m) × (MayWrite old m × IsPutInto old m place)) (λ m. file_of old m ≢ Some f) (λ m all. owned f m has all.0 all.1.0 all.1.1) images
-        (each_both (λ m. apart_of ≢ m) (λ m. MayWrite old m × IsPutInto old m place) images apart (each_both (MayWrite old) (λ m. IsPutInto old m place) images may into))
+        each_so (λ m. (apart_of ≢ m) × (MayWriteThrough old m × IsPutInto old m place)) (λ m. file_of old m ≢ Some f) (λ m all. owned f m has all.0 all.1.0 all.1.1) images
+        (each_both (λ m. apart_of ≢ m) (λ m. MayWriteThrough old m × IsPutInto old m place) images apart (each_both (MayWriteThrough old) (λ m. IsPutInto old m place) images may into))
 
     pub room_still : (span : Extent) → outcome ≡ Good → HasRoomIn old span apart_of → HasRoomIn mid span apart_of
     room_still span good room =

@@ -14,12 +14,12 @@ use Rattle.blk_graph.specs.declared.edge.Role.{Role}
 use Rattle.blk_graph.specs.declared.edge.Role.TheVariants.{File as FileRole, Backing}
 use Rattle.blk_graph.proofs.ChildLemmas.{HasEdge, child-edge, child-without}
 use Rattle.q2_format.specs.Contents.{file_disk, raw_disk, image_disk}
-use Rattle.blk_nodes.specs.Contents.{below, disk_by, disk_in, disk_of, bytes_of, file_node_disk}
+use Rattle.blk_nodes.specs.Contents.{disk_under, disk_by, disk_down, disk_of, bytes_of, file_node_disk}
 use Rattle.blk_nodes.specs.Copying.{AtEach, GoesWhole, LeavesRest}
 use Rattle.blk_nodes.specs.Joined.{IsOverlay, IsJoined}
-use Rattle.blk_nodes.specs.Nodes.{Nodes, row_at, size_of, file_of, backing_of}
+use Rattle.blk_nodes.specs.Nodes.{Nodes, row_at, node_size, file_of, backing_of}
 use Rattle.blk_nodes.specs.Reading.{LeadsTo}
-use Rattle.blk_nodes.specs.Writing.{HasImageIn, MayWrite, taken_by}
+use Rattle.blk_nodes.specs.Writing.{HasImageIn, MayWriteThrough, taken_by}
 use Rattle.blk_nodes.specs.declared.row.Driver.{Driver}
 use Rattle.blk_nodes.specs.declared.row.Driver.TheVariants.{File, Raw, Qcow2, CopyOnRead}
 use Rattle.blk_nodes.specs.declared.row.Row.{Row}
@@ -59,7 +59,7 @@ with_taken (NoSpace dev) d start bytes whole same = absurd whole
 disk_none : (nodes : Nodes) (n : ℕ) → row_at nodes n ≡ None → disk_of nodes n ≡ []
 unfolding disk_of
 disk_none nodes n none =
-    ap (λ (found : Option Row). elim found as (λ _. List ℕ) [ None ↦ [] | Some r ↦ disk_by nodes (disk_in 63 nodes) n r.driver ]) none
+    ap (λ (found : Option Row). elim found as (λ _. List ℕ) [ None ↦ [] | Some r ↦ disk_by nodes (disk_down 63 nodes) n r.driver ]) none
 
 -- where an image's disk stays, so does each disk that doesn't stand in its file beside it
 module _ (old new : Nodes) (joined : IsJoined old) (now : IsJoined new) (node : ℕ) (outcome : Outcome) (one : LeavesRest (node ∷ []) old new outcome)
@@ -80,36 +80,36 @@ module _ (old new : Nodes) (joined : IsJoined old) (now : IsJoined new) (node : 
   child_apart n child role other apart is leads =
       apart (leads_on others n child file (child_leads others n child role (child-without (Node node) (Node n) role old.graph.edges (λ same. let e : node ≡ n = cc same in other (sym e)) ∙ is)) leads)
 
-  bytes_below : (found : Option ℕ) → ((child : ℕ) → found ≡ Some child → Apart child) → below (bytes_of new) found ≡ below (bytes_of old) found
+  bytes_below : (found : Option ℕ) → ((child : ℕ) → found ≡ Some child → Apart child) → disk_under (bytes_of new) found ≡ disk_under (bytes_of old) found
   bytes_below None each = refl
   bytes_below (Some child) each = bytes_same child (λ same. each child refl (inl same))
 
-  file_below : (found : Option ℕ) → ((child : ℕ) → found ≡ Some child → Apart child) → below (file_node_disk new) found ≡ below (file_node_disk old) found
+  file_below : (found : Option ℕ) → ((child : ℕ) → found ≡ Some child → Apart child) → disk_under (file_node_disk new) found ≡ disk_under (file_node_disk old) found
   file_below None each = refl
   file_below (Some child) each =
-      ap (λ (n : ℕ). file_disk n (bytes_of new child)) (one.sizes child) ∙ ap (file_disk (size_of old child)) (bytes_same child (λ same. each child refl (inl same)))
+      ap (λ (n : ℕ). file_disk n (bytes_of new child)) (one.sizes child) ∙ ap (file_disk (node_size old child)) (bytes_same child (λ same. each child refl (inl same)))
 
   abbrev Rest : ℕ → Type 0
   Rest n = (child : ℕ) → HasEdge old.graph.edges (Node n) child → Apart child → disk_of new child ≡ disk_of old child
 
   over_same : (n : ℕ) (role : Role) → n ≢ node → Apart n → Rest n → (found : Option ℕ) → child_of (Node n) role old.graph.edges ≡ found
-      → below (disk_of new) found ≡ below (disk_of old) found
+      → disk_under (disk_of new) found ≡ disk_under (disk_of old) found
   over_same n role other apart rest None is = refl
   over_same n role other apart rest (Some child) is = rest child (child-edge (Node n) role old.graph.edges child is) (child_apart n child role other apart is)
 
   by_driver : (n : ℕ) → n ≢ node → Apart n → Rest n → (d : Driver) → disk_by new (disk_of new) n d ≡ disk_by old (disk_of old) n d
   by_driver n other apart rest File =
-      ap (λ (s : ℕ). file_disk s (bytes_of new n)) (one.sizes n) ∙ ap (file_disk (size_of old n)) (bytes_same n (λ same. apart (inl same)))
+      ap (λ (s : ℕ). file_disk s (bytes_of new n)) (one.sizes n) ∙ ap (file_disk (node_size old n)) (bytes_same n (λ same. apart (inl same)))
   by_driver n other apart rest (Raw part) =
-      ap (λ (f : Option ℕ). raw_disk part.offset part.size (below (file_node_disk new) f)) (child_same n FileRole)
+      ap (λ (f : Option ℕ). raw_disk part.offset part.size (disk_under (file_node_disk new) f)) (child_same n FileRole)
       ∙ ap (raw_disk part.offset part.size) (file_below (file_of old n) (λ child is. child_apart n child FileRole other apart is))
   by_driver n other apart rest (Qcow2 image) =
-      ap (λ (f : Option ℕ). image_disk (below (bytes_of new) f) (below (disk_of new) (backing_of new n))) (child_same n FileRole)
-      ∙ ap (λ (b : Option ℕ). image_disk (below (bytes_of new) (file_of old n)) (below (disk_of new) b)) (child_same n Backing)
-      ∙ ap (λ (b : List ℕ). image_disk b (below (disk_of new) (backing_of old n))) (bytes_below (file_of old n) (λ child is. child_apart n child FileRole other apart is))
-      ∙ ap (image_disk (below (bytes_of old) (file_of old n))) (over_same n Backing other apart rest (backing_of old n) refl)
+      ap (λ (f : Option ℕ). image_disk (disk_under (bytes_of new) f) (disk_under (disk_of new) (backing_of new n))) (child_same n FileRole)
+      ∙ ap (λ (b : Option ℕ). image_disk (disk_under (bytes_of new) (file_of old n)) (disk_under (disk_of new) b)) (child_same n Backing)
+      ∙ ap (λ (b : List ℕ). image_disk b (disk_under (disk_of new) (backing_of old n))) (bytes_below (file_of old n) (λ child is. child_apart n child FileRole other apart is))
+      ∙ ap (image_disk (disk_under (bytes_of old) (file_of old n))) (over_same n Backing other apart rest (backing_of old n) refl)
   by_driver n other apart rest CopyOnRead =
-      ap (below (disk_of new)) (child_same n FileRole) ∙ over_same n FileRole other apart rest (file_of old n) refl
+      ap (disk_under (disk_of new)) (child_same n FileRole) ∙ over_same n FileRole other apart rest (file_of old n) refl
 
   by_row : (n : ℕ) → n ≢ node → Apart n → Rest n → (found : Option Row) → row_at old n ≡ found → disk_of new n ≡ disk_of old n
   by_row n other apart rest None there = disk_none new n (one.rows n (other, tt) ∙ there) ∙ sym (disk_none old n there)
@@ -129,7 +129,7 @@ module _ (old new : Nodes) (joined : IsJoined old) (now : IsJoined new) (node : 
 
 -- where the disk below a step stays, so does that of the node
 module _ (old new : Nodes) (joined : IsJoined old) (now : IsJoined new) (images : List ℕ) (outcome : Outcome) (left : LeavesRest images old new outcome)
-    (node place next : ℕ) (over : IsOver old node place next) (apart : AtEach (λ n. node ≢ n) images) (may : AtEach (MayWrite old) images)
+    (node place next : ℕ) (over : IsOver old node place next) (apart : AtEach (λ n. node ≢ n) images) (may : AtEach (MayWriteThrough old) images)
     (into : AtEach (λ n. IsPutInto old n place) images) (same : disk_of new next ≡ disk_of old next) where
   old_is : (d : Driver) → over.row.driver ≡ d → disk_of old node ≡ disk_by old (disk_of old) node d
   old_is d is = unfolds old joined node over.row over.there ∙ ap (disk_by old (disk_of old) node) is
@@ -143,17 +143,17 @@ module _ (old new : Nodes) (joined : IsJoined old) (now : IsJoined new) (images 
   pub chain_stays : disk_of new node ≡ disk_of old node
   chain_stays = elim over.how [
     | inl filter ↦
-        new_is CopyOnRead filter.0 ∙ ap (below (disk_of new)) (child_now FileRole ∙ filter.1) ∙ same ∙ ap (below (disk_of old)) (sym filter.1)
+        new_is CopyOnRead filter.0 ∙ ap (disk_under (disk_of new)) (child_now FileRole ∙ filter.1) ∙ same ∙ ap (disk_under (disk_of old)) (sym filter.1)
         ∙ sym (old_is CopyOnRead filter.0)
     | inr image ↦
         let is : IsOverlay old node image.0 = rw image.1 at (joined.below node over.row over.there) in
         let has : HasImageIn old node is.file = record { row = over.row; image = image.0; there = over.there; driver = image.1; edge = is.edge } in
         new_is (Qcow2 image.0) image.1
-        ∙ ap (λ (f : Option ℕ). image_disk (below (bytes_of new) f) (below (disk_of new) (backing_of new node))) (child_now FileRole ∙ is.edge)
-        ∙ ap (λ (b : Option ℕ). image_disk (bytes_of new is.file) (below (disk_of new) b)) (child_now Backing ∙ image.3)
+        ∙ ap (λ (f : Option ℕ). image_disk (disk_under (bytes_of new) f) (disk_under (disk_of new) (backing_of new node))) (child_now FileRole ∙ is.edge)
+        ∙ ap (λ (b : Option ℕ). image_disk (bytes_of new is.file) (disk_under (disk_of new) b)) (child_now Backing ∙ image.3)
         ∙ ap (λ (b : List ℕ). image_disk b (disk_of new next)) (left.bytes is.file (files_apart old new images outcome left place node apart may into is.file has))
         ∙ ap (image_disk (bytes_of old is.file)) same
-        ∙ ap (λ (b : Option ℕ). image_disk (bytes_of old is.file) (below (disk_of old) b)) (sym image.3)
-        ∙ ap (λ (f : Option ℕ). image_disk (below (bytes_of old) f) (below (disk_of old) (backing_of old node))) (sym is.edge)
+        ∙ ap (λ (b : Option ℕ). image_disk (bytes_of old is.file) (disk_under (disk_of old) b)) (sym image.3)
+        ∙ ap (λ (f : Option ℕ). image_disk (disk_under (bytes_of old) f) (disk_under (disk_of old) (backing_of old node))) (sym is.edge)
         ∙ sym (old_is (Qcow2 image.0) image.1)
   ]

@@ -20,7 +20,7 @@ use Rattle.blk_graph.proofs.RefreshLemmas.{child_of-refreshed}
 use Rattle.q2_image.specs.Image.{Known}
 use Rattle.blk_nodes.specs.Covering.{moved_child, IsCover}
 use Rattle.blk_nodes.specs.Joined.{IsFile, HasSize, HasBelow, IsJoined}
-use Rattle.blk_nodes.specs.Nodes.{Nodes, row_at, file_of, backing_of, kind_of}
+use Rattle.blk_nodes.specs.Nodes.{Nodes, row_at, file_of, backing_of, driver_kind}
 use Rattle.blk_nodes.specs.declared.row.Driver.{Driver}
 use Rattle.blk_nodes.specs.declared.row.Driver.TheVariants.{File, Raw, Qcow2, CopyOnRead}
 use Rattle.blk_nodes.specs.declared.row.Row.{Row}
@@ -195,7 +195,7 @@ overlay_there nodes node overlay joined cover = joined.only overlay (rw cover.th
 pub overlay_role : (nodes : Nodes) (node overlay : ℕ) → IsJoined nodes → IsCover nodes node overlay → has_role (kind_at nodes.graph.kinds overlay).kind BackingRole ≡ true
 overlay_role nodes node overlay joined cover =
     ap (λ (k : NodeKind). has_role k.kind BackingRole) (joined.kinds overlay cover.row cover.there)
-    ∙ ap (λ (d : Driver). has_role (kind_of d) BackingRole) cover.driver
+    ∙ ap (λ (d : Driver). has_role (driver_kind d) BackingRole) cover.driver
 
 -- all belongs together afterwards, whatever the graph answered
 pub when_taken : (nodes : Nodes) (graph : Graph) (node overlay : ℕ) (result : Result (Unit {0}) GraphStop) → IsJoined nodes → IsCover nodes node overlay

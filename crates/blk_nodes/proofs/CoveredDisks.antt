@@ -22,10 +22,10 @@ use Rattle.q2_format.proofs.ByPlace.{length-bytes_at}
 use Rattle.q2_image.specs.Image.{Known, IsImageOf, clusters_in, entry_in}
 use Rattle.q2_image.proofs.Guests.{guest_unallocated, length-image_disk}
 use Rattle.q2_image.proofs.Mapped.{entry_of_file}
-use Rattle.blk_nodes.specs.Contents.{bytes_of, file_node_disk, below, disk_by, disk_in, disk_of}
+use Rattle.blk_nodes.specs.Contents.{bytes_of, file_node_disk, disk_under, disk_by, disk_down, disk_of}
 use Rattle.blk_nodes.specs.Covering.{moved_child, IsClear, IsCover, ReadCovered}
 use Rattle.blk_nodes.specs.Joined.{IsOverlay, HasBelow, IsJoined}
-use Rattle.blk_nodes.specs.Nodes.{Nodes, AreTold, row_at, size_of, file_of, backing_of}
+use Rattle.blk_nodes.specs.Nodes.{Nodes, AreTold, row_at, node_size, file_of, backing_of}
 use Rattle.blk_nodes.specs.declared.row.Driver.{Driver}
 use Rattle.blk_nodes.specs.declared.row.Driver.TheVariants.{File, Raw, Qcow2, CopyOnRead}
 use Rattle.blk_nodes.specs.declared.row.Row.{Row}
@@ -38,41 +38,41 @@ use Rattle.blk_nodes.proofs.Unfolding.{StartsAt, unfolds, no_path}
 -- ---- one node after another
 
 step_in : (nodes : Nodes) (turns node : ℕ) (row : Row) → row_at nodes node ≡ Some row
-    → disk_in (suc turns) nodes node ≡ disk_by nodes (disk_in turns nodes) node row.driver
+    → disk_down (suc turns) nodes node ≡ disk_by nodes (disk_down turns nodes) node row.driver
 step_in nodes turns node row there =
-    ap (λ (found : Option Row). elim found as (λ _. List ℕ) [ None ↦ [] | Some r ↦ disk_by nodes (disk_in turns nodes) node r.driver ]) there
+    ap (λ (found : Option Row). elim found as (λ _. List ℕ) [ None ↦ [] | Some r ↦ disk_by nodes (disk_down turns nodes) node r.driver ]) there
 
-none_in : (nodes : Nodes) (turns node : ℕ) → row_at nodes node ≡ None → disk_in (suc turns) nodes node ≡ []
+none_in : (nodes : Nodes) (turns node : ℕ) → row_at nodes node ≡ None → disk_down (suc turns) nodes node ≡ []
 none_in nodes turns node none =
-    ap (λ (found : Option Row). elim found as (λ _. List ℕ) [ None ↦ [] | Some r ↦ disk_by nodes (disk_in turns nodes) node r.driver ]) none
+    ap (λ (found : Option Row). elim found as (λ _. List ℕ) [ None ↦ [] | Some r ↦ disk_by nodes (disk_down turns nodes) node r.driver ]) none
 
 -- ---- the length of a disk
 
 module _ (nodes : Nodes) (joined : IsJoined nodes) (told : AreTold nodes.devices) where
   length_by : (turns : ℕ)
-      → ((child : ℕ) (row : Row) → row_at nodes child ≡ Some row → (StartsAt nodes.graph.edges turns child → ⊥) → length (disk_in turns nodes child) ≡ row.size)
+      → ((child : ℕ) (row : Row) → row_at nodes child ≡ Some row → (StartsAt nodes.graph.edges turns child → ⊥) → length (disk_down turns nodes child) ≡ row.size)
       → (n : ℕ) (row : Row) (driver : Driver) → row_at nodes n ≡ Some row → row.driver ≡ driver → HasBelow nodes n row.size driver
       → (StartsAt nodes.graph.edges (suc turns) n → ⊥)
-      → length (disk_by nodes (disk_in turns nodes) n driver) ≡ row.size
+      → length (disk_by nodes (disk_down turns nodes) n driver) ≡ row.size
   length_by turns rest n row File there driver is none =
-      length-bytes_at (bytes_of nodes n) 0 (size_of nodes n) ∙ rw there refl
+      length-bytes_at (bytes_of nodes n) 0 (node_size nodes n) ∙ rw there refl
   length_by turns rest n row (Raw part) there driver is none =
       let sized = rw driver at (joined.sized n row there) in
-      length-bytes_at (below (file_node_disk nodes) (file_of nodes n)) part.offset part.size ∙ sized.0
+      length-bytes_at (disk_under (file_node_disk nodes) (file_of nodes n)) part.offset part.size ∙ sized.0
   length_by turns rest n row (Qcow2 image) there driver is none =
       let sized = rw driver at (joined.sized n row there) in
       let held = told_held is.file nodes.devices told (held_by nodes is.file joined is.is_file) in
       let known : IsImageOf (bytes_of nodes is.file) image = is.known held.0 (bytes_of nodes is.file) held.1 held.2 in
-      length-image_disk (below (bytes_of nodes) (file_of nodes n)) (below (disk_in turns nodes) (backing_of nodes n))
-      ∙ ap (λ (file : Option ℕ). (header_of (below (bytes_of nodes) file)).size) is.edge ∙ ap (λ (h : Header). h.size) known.header ∙ sized
+      length-image_disk (disk_under (bytes_of nodes) (file_of nodes n)) (disk_under (disk_down turns nodes) (backing_of nodes n))
+      ∙ ap (λ (file : Option ℕ). (header_of (disk_under (bytes_of nodes) file)).size) is.edge ∙ ap (λ (h : Header). h.size) known.header ∙ sized
   length_by turns rest n row CopyOnRead there driver is none =
       let same = is.same in
       let edge = child-edge (Node n) FileRole nodes.graph.edges is.child is.edge in
-      ap (λ (c : Option ℕ). length (below (disk_in turns nodes) c)) is.edge
+      ap (λ (c : Option ℕ). length (disk_under (disk_down turns nodes) c)) is.edge
       ∙ rest is.child same.row same.there (λ starts. none (edge.edge, edge.there, edge.from, rw edge.to starts)) ∙ same.is
 
   length_in : (turns n : ℕ) (row : Row) → row_at nodes n ≡ Some row → (StartsAt nodes.graph.edges turns n → ⊥)
-      → length (disk_in turns nodes n) ≡ row.size
+      → length (disk_down turns nodes n) ≡ row.size
   length_in zero n row there none = absurd (none tt)
   length_in (suc turns) n row there none =
       ap length (step_in nodes turns n row there)
@@ -108,7 +108,7 @@ module _ (nodes : Nodes) (edges : List Edge) (node overlay : ℕ) (joined : IsJo
   in_clusters i inside = let bits = overlay_is.opened.cluster_bits in rw bits (omega (arith, inside))
 
   -- it reads as what is below it
-  shows_below : (b : List ℕ) → length b ≡ cover.image.header.size → image_disk (below (bytes_of nodes) (file_of nodes overlay)) b ≡ b
+  shows_below : (b : List ℕ) → length b ≡ cover.image.header.size → image_disk (disk_under (bytes_of nodes) (file_of nodes overlay)) b ≡ b
   shows_below b len =
       let is = overlay_is in
       let fresh = clear.fresh in
@@ -119,7 +119,7 @@ module _ (nodes : Nodes) (edges : List Edge) (node overlay : ℕ) (joined : IsJo
       let bits : (header_of (bytes_of nodes is.file)).cluster_bits ≡ 16 = ap (λ (h : Header). h.cluster_bits) known.header ∙ is.opened.cluster_bits in
       let size : (header_of (bytes_of nodes is.file)).size ≡ cover.image.header.size = ap (λ (h : Header). h.size) known.header in
       let whole = length-image_disk (bytes_of nodes is.file) b in
-      ap (λ (file : Option ℕ). image_disk (below (bytes_of nodes) file) b) is.edge
+      ap (λ (file : Option ℕ). image_disk (disk_under (bytes_of nodes) file) b) is.edge
       ∙ ext_get_or 0 (image_disk (bytes_of nodes is.file) b) b (whole ∙ size ∙ sym len)
       (λ i within.
       let inside : i < cover.image.header.size = omega (arith, within, whole, size) in
@@ -136,7 +136,7 @@ module _ (nodes : Nodes) (edges : List Edge) (node overlay : ℕ) (joined : IsJo
           (empty (i / 65536) (subst (λ (x : Known). i / 65536 < clusters_in x) (sym same) (in_clusters i inside)))
 
   abbrev Rest : ℕ → Type 0
-  Rest turns = (c : ℕ) → (StartsAt edges turns c → ⊥) → disk_in turns then' c ≡ disk_of nodes (source c)
+  Rest turns = (c : ℕ) → (StartsAt edges turns c → ⊥) → disk_down turns then' c ≡ disk_of nodes (source c)
 
   -- where an edge leads, the same is read as before
   same_source : (n c : ℕ) → HasEdge nodes.graph.edges (Node n) c → source (moved_child node overlay c) ≡ c
@@ -150,62 +150,62 @@ module _ (nodes : Nodes) (edges : List Edge) (node overlay : ℕ) (joined : IsJo
   ]
 
   below_covered : (turns n : ℕ) (role : Role) → n ≢ overlay → Rest turns → (StartsAt edges (suc turns) n → ⊥)
-      → below (disk_in turns then') (child_of (Node n) role edges) ≡ below (disk_of nodes) (child_of (Node n) role nodes.graph.edges)
+      → disk_under (disk_down turns then') (child_of (Node n) role edges) ≡ disk_under (disk_of nodes) (child_of (Node n) role nodes.graph.edges)
   below_covered turns n role apart rest none = by_child (child_of (Node n) role nodes.graph.edges) refl
     where
       by_child : (found : Option ℕ) → child_of (Node n) role nodes.graph.edges ≡ found
-          → below (disk_in turns then') (child_of (Node n) role edges) ≡ below (disk_of nodes) found
-      by_child None is = ap (below (disk_in turns then')) (moved.others n role apart ∙ ap (option_map (moved_child node overlay)) is)
+          → disk_under (disk_down turns then') (child_of (Node n) role edges) ≡ disk_under (disk_of nodes) found
+      by_child None is = ap (disk_under (disk_down turns then')) (moved.others n role apart ∙ ap (option_map (moved_child node overlay)) is)
       by_child (Some c) is =
           let new : child_of (Node n) role edges ≡ Some (moved_child node overlay c)
           = moved.others n role apart ∙ ap (option_map (moved_child node overlay)) is in
           let to = child-edge (Node n) role edges (moved_child node overlay c) new in
-          ap (below (disk_in turns then')) new
+          ap (disk_under (disk_down turns then')) new
           ∙ rest (moved_child node overlay c) (λ starts. none (to.edge, to.there, to.from, rw to.to starts))
           ∙ ap (disk_of nodes) (same_source n c (child-edge (Node n) role nodes.graph.edges c is))
 
   other_covered : (turns n : ℕ) (row : Row) (driver : Driver) → row_at nodes n ≡ Some row → row.driver ≡ driver → HasBelow nodes n row.size driver
       → n ≢ overlay → Rest turns → (StartsAt edges (suc turns) n → ⊥)
-      → disk_by then' (disk_in turns then') n driver ≡ disk_by nodes (disk_of nodes) n driver
+      → disk_by then' (disk_down turns then') n driver ≡ disk_by nodes (disk_of nodes) n driver
   other_covered turns n row File there driver is apart rest none = refl
   other_covered turns n row (Raw part) there driver is apart rest none =
       let same = format_file nodes edges node overlay joined cover moved n row is.file there (λ copies. let bad = sym driver ∙ copies in absurd (cc bad)) is.edge in
-      ap (λ (file : Option ℕ). raw_disk part.offset part.size (below (file_node_disk nodes) file)) (same ∙ sym is.edge)
+      ap (λ (file : Option ℕ). raw_disk part.offset part.size (disk_under (file_node_disk nodes) file)) (same ∙ sym is.edge)
   other_covered turns n row (Qcow2 image) there driver is apart rest none =
       let same = format_file nodes edges node overlay joined cover moved n row is.file there (λ copies. let bad = sym driver ∙ copies in absurd (cc bad)) is.edge in
-      ap (λ (file : Option ℕ). image_disk (below (bytes_of nodes) file) (below (disk_in turns then') (backing_of then' n))) (same ∙ sym is.edge)
-      ∙ ap (image_disk (below (bytes_of nodes) (file_of nodes n))) (below_covered turns n BackingRole apart rest none)
+      ap (λ (file : Option ℕ). image_disk (disk_under (bytes_of nodes) file) (disk_under (disk_down turns then') (backing_of then' n))) (same ∙ sym is.edge)
+      ∙ ap (image_disk (disk_under (bytes_of nodes) (file_of nodes n))) (below_covered turns n BackingRole apart rest none)
   other_covered turns n row CopyOnRead there driver is apart rest none = below_covered turns n FileRole apart rest none
 
   own_covered : (turns : ℕ) → Rest turns → (StartsAt edges (suc turns) overlay → ⊥)
-      → disk_by then' (disk_in turns then') overlay cover.row.driver ≡ disk_of nodes node
+      → disk_by then' (disk_down turns then') overlay cover.row.driver ≡ disk_of nodes node
   own_covered turns rest none =
       let same = cover.same in
       let to = child-edge (Node overlay) BackingRole edges node moved.backing in
-      let below_is : below (disk_in turns then') (backing_of then' overlay) ≡ disk_of nodes node
-      = ap (below (disk_in turns then')) moved.backing
+      let below_is : disk_under (disk_down turns then') (backing_of then' overlay) ≡ disk_of nodes node
+      = ap (disk_under (disk_down turns then')) moved.backing
       ∙ rest node (λ starts. none (to.edge, to.there, to.from, rw to.to starts))
       ∙ ap (disk_of nodes) (source-other node (λ is. cover.other (sym is))) in
-      ap (disk_by then' (disk_in turns then') overlay) cover.driver
-      ∙ ap (λ (file : Option ℕ). image_disk (below (bytes_of nodes) file) (below (disk_in turns then') (backing_of then' overlay))) moved.file
-      ∙ ap (image_disk (below (bytes_of nodes) (file_of nodes overlay))) below_is
+      ap (disk_by then' (disk_down turns then') overlay) cover.driver
+      ∙ ap (λ (file : Option ℕ). image_disk (disk_under (bytes_of nodes) file) (disk_under (disk_down turns then') (backing_of then' overlay))) moved.file
+      ∙ ap (image_disk (disk_under (bytes_of nodes) (file_of nodes overlay))) below_is
       ∙ shows_below (disk_of nodes node) (length_disk nodes joined clear.told node same.row same.there ∙ same.is)
 
   no_disk : (n : ℕ) → row_at nodes n ≡ None → disk_of nodes n ≡ []
   unfolding disk_of
   no_disk n none = none_in nodes 63 n none
 
-  covered_in : (turns n : ℕ) → (StartsAt edges turns n → ⊥) → disk_in turns then' n ≡ disk_of nodes (source n)
+  covered_in : (turns n : ℕ) → (StartsAt edges turns n → ⊥) → disk_down turns then' n ≡ disk_of nodes (source n)
   covered_in zero n none = absurd (none tt)
   covered_in (suc turns) n none = elim (cases_eq n overlay) [
     | inl same ↦
-        ap (disk_in (suc turns) then') same ∙ step_in then' turns overlay cover.row cover.there
+        ap (disk_down (suc turns) then') same ∙ step_in then' turns overlay cover.row cover.there
         ∙ own_covered turns (covered_in turns) (λ starts. none (subst (StartsAt edges (suc turns)) (sym same) starts))
         ∙ ap (disk_of nodes) (sym source-own ∙ ap source (sym same))
     | inr apart ↦ by_row (row_at nodes n) refl (covered_in turns) apart ∙ ap (disk_of nodes) (sym (source-other n apart))
   ]
     where
-      by_row : (found : Option Row) → row_at nodes n ≡ found → Rest turns → n ≢ overlay → disk_in (suc turns) then' n ≡ disk_of nodes n
+      by_row : (found : Option Row) → row_at nodes n ≡ found → Rest turns → n ≢ overlay → disk_down (suc turns) then' n ≡ disk_of nodes n
       by_row None is rest apart = none_in then' turns n is ∙ sym (no_disk n is)
       by_row (Some row) is rest apart =
           step_in then' turns n row is ∙ other_covered turns n row row.driver is refl (joined.below n row is) apart rest none

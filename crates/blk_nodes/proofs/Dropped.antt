@@ -20,9 +20,9 @@ use Rattle.blk_graph.proofs.ChildLemmas.{child-edge, child-without}
 use Rattle.blk_graph.proofs.Members.{Contains-here, Contains-there, Contains-cases, Contains-filter, Contains-map, map-Contains}
 use Rattle.blk_graph.proofs.RefreshLemmas.{child_of-refreshed}
 use Rattle.blk_nodes.specs.Contents.{disk_of}
-use Rattle.blk_nodes.specs.Dropping.{other_devices, without}
+use Rattle.blk_nodes.specs.Dropping.{other_devices, nodes_without}
 use Rattle.blk_nodes.specs.Joined.{IsFile, HasSize, HasBelow, IsJoined, DifferInNode}
-use Rattle.blk_nodes.specs.Nodes.{Nodes, DeviceState, is_of, row_at, device_in, size_by, size_of}
+use Rattle.blk_nodes.specs.Nodes.{Nodes, DeviceSeen, is_device_of, row_at, device_in, size_by, node_size}
 use Rattle.blk_nodes.specs.declared.row.Driver.{Driver}
 use Rattle.blk_nodes.specs.declared.row.Driver.TheVariants.{File, Raw, Qcow2, CopyOnRead}
 use Rattle.blk_nodes.specs.declared.row.Row.{Row}
@@ -50,18 +50,18 @@ not-true true is = absurd (cc is)
 not-true false is = refl
 
 -- the other devices are found as before
-pub other_device : (node n : ℕ) (devices : List DeviceState) → n ≢ node → device_in (other_devices node devices) n ≡ device_in devices n
+pub other_device : (node n : ℕ) (devices : List DeviceSeen) → n ≢ node → device_in (other_devices node devices) n ≡ device_in devices n
 other_device node n [] apart = refl
 other_device node n (d ∷ devices) apart = by_test (d.node == node) refl (other_device node n devices apart)
   where
     by_test : (b : Bool) → (d.node == node) ≡ b → device_in (other_devices node devices) n ≡ device_in devices n
-        → device_in (cond (not b) (d ∷ other_devices node devices) (other_devices node devices)) n ≡ cond (is_of n d) (Some d) (device_in devices n)
+        → device_in (cond (not b) (d ∷ other_devices node devices) (other_devices node devices)) n ≡ cond (is_device_of n d) (Some d) (device_in devices n)
     by_test true is rest =
-        let other : is_of n d ≡ false = ne_eqb d.node n (λ same. apart (sym same ∙ eqb-true d.node node is)) in
+        let other : is_device_of n d ≡ false = ne_eqb d.node n (λ same. apart (sym same ∙ eqb-true d.node node is)) in
         rest ∙ sym (ap (λ (b : Bool). cond b (Some d) (device_in devices n)) other)
-    by_test false is rest = ap (λ (found : Option DeviceState). cond (is_of n d) (Some d) found) rest
+    by_test false is rest = ap (λ (found : Option DeviceSeen). cond (is_device_of n d) (Some d) found) rest
 
-pub no_device_left : (node : ℕ) (devices : List DeviceState) → device_in (other_devices node devices) node ≡ None
+pub no_device_left : (node : ℕ) (devices : List DeviceSeen) → device_in (other_devices node devices) node ≡ None
 no_device_left node [] = refl
 no_device_left node (d ∷ devices) = by_test (d.node == node) refl (no_device_left node devices)
   where
@@ -71,7 +71,7 @@ no_device_left node (d ∷ devices) = by_test (d.node == node) refl (no_device_l
     by_test false is rest = rw is rest
 
 -- a node that isn't found has no device to lose
-pub none_gone : (node : ℕ) (devices : List DeviceState) → device_in devices node ≡ None → other_devices node devices ≡ devices
+pub none_gone : (node : ℕ) (devices : List DeviceSeen) → device_in devices node ≡ None → other_devices node devices ≡ devices
 none_gone node [] is = refl
 none_gone node (d ∷ devices) is = by_test (d.node == node) refl (none_gone node devices) is
   where
@@ -79,12 +79,12 @@ none_gone node (d ∷ devices) is = by_test (d.node == node) refl (none_gone nod
         → cond b (Some d) (device_in devices node) ≡ None
         → cond (not b) (d ∷ other_devices node devices) (other_devices node devices) ≡ d ∷ devices
     by_test true at rest is = absurd (cc is)
-    by_test false at rest is = ap (λ (ds : List DeviceState). d ∷ ds) (rest is)
+    by_test false at rest is = ap (λ (ds : List DeviceSeen). d ∷ ds) (rest is)
 
 module _ (nodes : Nodes) (node : ℕ) (joined : IsJoined nodes) (small : node < 64)
     (enters : (edge : Edge) → Contains nodes.graph.edges edge → edge.child ≢ node) where
   abbrev left : Nodes
-  left = without node nodes
+  left = nodes_without node nodes
 
   row_gone : row_at left node ≡ None
   row_gone = let count = joined.rows in get_or-set_same nodes.rows node None None (omega arith)
@@ -133,7 +133,7 @@ module _ (nodes : Nodes) (node : ℕ) (joined : IsJoined nodes) (small : node < 
   below_left n size File apart is = rw (other_device node n nodes.devices apart) is
   below_left n size (Raw part) apart is =
       let other = child_apart n FileRole is.file is.edge in
-      let same : size_of left is.file ≡ size_of nodes is.file = ap size_by (row_left is.file other) in
+      let same : node_size left is.file ≡ node_size nodes is.file = ap size_by (row_left is.file other) in
       let within = is.within in
       record { file = is.file; edge = child_left n FileRole apart ∙ is.edge; is_file = file_left is.file other is.is_file; within = omega (arith, same, within) }
   below_left n size (Qcow2 image) apart is =
@@ -171,7 +171,7 @@ module _ (nodes : Nodes) (node : ℕ) (joined : IsJoined nodes) (small : node < 
           absurd (cc (rw none at some))
       | inr apart ↦ file_left n apart (joined.devices n (rw (other_device node n nodes.devices apart) at some))
     ];
-    once = AllPairs-filter DifferInNode (λ device. not (is_of node device)) nodes.devices joined.once;
+    once = AllPairs-filter DifferInNode (λ device. not (is_device_of node device)) nodes.devices joined.once;
   }
 
   -- all that is left was there before
@@ -191,10 +191,10 @@ module _ (nodes : Nodes) (node : ℕ) (joined : IsJoined nodes) (small : node < 
   disks_left sound other has = sym (disk_stays left nodes extends_left (joined_left sound) other has)
 
 -- the first device of a node is the only one
-once_tail : (x : DeviceState) (xs : List DeviceState) → AllPairs DifferInNode (x ∷ xs) → AllPairs DifferInNode xs
+once_tail : (x : DeviceSeen) (xs : List DeviceSeen) → AllPairs DifferInNode (x ∷ xs) → AllPairs DifferInNode xs
 once_tail x xs once = λ i j d below within. once (suc i) (suc j) d (omega arith) (omega arith)
 
-removed_first : (node : ℕ) (xs : List DeviceState) (at : ℕ) (d : DeviceState) → IsFirst (is_of node) xs at d → AllPairs DifferInNode xs → remove xs at ≡ other_devices node xs
+removed_first : (node : ℕ) (xs : List DeviceSeen) (at : ℕ) (d : DeviceSeen) → IsFirst (is_device_of node) xs at d → AllPairs DifferInNode xs → remove xs at ≡ other_devices node xs
 removed_first node [] at d is once = absurd (omega (arith, is.within))
 removed_first node (x ∷ xs) zero d is once =
     let of : x.node ≡ node = eqb-true x.node node is.passes in
@@ -202,12 +202,12 @@ removed_first node (x ∷ xs) zero d is once =
     rw is.passes (sym (none_gone node xs none))
 removed_first node (x ∷ xs) (suc at) d is once =
     rw (is.before 0 (omega arith))
-    (ap (λ (ds : List DeviceState). x ∷ ds) (removed_first node xs at d (later (is_of node) x xs at d is) (once_tail x xs once)))
+    (ap (λ (ds : List DeviceSeen). x ∷ ds) (removed_first node xs at d (later (is_device_of node) x xs at d is) (once_tail x xs once)))
 
-pub removed : (node : ℕ) (xs : List DeviceState) (at : ℕ) (d : DeviceState) → position (is_of node) xs ≡ Some at → AllPairs DifferInNode xs → remove xs at ≡ other_devices node xs
-removed node xs at d place once = removed_first node xs at d (first (is_of node) xs at d place) once
+pub removed : (node : ℕ) (xs : List DeviceSeen) (at : ℕ) (d : DeviceSeen) → position (is_device_of node) xs ≡ Some at → AllPairs DifferInNode xs → remove xs at ≡ other_devices node xs
+removed node xs at d place once = removed_first node xs at d (first (is_device_of node) xs at d place) once
 
-pub unplaced : (node : ℕ) (xs : List DeviceState) → position (is_of node) xs ≡ None → device_in xs node ≡ None
+pub unplaced : (node : ℕ) (xs : List DeviceSeen) → position (is_device_of node) xs ≡ None → device_in xs node ≡ None
 unplaced node xs none = not_some (device_in xs node) (λ some. is_placed node xs none some)
 
 -- a node that was removed had no parent

@@ -12,15 +12,15 @@ use Rattle.q2_format.specs.Created.{Creation}
 use Rattle.blk_nodes.specs.Contents.{disk_of}
 use Rattle.blk_nodes.specs.Formatting.{IsFormatOf, IsFormatAt}
 use Rattle.blk_nodes.specs.Joined.{IsJoined}
-use Rattle.blk_nodes.specs.Nodes.{Nodes, DeviceState, is_of, file_of}
+use Rattle.blk_nodes.specs.Nodes.{Nodes, DeviceSeen, is_device_of, file_of}
 use Rattle.blk_nodes.specs.Reading.{LeadsTo}
 use Rattle.blk_nodes.specs.declared.stop.FormatStop.{FormatStop}
 use Rattle.blk_nodes.proofs.HeldDevices.{at_place, put_held, only_at}
 use Rattle.blk_nodes.proofs.Written.{disk_apart, joined_changed}
 
 -- one of the devices
-pub formatted_over : (file : ℕ) (devices : List DeviceState) (at : ℕ) (d y : DeviceState) (new : Creation) (result : Result (Unit {0}) FormatStop)
-    → position (is_of file) devices ≡ Some at → IsFormatOf (get_or devices at d) y new result → IsFormatAt file devices (set devices at y) new result
+pub formatted_over : (file : ℕ) (devices : List DeviceSeen) (at : ℕ) (d y : DeviceSeen) (new : Creation) (result : Result (Unit {0}) FormatStop)
+    → position (is_device_of file) devices ≡ Some at → IsFormatOf (get_or devices at d) y new result → IsFormatAt file devices (set devices at y) new result
 formatted_over file devices at d y new result place formatted = record {
   before = get_or devices at d;
   after = y;
@@ -42,7 +42,7 @@ module _ (nodes : Nodes) (node : ℕ) (lone : first_parent node nodes.graph.edge
   not_over : (other : ℕ) → file_of nodes other ≡ Some node → ⊥
   not_over other is = let e = child-edge (Node other) FileRole nodes.graph.edges node is in unentered e.edge e.there e.to
 
-  module _ (devices : List DeviceState) (new : Creation) (result : Result (Unit {0}) FormatStop) (at : IsFormatAt node nodes.devices devices new result) where
+  module _ (devices : List DeviceSeen) (new : Creation) (result : Result (Unit {0}) FormatStop) (at : IsFormatAt node nodes.devices devices new result) where
     pub others_formatted : (other : ℕ) → other ≢ node → disk_of (record nodes { devices = devices }) other ≡ disk_of nodes other
     others_formatted other apart = disk_apart nodes devices node at.only other (no_way other apart)
 

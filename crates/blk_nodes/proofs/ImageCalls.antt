@@ -26,7 +26,7 @@ use Rattle.q2_image.specs.Made.{WriteStep, MakesSteps, WroteOwn, ChangesImage, I
 use Rattle.q2_image.specs.Writing.{IsDiskWith, IsSameDisk, HasHeaderOf, HasEntriesBut, CanTake, AreClusterZeros, ClearsFirst, ZeroFits, IsOwnStop, autocleared, autoclear_end, table_for}
 use Rattle.q2_tables.specs.Linking.{link_end}
 use Rattle.blk_nodes.specs.Changing.{seen, ChangesBySteps, ChangesInPlace}
-use Rattle.blk_nodes.specs.Nodes.{DeviceState}
+use Rattle.blk_nodes.specs.Nodes.{DeviceSeen}
 use Rattle.blk_nodes.specs.Reading.{StoppedBy}
 use Rattle.blk_nodes.specs.Writing.{taken_by, write_outcome, cluster_outcome, StaysMapped, HasImageCause}
 
@@ -38,7 +38,7 @@ same_from old new at is = record {
   outside = λ backing place below side. is.outside backing place below (inr (omega arith));
 }
 
-pub cluster_disk : (device : DeviceState) (r : Result (Unit {0}) DevStop) (old new : Option (List ℕ)) (at : ℕ) (bytes : List ℕ)
+pub cluster_disk : (device : DeviceSeen) (r : Result (Unit {0}) DevStop) (old new : Option (List ℕ)) (at : ℕ) (bytes : List ℕ)
     → OnOk r ((b now : List ℕ) → old ≡ Some b → new ≡ Some now → IsDiskWith b now at bytes)
     → OnErr r ((b now : List ℕ) → old ≡ Some b → new ≡ Some now → IsSameDisk b now)
     → (b now : List ℕ) → old ≡ Some b → new ≡ Some now → IsDiskWith b now at (taken_by (cluster_outcome device r) bytes)
@@ -48,7 +48,7 @@ cluster_disk device (Err stops.NoSpace) old new at bytes ok err b now is_old is_
 
 -- why a call of a whole cluster went so
 pub cluster_cause : {D : Type 0} (g : Ghosts D) (fits : Type 0) (own : Option ℕ) (n : ℕ) (image : Known) (steps : List WriteStep) (r : Result (Unit {0}) DevStop) (left : Known)
-    (before now : D) (old new : DeviceState) → new.number ≡ old.number → old.faults ≡ g.faults before → new.faults ≡ g.faults now
+    (before now : D) (old new : DeviceSeen) → new.number ≡ old.number → old.faults ≡ g.faults before → new.faults ≡ g.faults now
     → ChangesImage g image steps r left before now → (r ≢ Err stops.NoSpace → fits) → (r ≡ Err stops.NoSpace → (fits → ⊥) × (new ≡ old) × (left ≡ image))
     → HasImageCause fits own n old new image left (cluster_outcome new r)
 cluster_cause g fits own n image steps (Ok done) left before now old new number first last is fit full =
@@ -87,7 +87,7 @@ stable_zero image cluster capacity twice = record {
 }
 
 -- of a write in place
-pub own_taken : (device : DeviceState) (stop : WriteStop) (bytes : List ℕ) → (stop.why ≡ why.NoSpace → stop.done ≡ 0) → taken_by (write_outcome device stop) bytes ≡ take stop.done bytes
+pub own_taken : (device : DeviceSeen) (stop : WriteStop) (bytes : List ℕ) → (stop.why ≡ why.NoSpace → stop.done ≡ 0) → taken_by (write_outcome device stop) bytes ≡ take stop.done bytes
 own_taken device stop bytes none = by stop.why refl
   where
     nothing : take stop.done bytes ≡ take stop.done bytes
@@ -100,7 +100,7 @@ own_taken device stop bytes none = by stop.why refl
       | inr some ↦ let test = ne_eqb stop.done 0 some in rw (is, test) refl
     ]
 
-pub own_cause : (old new : DeviceState) (image now : Known) (place n end : ℕ) (stop : WriteStop) → new.number ≡ old.number
+pub own_cause : (old new : DeviceSeen) (image now : Known) (place n end : ℕ) (stop : WriteStop) → new.number ≡ old.number
     → IsOwnStop place end old.capacity n old.faults new.faults stop → (stop.why ≡ why.NoSpace → (new ≡ old) × (now ≡ image))
     → HasImageCause (end ≤ old.capacity) (Some place) n old new image now (write_outcome new stop)
 own_cause old new image now place n end stop number is full = by stop.why refl
@@ -161,10 +161,10 @@ cluster_mapped r old new cluster others made kept other mapped none = elim (case
     at_cluster (Err stop) made kept was gone = was (sym (ap l2_entry kept) ∙ gone)
 
 -- a device of which all that is seen stays
-pub same_state : (a b : DeviceState) → b.node ≡ a.node → b.number ≡ a.number → b.content ≡ a.content → b.is_flushed ≡ a.is_flushed → b.log ≡ a.log → b.size ≡ a.size
+pub same_state : (a b : DeviceSeen) → b.node ≡ a.node → b.number ≡ a.number → b.content ≡ a.content → b.is_flushed ≡ a.is_flushed → b.log ≡ a.log → b.size ≡ a.size
     → b.capacity ≡ a.capacity → b.faults ≡ a.faults → b ≡ a
 same_state a b node number content flushed log size capacity faults =
-    let made : ℕ → DevNo → Option (List ℕ) → Option Bool → Option Log → ℕ → ℕ → ℕ → DeviceState
+    let made : ℕ → DevNo → Option (List ℕ) → Option Bool → Option Log → ℕ → ℕ → ℕ → DeviceSeen
     = λ n d c f l s k q. record { node = n; number = d; content = c; is_flushed = f; log = l; size = s; capacity = k; faults = q } in
     ap (λ (n : ℕ). made n b.number b.content b.is_flushed b.log b.size b.capacity b.faults) node
     ∙ ap (λ (d : DevNo). made a.node d b.content b.is_flushed b.log b.size b.capacity b.faults) number
@@ -176,7 +176,7 @@ same_state a b node number content flushed log size capacity faults =
     ∙ ap (λ (q : ℕ). made a.node a.number a.content a.is_flushed a.log a.size a.capacity q) faults
 
 -- A device in its place, as it is seen.
-abbrev pub state_of : {D : Type 0} → Ghosts D → ℕ → DevNo → D → DeviceState
+abbrev pub state_of : {D : Type 0} → Ghosts D → ℕ → DevNo → D → DeviceSeen
 state_of g node number device = record {
   node = node;
   number = number;
@@ -189,10 +189,10 @@ state_of g node number device = record {
 }
 
 module _ {D : Type 0} (g : Ghosts D) (node : ℕ) (number : DevNo) (before now : D) where
-  abbrev first_state : DeviceState
+  abbrev first_state : DeviceSeen
   first_state = state_of g node number before
 
-  abbrev last_state : DeviceState
+  abbrev last_state : DeviceSeen
   last_state = state_of g node number now
 
   wrote_seen : (ws : List Write) → Wrote g ws before now → Wrote seen ws first_state last_state

@@ -13,16 +13,16 @@ use Rattle.q2_format.specs.declared.entries.L2Entry.{L2Entry}
 use Rattle.q2_format.specs.declared.entries.L2Entry.TheVariants as entries
 use Rattle.q2_image.specs.Image.{Known, IsOpen}
 use Rattle.q2_image.specs.Room.{WriteFits, PartZerosFit, ZerosFit, ZerosFitBy, entry_for, is_whole}
-use Rattle.blk_nodes.specs.Contents.{IsToldDisk, told, below, disk_by, disk_of, bytes_of}
+use Rattle.blk_nodes.specs.Contents.{IsToldDisk, told, disk_under, disk_by, disk_of, bytes_of}
 use Rattle.blk_nodes.specs.Changing.{ImageChange, IsImageWritten, IsZeroed, ChangesPart, ZeroesPart, ZeroesBy, LeavesRow}
 use Rattle.blk_nodes.specs.Found.{found_bytes, IsReadOfSource}
 use Rattle.blk_nodes.specs.Joined.{IsOverlay, IsJoined}
-use Rattle.blk_nodes.specs.Nodes.{Nodes, DeviceState, AreTold, row_at, device_in, size_by, size_of, file_of, backing_of}
+use Rattle.blk_nodes.specs.Nodes.{Nodes, DeviceSeen, AreTold, row_at, device_in, size_by, node_size, file_of, backing_of}
 use Rattle.blk_nodes.specs.Parts.{HasPiece, IsPieceOf, IsDiskFound, RefusesPiece, StopsReading, CallsPiece, WritesPart, row_in}
 use Rattle.blk_nodes.specs.Reading.{HasRisen, HaveRisen, LeadsTo}
-use Rattle.blk_nodes.specs.Sources.{source_of}
+use Rattle.blk_nodes.specs.Sources.{source_at}
 use Rattle.blk_nodes.specs.Walk.{IsKnownAt}
-use Rattle.blk_nodes.specs.Writing.{taken_by, IsDeviceAfter, HasImageCause, HasPieceCause, IsRestRead, WritesImage, WritesBy, WritesPiece, ZerosBy, ZerosPiece, own_place_by, rest_place, zeros_place, IsDriverAfter, AreRowsAfter, LeavesNodes, OwnsFile, own_file, IsOverApart, CanBeWritten, MayWrite, IsApartFrom}
+use Rattle.blk_nodes.specs.Writing.{taken_by, IsDeviceAfter, HasImageCause, HasPieceCause, IsRestRead, WritesImage, WritesBy, WritesPiece, ZerosBy, ZerosPiece, own_place_by, rest_place, zeros_place, IsDriverAfter, AreRowsAfter, LeavesNodes, OwnsFile, own_file, IsOverApart, CanBeWritten, MayWriteThrough, IsApartFrom}
 use Rattle.blk_nodes.specs.declared.part.Part.{Part}
 use Rattle.blk_nodes.specs.declared.row.Driver.{Driver}
 use Rattle.blk_nodes.specs.declared.row.Driver.TheVariants.{Qcow2}
@@ -40,11 +40,11 @@ use Rattle.blk_nodes.proofs.Rows.{row_below, image_found}
 use Rattle.blk_nodes.proofs.Unfolding.{unfolds}
 use Rattle.blk_nodes.proofs.Written.{disk_apart}
 
-module _ (nodes : Nodes) (joined : IsJoined nodes) (part : Part) (may : MayWrite nodes part.node) (edge : file_of nodes part.node ≡ Some part.file)
-    (source_is : source_of nodes part.node part.whole.start ≡ part.source)
-    (piece : HasPiece nodes.rows nodes.devices part) (rows : List (Option Row)) (devices : List DeviceState) (fits : Known → ℕ → Type 0) (own : Known → Option ℕ)
+module _ (nodes : Nodes) (joined : IsJoined nodes) (part : Part) (may : MayWriteThrough nodes part.node) (edge : file_of nodes part.node ≡ Some part.file)
+    (source_is : source_at nodes part.node part.whole.start ≡ part.source)
+    (piece : HasPiece nodes.rows nodes.devices part) (rows : List (Option Row)) (devices : List DeviceSeen) (fits : Known → ℕ → Type 0) (own : Known → Option ℕ)
     (change : ImageChange) (bytes : List ℕ) (outcome : Outcome) (w : WritesPart fits own change nodes.rows rows nodes.devices devices part bytes outcome)
-    (refuses : (device : DeviceState) (dev : DevNo) → (fits w.image device.capacity → ⊥) → change w.image w.image device device (NoSpace dev)) where
+    (refuses : (device : DeviceSeen) (dev : DevNo) → (fits w.image device.capacity → ⊥) → change w.image w.image device device (NoSpace dev)) where
   abbrev new : Nodes
   new = record nodes { rows = rows; devices = devices }
 
@@ -73,7 +73,7 @@ module _ (nodes : Nodes) (joined : IsJoined nodes) (part : Part) (may : MayWrite
   none_below : (other : ℕ) → IsApartFrom nodes other node → LeadsTo nodes.graph.edges other part.file → ⊥
   none_below other apart = apart may.row part.file may.there own_is
 
-  sized : w.image.header.size ≡ size_of nodes node
+  sized : w.image.header.size ≡ node_size nodes node
   sized = let same : w.image.header.size ≡ w.row.size = rw w.driver at (joined.sized node w.row w.there) in same ∙ sym (ap size_by w.there)
 
   -- the bytes of its cluster are found on its disk
@@ -83,7 +83,7 @@ module _ (nodes : Nodes) (joined : IsJoined nodes) (part : Part) (may : MayWrite
       let count : part.whole.len ≡ min 65536 (w.image.header.size - (part.span.start - part.span.start % 65536)) = ap (λ (s : Extent). s.len) is_piece.whole in
       let size = sized in
       let within = is_piece.inside in
-      let inside : part.whole.start + part.whole.len ≤ size_of nodes node = omega arith in
+      let inside : part.whole.start + part.whole.len ≤ node_size nodes node = omega arith in
       let block : part.whole.start % 65536 + part.whole.len ≤ 65536 = omega arith in
       reads_found nodes joined all node part.whole.start part.whole.len inside block (found_bytes nodes.devices part.source part.whole.start part.whole.len) part.source source_is refl
 
@@ -93,7 +93,7 @@ module _ (nodes : Nodes) (joined : IsJoined nodes) (part : Part) (may : MayWrite
       let count : part.whole.len ≡ min 65536 (w.image.header.size - (part.span.start - part.span.start % 65536)) = ap (λ (s : Extent). s.len) is_piece.whole in
       let size = sized in
       let within = is_piece.inside in
-      let all : length disk ≡ size_of nodes node = ap length is.1 ∙ length_disk nodes joined is.0 node w.row w.there ∙ sym (ap size_by w.there) in
+      let all : length disk ≡ node_size nodes node = ap length is.1 ∙ length_disk nodes joined is.0 node w.row w.there ∙ sym (ap size_by w.there) in
       record {
         told = is.0;
         found = found_is is.0 ∙ ap (λ (d : List ℕ). bytes_at d part.whole.start part.whole.len) (sym is.1);
@@ -105,7 +105,7 @@ module _ (nodes : Nodes) (joined : IsJoined nodes) (part : Part) (may : MayWrite
     all_same : new ≡ nodes
     all_same =
         let with_rows : List (Option Row) → Nodes = λ rs. record nodes { rows = rs; devices = devices } in
-        let with_devices : List DeviceState → Nodes = λ ds. record nodes { devices = ds } in
+        let with_devices : List DeviceSeen → Nodes = λ ds. record nodes { devices = ds } in
         ap with_rows rows_same ∙ ap with_devices devices_same
 
   leaves_same : rows ≡ nodes.rows → LeavesNodes nodes new node
@@ -117,7 +117,7 @@ module _ (nodes : Nodes) (joined : IsJoined nodes) (part : Part) (may : MayWrite
 
   -- how the image and the device of its file changed
   abbrev Changed : Known → Type 0
-  Changed now = (file : ℕ) (before after : DeviceState) → file_of nodes node ≡ Some file → device_in nodes.devices file ≡ Some before → device_in devices file ≡ Some after
+  Changed now = (file : ℕ) (before after : DeviceSeen) → file_of nodes node ≡ Some file → device_in nodes.devices file ≡ Some before → device_in devices file ≡ Some after
       → change w.image now before after outcome
 
   -- where its row did not
@@ -135,10 +135,10 @@ module _ (nodes : Nodes) (joined : IsJoined nodes) (part : Part) (may : MayWrite
   refused_row : (r : RefusesPiece part.file (fits w.image) nodes.rows rows nodes.devices devices outcome) → Changed w.image
   refused_row r file before after is held left =
       let first : r.device ≡ before = cc (sym r.held ∙ ap (device_in nodes.devices) (its_file file is) ∙ held) in
-      let full : fits w.image before.capacity → ⊥ = subst (λ (d : DeviceState). fits w.image d.capacity → ⊥) first r.full in
-      let stays : before ≡ after = cc (sym held ∙ sym (ap (λ (ds : List DeviceState). device_in ds file) r.devices_same) ∙ left) in
+      let full : fits w.image before.capacity → ⊥ = subst (λ (d : DeviceSeen). fits w.image d.capacity → ⊥) first r.full in
+      let stays : before ≡ after = cc (sym held ∙ sym (ap (λ (ds : List DeviceSeen). device_in ds file) r.devices_same) ∙ left) in
       subst (λ (o : Outcome). change w.image w.image before after o) (sym r.is)
-      (subst (λ (d : DeviceState). change w.image w.image before d (NoSpace r.dev)) stays (refuses before r.dev full))
+      (subst (λ (d : DeviceSeen). change w.image w.image before d (NoSpace r.dev)) stays (refuses before r.dev full))
 
   -- where the read of the rest of the cluster was stopped
   module _ (s : StopsReading part (fits w.image) (own w.image) change w.image nodes.rows rows nodes.devices devices outcome) where
@@ -154,8 +154,8 @@ module _ (nodes : Nodes) (joined : IsJoined nodes) (part : Part) (may : MayWrite
         let same : s.device ≡ before = cc (sym s.held ∙ ap (device_in nodes.devices) here ∙ held) in
         let was = before_rise file nodes.devices devices after s.risen left in
         let its : was.0 ≡ before = cc (sym was.1 ∙ held) in
-        let risen : HasRisen s.device after = subst (λ (d : DeviceState). HasRisen d after) (its ∙ sym same) was.2 in
-        subst (λ (d : DeviceState). change w.image w.image d after outcome) same (s.changed after risen)
+        let risen : HasRisen s.device after = subst (λ (d : DeviceSeen). HasRisen d after) (its ∙ sym same) was.2 in
+        subst (λ (d : DeviceSeen). change w.image w.image d after outcome) same (s.changed after risen)
 
     joined_stopped : IsJoined new
     joined_stopped = subst IsJoined (sym read_is) (joined_after nodes devices s.risen joined)
@@ -169,7 +169,7 @@ module _ (nodes : Nodes) (joined : IsJoined nodes) (part : Part) (may : MayWrite
         let was = before_rise part.file nodes.devices devices now.0 s.risen now.1 in
         let same_device : was.0 ≡ s.device = cc (sym was.1 ∙ s.held) in
         let at_source : IsReadOfSource part.source nodes.devices devices (Io s.dev s.count) = subst (IsReadOfSource part.source nodes.devices devices) s.is s.read in
-        let at_place : IsReadOfSource (source_of nodes node part.whole.start) nodes.devices devices (Io s.dev s.count)
+        let at_place : IsReadOfSource (source_at nodes node part.whole.start) nodes.devices devices (Io s.dev s.count)
         = subst (λ (source : Source). IsReadOfSource source nodes.devices devices (Io s.dev s.count)) (sym source_is) at_source in
         let begins : rest ≡ Some part.whole.start = rest_begins nodes.rows nodes.devices part w.image is_piece (own w.image) s.nowhere s.less in
         let is_read : IsRestRead rest nodes new node (Io s.dev s.count)
@@ -181,7 +181,7 @@ module _ (nodes : Nodes) (joined : IsJoined nodes) (part : Part) (may : MayWrite
           after = now.0;
           held = s.held;
           left = now.1;
-          device = subst (λ (d : DeviceState). IsDeviceAfter d now.0) same_device (device_risen was.0 now.0 was.2);
+          device = subst (λ (d : DeviceSeen). IsDeviceAfter d now.0) same_device (device_risen was.0 now.0 was.2);
           devices = inr s.risen;
           cause = subst (HasPieceCause (fits w.image s.device.capacity) (own w.image) rest (length bytes) part.file nodes new node s.device now.0) (sym s.is)
               (s.fit, inr is_read);
@@ -213,8 +213,8 @@ module _ (nodes : Nodes) (joined : IsJoined nodes) (part : Part) (may : MayWrite
         let here = its_file file is in
         let first : c.before ≡ before = cc (sym c.held ∙ ap (device_in nodes.devices) here ∙ held) in
         let last : c.after ≡ after = cc (sym c.held_now ∙ ap (device_in devices) here ∙ left) in
-        subst (λ (d : DeviceState). change w.image c.now before d outcome) last
-        (subst (λ (d : DeviceState). change w.image c.now d c.after outcome) first c.changed)
+        subst (λ (d : DeviceSeen). change w.image c.now before d outcome) last
+        (subst (λ (d : DeviceSeen). change w.image c.now d c.after outcome) first c.changed)
 
     leaves_called : LeavesNodes nodes new node
     leaves_called = record { graph = refl; others = others_now; own = own_now }
@@ -239,7 +239,7 @@ module _ (nodes : Nodes) (joined : IsJoined nodes) (part : Part) (may : MayWrite
     known_own : IsKnownAt part.file devices c.now
     known_own device b held content =
         let same : c.after ≡ device = cc (sym c.held_now ∙ held) in
-        c.known b (ap (λ (d : DeviceState). d.content) same ∙ content)
+        c.known b (ap (λ (d : DeviceSeen). d.content) same ∙ content)
 
     known_now : (n : ℕ) (row : Row) (image : Known) (file : ℕ) → row_at new n ≡ Some row → row.driver ≡ Qcow2 image → file_of nodes n ≡ Some file
         → IsKnownAt file devices image
@@ -282,12 +282,12 @@ module _ (nodes : Nodes) (joined : IsJoined nodes) (part : Part) (may : MayWrite
         let mid : Nodes = record nodes { rows = rows } in
         disk_apart mid devices part.file c.only other none ∙ disks_alike nodes rows alike other
 
-    below_now : (found : Option ℕ) → backing_of nodes node ≡ found → below (disk_of new) found ≡ below (disk_of nodes) found
+    below_now : (found : Option ℕ) → backing_of nodes node ≡ found → disk_under (disk_of new) found ≡ disk_under (disk_of nodes) found
     below_now None is = refl
     below_now (Some over) is = disk_other over (over_apart over part.file is edge)
 
     abbrev backing : List ℕ
-    backing = below (disk_of nodes) (backing_of nodes node)
+    backing = disk_under (disk_of nodes) (backing_of nodes node)
 
     abbrev before : List ℕ
     before = bytes_of nodes part.file
@@ -295,7 +295,7 @@ module _ (nodes : Nodes) (joined : IsJoined nodes) (part : Part) (may : MayWrite
     disk_before : disk_of nodes node ≡ image_disk before backing
     disk_before =
         unfolds nodes joined node w.row w.there ∙ ap (disk_by nodes (disk_of nodes) node) w.driver
-        ∙ ap (λ (f : Option ℕ). image_disk (below (bytes_of nodes) f) backing) edge
+        ∙ ap (λ (f : Option ℕ). image_disk (disk_under (bytes_of nodes) f) backing) edge
 
     rest_is : AreTold nodes.devices → found_bytes nodes.devices part.source part.whole.start part.whole.len
         ≡ bytes_at (image_disk before backing) part.whole.start part.whole.len
@@ -305,13 +305,13 @@ module _ (nodes : Nodes) (joined : IsJoined nodes) (part : Part) (may : MayWrite
     disk_called all =
         let was = told_held part.file nodes.devices all (rw c.held refl) in
         let same : c.before ≡ was.0 = cc (sym c.held ∙ was.1) in
-        let content : c.before.content ≡ Some before = ap (λ (d : DeviceState). d.content) same ∙ was.2 in
+        let content : c.before.content ≡ Some before = ap (λ (d : DeviceSeen). d.content) same ∙ was.2 in
         let is_told : is_some c.after.content ≡ true = c.device.told ∙ ap is_some content in
         let content_now : c.after.content ≡ Some (told c.after.content) = told_is c.after.content is_told in
         let bytes_now : bytes_of new part.file ≡ told c.after.content
-        = ap (λ (f : Option DeviceState). elim f as (λ _. List ℕ) [ None ↦ [] | Some d ↦ told d.content ]) c.held_now in
+        = ap (λ (f : Option DeviceSeen). elim f as (λ _. List ℕ) [ None ↦ [] | Some d ↦ told d.content ]) c.held_now in
         unfolds new joined_called node row_after row_now
-        ∙ ap (λ (f : Option ℕ). image_disk (below (bytes_of new) f) (below (disk_of new) (backing_of nodes node))) edge
+        ∙ ap (λ (f : Option ℕ). image_disk (disk_under (bytes_of new) f) (disk_under (disk_of new) (backing_of nodes node))) edge
         ∙ ap (image_disk (bytes_of new part.file)) (below_now (backing_of nodes node) refl)
         ∙ ap (λ (b : List ℕ). image_disk b backing) bytes_now
         ∙ c.disk all before (told c.after.content) content content_now backing (rest_is all)
@@ -390,7 +390,7 @@ module _ (nodes : Nodes) (joined : IsJoined nodes) (part : Part) (may : MayWrite
   pub wrote_piece : WritesImage (fits w.image) (own w.image) rest nodes new node (length bytes) outcome
   wrote_piece = elim w.wrote [
     | inl r ↦
-        let left : device_in devices part.file ≡ Some r.device = ap (λ (ds : List DeviceState). device_in ds part.file) r.devices_same ∙ r.held in
+        let left : device_in devices part.file ≡ Some r.device = ap (λ (ds : List DeviceSeen). device_in ds part.file) r.devices_same ∙ r.held in
         record {
           file = part.file;
           edge = edge;
@@ -410,7 +410,7 @@ module _ (nodes : Nodes) (joined : IsJoined nodes) (part : Part) (may : MayWrite
   ]
 
 -- Where there is no room, nothing changes.
-refuses_part : (IsDisk : List ℕ → Type 0) (e : L2Entry) (span : Extent) (bytes : List ℕ) (image : Known) (device : DeviceState) (dev : DevNo)
+refuses_part : (IsDisk : List ℕ → Type 0) (e : L2Entry) (span : Extent) (bytes : List ℕ) (image : Known) (device : DeviceSeen) (dev : DevNo)
     → ChangesPart IsDisk e span bytes image image device device (NoSpace dev)
 refuses_part IsDisk entries.Unallocated span bytes image device dev = (refl, refl)
 refuses_part IsDisk (entries.Zero host) span bytes image device dev = (refl, refl)
@@ -418,11 +418,11 @@ refuses_part IsDisk (entries.Host host) span bytes image device dev = (refl, ref
 refuses_part IsDisk entries.Compressed span bytes image device dev = (refl, refl)
 refuses_part IsDisk entries.Reserved span bytes image device dev = (refl, refl)
 
-pub refuses_written : (IsDisk : List ℕ → Type 0) (span : Extent) (bytes : List ℕ) (image : Known) (device : DeviceState) (dev : DevNo)
+pub refuses_written : (IsDisk : List ℕ → Type 0) (span : Extent) (bytes : List ℕ) (image : Known) (device : DeviceSeen) (dev : DevNo)
     → IsImageWritten IsDisk span bytes image image device device (NoSpace dev)
 refuses_written IsDisk span bytes image device dev = refuses_part IsDisk (entry_for image span) span bytes image device dev
 
-refuses_zeroes : (IsDisk : List ℕ → Type 0) (e : L2Entry) (span : Extent) (image : Known) (device : DeviceState) (dev : DevNo) → (PartZerosFit e image span device.capacity → ⊥)
+refuses_zeroes : (IsDisk : List ℕ → Type 0) (e : L2Entry) (span : Extent) (image : Known) (device : DeviceSeen) (dev : DevNo) → (PartZerosFit e image span device.capacity → ⊥)
     → ZeroesPart IsDisk e span image image device device (NoSpace dev)
 refuses_zeroes IsDisk entries.Unallocated span image device dev full = (refl, refl)
 refuses_zeroes IsDisk (entries.Zero host) span image device dev full = absurd (full tt)
@@ -430,7 +430,7 @@ refuses_zeroes IsDisk (entries.Host host) span image device dev full = (refl, re
 refuses_zeroes IsDisk entries.Compressed span image device dev full = (refl, refl)
 refuses_zeroes IsDisk entries.Reserved span image device dev full = (refl, refl)
 
-pub refuses_zeroed : (IsDisk : List ℕ → Type 0) (span : Extent) (image : Known) (device : DeviceState) (dev : DevNo) → (ZerosFit image span device.capacity → ⊥)
+pub refuses_zeroed : (IsDisk : List ℕ → Type 0) (span : Extent) (image : Known) (device : DeviceSeen) (dev : DevNo) → (ZerosFit image span device.capacity → ⊥)
     → IsZeroed IsDisk span image image device device (NoSpace dev)
 refuses_zeroed IsDisk span image device dev full = by (is_whole image span) full
   where

@@ -29,10 +29,10 @@ use Rattle.blk_graph.proofs.FitLemmas.{IsFit-with_edge}
 use Rattle.blk_graph.proofs.JudgeLemmas.{children-refreshed}
 use Rattle.blk_graph.proofs.RefreshLemmas.{child_of-refreshed}
 use Rattle.blk_graph.proofs.StillLemmas.{refreshed-fixed}
-use Rattle.blk_nodes.specs.Contents.{disk_by, disk_in, disk_of}
-use Rattle.blk_nodes.specs.Jobs.{with_job_edges, with_read_only, with_written}
+use Rattle.blk_nodes.specs.Contents.{disk_by, disk_down, disk_of}
+use Rattle.blk_nodes.specs.Jobs.{with_job_edges, with_read_only, with_node_writes}
 use Rattle.blk_nodes.specs.Joined.{IsFile, HasSize, HasBelow, IsJoined, IsSized}
-use Rattle.blk_nodes.specs.Nodes.{Nodes, row_at, size_by, size_of, file_of, backing_of, kind_of, node_kind}
+use Rattle.blk_nodes.specs.Nodes.{Nodes, row_at, size_by, node_size, file_of, backing_of, driver_kind, node_kind}
 use Rattle.blk_nodes.specs.declared.nodes.jobs.NodeUse.{NodeUse}
 use Rattle.blk_nodes.specs.declared.row.Driver.{Driver}
 use Rattle.blk_nodes.specs.declared.row.Driver.TheVariants.{File, Raw, Qcow2, CopyOnRead}
@@ -148,7 +148,7 @@ not-not false = refl
 -- a node that may be written, or no longer
 module _ (nodes : Nodes) (node : ℕ) (writes : Bool) (joined : IsJoined nodes) (there : HasNode nodes.graph node) where
   abbrev new : Nodes
-  new = with_written node writes nodes
+  new = with_node_writes node writes nodes
 
   abbrev kinds_now : List NodeKind
   kinds_now = with_writes node writes nodes.graph.kinds
@@ -191,10 +191,10 @@ module _ (nodes : Nodes) (node : ℕ) (writes : Bool) (joined : IsJoined nodes) 
       let P : Option Row → Type 0 = λ found. SameBut found (row_at new n) in
       subst P was (rows_same n)
 
-  sizes_same : (n : ℕ) → size_of new n ≡ size_of nodes n
+  sizes_same : (n : ℕ) → node_size new n ≡ node_size nodes n
   sizes_same n = by (row_at nodes n) refl (rows_same n)
     where
-      by : (found : Option Row) → row_at nodes n ≡ found → SameBut found (row_at new n) → size_of new n ≡ size_of nodes n
+      by : (found : Option Row) → row_at nodes n ≡ found → SameBut found (row_at new n) → node_size new n ≡ node_size nodes n
       by None was after = ap size_by after ∙ sym (ap size_by was)
       by (Some old) was after = ap size_by after.1 ∙ after.3 ∙ sym (ap size_by was)
 
@@ -240,7 +240,7 @@ module _ (nodes : Nodes) (node : ℕ) (writes : Bool) (joined : IsJoined nodes) 
       let now : with_read_only (not writes) was.0 ≡ row = cc (ap (option_map (with_read_only (not writes))) (sym was.1) ∙ sym own_now ∙ is) in
       get_or-set_same nodes.graph.kinds node (kind_with (kind_at nodes.graph.kinds node).kind writes) no_kind (omega (arith, count, small))
       ∙ ap (λ (k : NodeKind). kind_with k.kind writes) (joined.kinds node was.0 was.1)
-      ∙ ap (kind_with (kind_of was.0.driver)) (sym (not-not writes))
+      ∙ ap (kind_with (driver_kind was.0.driver)) (sym (not-not writes))
       ∙ ap node_kind now
 
   kinds_after : (n : ℕ) (row : Row) → row_at new n ≡ Some row → kind_at kinds_now n ≡ node_kind row
@@ -283,9 +283,9 @@ module _ (nodes : Nodes) (node : ℕ) (writes : Bool) (joined : IsJoined nodes) 
       ap (disk_found new f n) is.1 ∙ ap (disk_by new f n) is.2
       ∙ by_driver nodes new sizes_same (λ m. refl) files_same backings_same f g each n row.driver
 
-  same_in : (turns n : ℕ) → disk_in turns new n ≡ disk_in turns nodes n
+  same_in : (turns n : ℕ) → disk_down turns new n ≡ disk_down turns nodes n
   same_in zero n = refl
-  same_in (suc turns) n = same_found (disk_in turns new) (disk_in turns nodes) (same_in turns) n (row_at nodes n) (row_at new n) (rows_same n)
+  same_in (suc turns) n = same_found (disk_down turns new) (disk_down turns nodes) (same_in turns) n (row_at nodes n) (row_at new n) (rows_same n)
 
   pub disks_written : (n : ℕ) → disk_of new n ≡ disk_of nodes n
   unfolding disk_of
@@ -303,7 +303,7 @@ module _ (nodes : Nodes) (node : ℕ) (writes : Bool) (joined : IsJoined nodes) 
     agrees e (Job job) own = tt
     agrees e (Node n) own = elim (cases_eq n node) [
       | inl same ↦
-          let kind = ap (λ (k : NodeKind). k.kind) (joined.kinds node is_file.row is_file.there) ∙ ap kind_of is_file.driver in
+          let kind = ap (λ (k : NodeKind). k.kind) (joined.kinds node is_file.row is_file.there) ∙ ap driver_kind is_file.driver in
           let none : has_role (kind_at nodes.graph.kinds n).kind e.role ≡ false
           = ap (λ (m : ℕ). has_role (kind_at nodes.graph.kinds m).kind e.role) same ∙ ap (λ (k : Kind). has_role k e.role) kind in
           let bad : true ≡ false = sym own ∙ none in

@@ -7,7 +7,7 @@ use Rattle.std.proofs.lemmas.Bool.{cases_lt}
 use Rattle.q2_format.specs.declared.entries.L2Entry.{L2Entry}
 use Rattle.q2_format.specs.declared.entries.L2Entry.TheVariants as entries
 use Rattle.q2_image.specs.Image.{Known, IsImageOf, cluster_size_in, entry_in}
-use Rattle.blk_nodes.specs.Nodes.{Nodes, DeviceState, no_nodes, row_at, device_in, size_by, size_of, file_of, backing_of}
+use Rattle.blk_nodes.specs.Nodes.{Nodes, DeviceSeen, no_nodes, row_at, device_in, size_by, node_size, file_of, backing_of}
 use Rattle.blk_nodes.specs.Joined.{IsFile, HasSize, IsPartOfFile, IsOverlay, IsCopying, HasBelow, IsJoined, DifferInNode}
 use Rattle.blk_nodes.specs.Reading.{HaveRisen}
 use Rattle.blk_nodes.specs.Sources.{in_below, step_by_entry, step_by, step_of}
@@ -21,18 +21,18 @@ use Rattle.blk_nodes.specs.declared.source.Step.TheVariants.{Found}
 use Rattle.blk_nodes.proofs.HeldDevices.{before_rise, held_after, held_before}
 
 -- the same nodes have devices, one each
-nodes_after : (old new : List DeviceState) → HaveRisen old new → map (λ (d : DeviceState). d.node) new ≡ map (λ (d : DeviceState). d.node) old
+nodes_after : (old new : List DeviceSeen) → HaveRisen old new → map (λ (d : DeviceSeen). d.node) new ≡ map (λ (d : DeviceSeen). d.node) old
 nodes_after [] [] risen = refl
 nodes_after (a ∷ old) (b ∷ new) risen =
-    ap (λ (n : ℕ). n ∷ map (λ (d : DeviceState). d.node) new) (ap (λ (d : DeviceState). d.node) risen.0.same)
+    ap (λ (n : ℕ). n ∷ map (λ (d : DeviceSeen). d.node) new) (ap (λ (d : DeviceSeen). d.node) risen.0.same)
     ∙ ap (λ (ns : List ℕ). a.node ∷ ns) (nodes_after old new risen.1)
 nodes_after [] (b ∷ new) risen = absurd risen
 nodes_after (a ∷ old) [] risen = absurd risen
 
-pub once_by_nodes : (old new : List DeviceState) → map (λ (d : DeviceState). d.node) new ≡ map (λ (d : DeviceState). d.node) old
+pub once_by_nodes : (old new : List DeviceSeen) → map (λ (d : DeviceSeen). d.node) new ≡ map (λ (d : DeviceSeen). d.node) old
     → AllPairs DifferInNode old → AllPairs DifferInNode new
 once_by_nodes old new lists once i j d below within same =
-    let f : DeviceState → ℕ = λ d. d.node in
+    let f : DeviceSeen → ℕ = λ d. d.node in
     let lengths : length new ≡ length old = sym (length-map new f) ∙ ap length lists ∙ length-map old f in
     let in_old : j < length old = omega (arith, within, lengths) in
     let node_at : (k : ℕ) → k < length new → (get_or new k d).node ≡ (get_or old k d).node
@@ -41,10 +41,10 @@ once_by_nodes old new lists once i j d below within same =
     ∙ get_or-map f old k d d.node (omega (arith, less, lengths)) in
     once i j d below in_old (sym (node_at i (omega (arith, below, within))) ∙ same ∙ node_at j within)
 
-once_after : (old new : List DeviceState) → HaveRisen old new → AllPairs DifferInNode old → AllPairs DifferInNode new
+once_after : (old new : List DeviceSeen) → HaveRisen old new → AllPairs DifferInNode old → AllPairs DifferInNode new
 once_after old new risen = once_by_nodes old new (nodes_after old new risen)
 
-module _ (nodes : Nodes) (new : List DeviceState) (risen : HaveRisen nodes.devices new) where
+module _ (nodes : Nodes) (new : List DeviceSeen) (risen : HaveRisen nodes.devices new) where
   abbrev after : Nodes
   after = record nodes { devices = new }
 
@@ -55,11 +55,11 @@ module _ (nodes : Nodes) (new : List DeviceState) (risen : HaveRisen nodes.devic
   size_after node size has = record { row = has.row; there = has.there; is = has.is }
 
   known_after : (file : ℕ) (image : Known)
-      → ((device : DeviceState) (bytes : List ℕ) → device_in nodes.devices file ≡ Some device → device.content ≡ Some bytes → IsImageOf bytes image)
-      → (device : DeviceState) (bytes : List ℕ) → device_in new file ≡ Some device → device.content ≡ Some bytes → IsImageOf bytes image
+      → ((device : DeviceSeen) (bytes : List ℕ) → device_in nodes.devices file ≡ Some device → device.content ≡ Some bytes → IsImageOf bytes image)
+      → (device : DeviceSeen) (bytes : List ℕ) → device_in new file ≡ Some device → device.content ≡ Some bytes → IsImageOf bytes image
   known_after file image known device bytes held told =
       let b = before_rise file nodes.devices new device risen held in
-      known b.0 bytes b.1 (sym (ap (λ (d : DeviceState). d.content) b.2.same) ∙ told)
+      known b.0 bytes b.1 (sym (ap (λ (d : DeviceSeen). d.content) b.2.same) ∙ told)
 
   below_after : (node size : ℕ) (driver : Driver) → HasBelow nodes node size driver → HasBelow after node size driver
   below_after node size File is = held_after node nodes.devices new risen is
@@ -155,7 +155,7 @@ goes_by nodes node place row CopyOnRead joined there driver below =
     let has = is.same in
     rw (is.edge, has.there) (omega (arith, has.is, below))
 
-pub goes_on : (nodes : Nodes) (node place : ℕ) → IsJoined nodes → place < size_of nodes node → GoesDown nodes place (step_of nodes node place)
+pub goes_on : (nodes : Nodes) (node place : ℕ) → IsJoined nodes → place < node_size nodes node → GoesDown nodes place (step_of nodes node place)
 goes_on nodes node place joined below = by_row (row_at nodes node) refl below
   where
     by_row : (found : Option Row) → row_at nodes node ≡ found → place < size_by found

@@ -4,19 +4,19 @@ use Rattle.std.specs.Prelude.{IsSome}
 use Rattle.std.proofs.lemmas.Bool.{eq-eqb}
 use Rattle.q2_format.specs.Contents.{file_disk, raw_disk, image_disk}
 use Rattle.blk_graph.specs.Graph.{HasNode}
-use Rattle.blk_nodes.specs.Contents.{told, below, disk_by, disk_in, disk_of, bytes_by, bytes_of, file_node_disk}
-use Rattle.blk_nodes.specs.Nodes.{Nodes, DeviceState, row_at, device_in, size_by, size_of, file_of, backing_of}
+use Rattle.blk_nodes.specs.Contents.{told, disk_under, disk_by, disk_down, disk_of, bytes_by, bytes_of, file_node_disk}
+use Rattle.blk_nodes.specs.Nodes.{Nodes, DeviceSeen, row_at, device_in, size_by, node_size, file_of, backing_of}
 use Rattle.blk_nodes.specs.Joined.{IsFile, HasSize, HasBelow, IsJoined}
 use Rattle.blk_nodes.specs.declared.row.Driver.{Driver}
 use Rattle.blk_nodes.specs.declared.row.Driver.TheVariants.{File, Raw, Qcow2, CopyOnRead}
 use Rattle.blk_nodes.specs.declared.row.Row.{Row}
 use Rattle.blk_nodes.proofs.Additions.{Extends, some_row, row_new, no_device, device_new, extends_file, extends_over, file_below}
-use Rattle.blk_nodes.specs.Adding.{with_node, with_device, with_below, file_edge}
+use Rattle.blk_nodes.specs.Adding.{with_node_row, with_node_device, with_below, file_edge}
 use Rattle.blk_graph.specs.Edits.{IsLone}
 use Rattle.blk_nodes.proofs.Joints.{held_by}
 
 module _ (old new : Nodes) (e : Extends old new) (joined : IsJoined old) where
-  size_stays : (node : ℕ) (row : Row) → row_at old node ≡ Some row → size_of new node ≡ size_of old node
+  size_stays : (node : ℕ) (row : Row) → row_at old node ≡ Some row → node_size new node ≡ node_size old node
   size_stays node row there = ap size_by (e.rows node row there ∙ sym there)
 
   bytes_stay : (file : ℕ) → IsSome (device_in old.devices file) → bytes_of new file ≡ bytes_of old file
@@ -25,41 +25,41 @@ module _ (old new : Nodes) (e : Extends old new) (joined : IsJoined old) where
   file_stays : (file : ℕ) → IsFile old file → file_node_disk new file ≡ file_node_disk old file
   file_stays file is =
       ap (λ (n : ℕ). file_disk n (bytes_of new file)) (size_stays file is.row is.there)
-      ∙ ap (file_disk (size_of old file)) (bytes_stay file (held_by old file joined is))
+      ∙ ap (file_disk (node_size old file)) (bytes_stay file (held_by old file joined is))
 
   over_stays : (f g : ℕ → List ℕ) → ((node : ℕ) (row : Row) → row_at old node ≡ Some row → f node ≡ g node) → (next : Option ℕ) (size : ℕ)
-      → ((node : ℕ) → next ≡ Some node → HasSize old node size) → below f next ≡ below g next
+      → ((node : ℕ) → next ≡ Some node → HasSize old node size) → disk_under f next ≡ disk_under g next
   over_stays f g each None size has = refl
   over_stays f g each (Some node) size has = let h = has node refl in each node h.row h.there
 
   by_driver : (f g : ℕ → List ℕ) → ((node : ℕ) (row : Row) → row_at old node ≡ Some row → f node ≡ g node) → (node : ℕ) (row : Row) (driver : Driver)
       → row_at old node ≡ Some row → HasBelow old node row.size driver → disk_by new f node driver ≡ disk_by old g node driver
   by_driver f g each node row File there is =
-      ap (λ (n : ℕ). file_disk n (bytes_of new node)) (size_stays node row there) ∙ ap (file_disk (size_of old node)) (bytes_stay node is)
+      ap (λ (n : ℕ). file_disk n (bytes_of new node)) (size_stays node row there) ∙ ap (file_disk (node_size old node)) (bytes_stay node is)
   by_driver f g each node row (Raw part) there is =
-      ap (λ (file : Option ℕ). raw_disk part.offset part.size (below (file_node_disk new) file)) (e.files node row there ∙ is.edge)
+      ap (λ (file : Option ℕ). raw_disk part.offset part.size (disk_under (file_node_disk new) file)) (e.files node row there ∙ is.edge)
       ∙ ap (raw_disk part.offset part.size) (file_stays is.file is.is_file)
-      ∙ ap (λ (file : Option ℕ). raw_disk part.offset part.size (below (file_node_disk old) file)) (sym is.edge)
+      ∙ ap (λ (file : Option ℕ). raw_disk part.offset part.size (disk_under (file_node_disk old) file)) (sym is.edge)
   by_driver f g each node row (Qcow2 image) there is =
-      ap (λ (file : Option ℕ). image_disk (below (bytes_of new) file) (below f (backing_of new node))) (e.files node row there ∙ is.edge)
-      ∙ ap (λ (bytes : List ℕ). image_disk bytes (below f (backing_of new node))) (bytes_stay is.file (held_by old is.file joined is.is_file))
-      ∙ ap (λ (over : Option ℕ). image_disk (bytes_of old is.file) (below f over)) (e.backings node row there)
+      ap (λ (file : Option ℕ). image_disk (disk_under (bytes_of new) file) (disk_under f (backing_of new node))) (e.files node row there ∙ is.edge)
+      ∙ ap (λ (bytes : List ℕ). image_disk bytes (disk_under f (backing_of new node))) (bytes_stay is.file (held_by old is.file joined is.is_file))
+      ∙ ap (λ (over : Option ℕ). image_disk (bytes_of old is.file) (disk_under f over)) (e.backings node row there)
       ∙ ap (image_disk (bytes_of old is.file)) (over_stays f g each (backing_of old node) image.header.size is.backing)
-      ∙ ap (λ (file : Option ℕ). image_disk (below (bytes_of old) file) (below g (backing_of old node))) (sym is.edge)
+      ∙ ap (λ (file : Option ℕ). image_disk (disk_under (bytes_of old) file) (disk_under g (backing_of old node))) (sym is.edge)
   by_driver f g each node row CopyOnRead there is =
       let same = is.same in
-      ap (below f) (e.files node row there ∙ is.edge) ∙ each is.child same.row same.there ∙ ap (below g) (sym is.edge)
+      ap (disk_under f) (e.files node row there ∙ is.edge) ∙ each is.child same.row same.there ∙ ap (disk_under g) (sym is.edge)
 
   step_by_row : (nodes : Nodes) (node : ℕ) (row : Row) (turns : ℕ) → row_at nodes node ≡ Some row
-      → disk_in (suc turns) nodes node ≡ disk_by nodes (disk_in turns nodes) node row.driver
+      → disk_down (suc turns) nodes node ≡ disk_by nodes (disk_down turns nodes) node row.driver
   step_by_row nodes node row turns there =
-      ap (λ (found : Option Row). elim found as (λ _. List ℕ) [ None ↦ [] | Some r ↦ disk_by nodes (disk_in turns nodes) node r.driver ]) there
+      ap (λ (found : Option Row). elim found as (λ _. List ℕ) [ None ↦ [] | Some r ↦ disk_by nodes (disk_down turns nodes) node r.driver ]) there
 
-  stays_in : (turns node : ℕ) (row : Row) → row_at old node ≡ Some row → disk_in turns new node ≡ disk_in turns old node
+  stays_in : (turns node : ℕ) (row : Row) → row_at old node ≡ Some row → disk_down turns new node ≡ disk_down turns old node
   stays_in zero node row there = refl
   stays_in (suc turns) node row there =
       step_by_row new node row turns (e.rows node row there)
-      ∙ by_driver (disk_in turns new) (disk_in turns old) (stays_in turns) node row row.driver there (joined.below node row there)
+      ∙ by_driver (disk_down turns new) (disk_down turns old) (stays_in turns) node row row.driver there (joined.below node row there)
       ∙ sym (step_by_row old node row turns there)
 
   pub disk_stays : (node : ℕ) → HasNode old.graph node → disk_of new node ≡ disk_of old node
@@ -70,21 +70,21 @@ module _ (old new : Nodes) (e : Extends old new) (joined : IsJoined old) where
 pub disk_of_file : (nodes : Nodes) (node : ℕ) (row : Row) → row_at nodes node ≡ Some row → row.driver ≡ File → disk_of nodes node ≡ file_disk row.size (bytes_of nodes node)
 unfolding disk_of
 disk_of_file nodes node row there driver =
-    ap (λ (found : Option Row). elim found as (λ _. List ℕ) [ None ↦ [] | Some r ↦ disk_by nodes (disk_in 63 nodes) node r.driver ]) there
-    ∙ ap (disk_by nodes (disk_in 63 nodes) node) driver ∙ ap (λ (n : ℕ). file_disk n (bytes_of nodes node)) (ap size_by there)
+    ap (λ (found : Option Row). elim found as (λ _. List ℕ) [ None ↦ [] | Some r ↦ disk_by nodes (disk_down 63 nodes) node r.driver ]) there
+    ∙ ap (disk_by nodes (disk_down 63 nodes) node) driver ∙ ap (λ (n : ℕ). file_disk n (bytes_of nodes node)) (ap size_by there)
 
 pub disk_of_raw : (nodes : Nodes) (node file offset size : ℕ) (row : Row) → row_at nodes node ≡ Some row → row.driver ≡ Raw (record { offset = offset; size = size })
     → file_of nodes node ≡ Some file → disk_of nodes node ≡ raw_disk offset size (file_node_disk nodes file)
 unfolding disk_of
 disk_of_raw nodes node file offset size row there driver edge =
-    ap (λ (found : Option Row). elim found as (λ _. List ℕ) [ None ↦ [] | Some r ↦ disk_by nodes (disk_in 63 nodes) node r.driver ]) there
-    ∙ ap (disk_by nodes (disk_in 63 nodes) node) driver ∙ ap (λ (f : Option ℕ). raw_disk offset size (below (file_node_disk nodes) f)) edge
+    ap (λ (found : Option Row). elim found as (λ _. List ℕ) [ None ↦ [] | Some r ↦ disk_by nodes (disk_down 63 nodes) node r.driver ]) there
+    ∙ ap (disk_by nodes (disk_down 63 nodes) node) driver ∙ ap (λ (f : Option ℕ). raw_disk offset size (disk_under (file_node_disk nodes) f)) edge
 
 -- a `file` node that was added
-module _ (nodes : Nodes) (id size : ℕ) (name : List ℕ) (is_read_only : Bool) (device : DeviceState) (joined : IsJoined nodes) (absent : HasNode nodes.graph id → ⊥)
+module _ (nodes : Nodes) (id size : ℕ) (name : List ℕ) (is_read_only : Bool) (device : DeviceSeen) (joined : IsJoined nodes) (absent : HasNode nodes.graph id → ⊥)
     (small : id < 64) (node : device.node ≡ id) where
   abbrev with_file : Nodes
-  with_file = with_device (with_node nodes id name (record { driver = File; size = size; is_read_only = is_read_only })) device
+  with_file = with_node_device (with_node_row nodes id name (record { driver = File; size = size; is_read_only = is_read_only })) device
 
   pub file_disks : (other : ℕ) → HasNode nodes.graph other → disk_of with_file other ≡ disk_of nodes other
   file_disks = disk_stays nodes with_file (extends_file nodes id size name is_read_only device joined absent small node) joined
@@ -106,7 +106,7 @@ module _ (nodes : Nodes) (id file offset size : ℕ) (name : List ℕ) (is_read_
   raw_row = record { driver = Raw (record { offset = offset; size = size }); size = size; is_read_only = is_read_only }
 
   abbrev with_raw : Nodes
-  with_raw = with_below (with_node nodes id name raw_row) (file_edge id file)
+  with_raw = with_below (with_node_row nodes id name raw_row) (file_edge id file)
 
   extends_raw : Extends nodes with_raw
   extends_raw = extends_over nodes id file name raw_row joined absent small lone is_file

@@ -15,9 +15,9 @@ use Rattle.blk_graph.specs.declared.edge.Role.TheVariants.{File as FileRole, Bac
 use Rattle.blk_graph.proofs.ChildLemmas.{child-edge}
 use Rattle.blk_graph.proofs.PathLemmas.{Reaches-edge, Reaches-joined}
 use Rattle.blk_nodes.specs.Found.{IsReadOfSource}
-use Rattle.blk_nodes.specs.Nodes.{Nodes, DeviceState, row_at, file_of, backing_of}
+use Rattle.blk_nodes.specs.Nodes.{Nodes, DeviceSeen, row_at, file_of, backing_of}
 use Rattle.blk_nodes.specs.Reading.{LeadsTo, IsReadAt, IsReadBelow, StoppedBelow}
-use Rattle.blk_nodes.specs.Sources.{in_file, in_image, in_below, step_by_entry, step_by, step_of, source_in, source_of}
+use Rattle.blk_nodes.specs.Sources.{in_file, in_image, in_below, step_by_entry, step_by, step_of, source_in, source_at}
 use Rattle.blk_nodes.specs.Walk.{LeadsToSource, LeadsOn}
 use Rattle.blk_nodes.specs.Writing.{HasPieceCause, IsRestRead, WritesImage}
 use Rattle.blk_nodes.specs.declared.row.Driver.{Driver}
@@ -69,23 +69,23 @@ step_leads edges node place (Qcow2 image) = entry_leads edges node (entry_in ima
 step_leads edges node place CopyOnRead = below_leads edges node FileRole (child_of (Node node) FileRole edges) refl
 
 -- a read of what a node leads to
-module _ (old : Nodes) (devices : List DeviceState) (node file : ℕ) (leads : LeadsTo old.graph.edges node file) where
+module _ (old : Nodes) (devices : List DeviceSeen) (node file : ℕ) (leads : LeadsTo old.graph.edges node file) where
   pub read_at_below : (outcome : Outcome) → IsReadAt file old.devices devices outcome → IsReadBelow old (record old { devices = devices }) node outcome
-  read_at_below Good is = ap (λ (ds : List DeviceState). let now : Nodes = record old { devices = ds } in now) is
+  read_at_below Good is = ap (λ (ds : List DeviceSeen). let now : Nodes = record old { devices = ds } in now) is
   read_at_below (Torn done dev count) is = is
   read_at_below (Io dev count) is = record { file = file; leads = leads; stopped = is }
   read_at_below (NoSpace dev) is = is
 
-pub read_below : (old : Nodes) (devices : List DeviceState) (node : ℕ) (source : Source) (outcome : Outcome) → LeadsToSource old.graph.edges node source
+pub read_below : (old : Nodes) (devices : List DeviceSeen) (node : ℕ) (source : Source) (outcome : Outcome) → LeadsToSource old.graph.edges node source
     → IsReadOfSource source old.devices devices outcome → IsReadBelow old (record old { devices = devices }) node outcome
 read_below old devices node sources.Zeros outcome leads is =
-    let same : record old { devices = devices } ≡ old = ap (λ (ds : List DeviceState). let now : Nodes = record old { devices = ds } in now) is.1 in
+    let same : record old { devices = devices } ≡ old = ap (λ (ds : List DeviceSeen). let now : Nodes = record old { devices = ds } in now) is.1 in
     subst (IsReadBelow old (record old { devices = devices }) node) (sym is.0) same
 read_below old devices node (sources.File file start) outcome leads is = read_at_below old devices node file leads outcome is
 read_below old devices node (sources.Image at file) outcome leads is = read_at_below old devices node file leads outcome is
 
 -- a read of nothing
-pub unread : (source : Source) (devices : List DeviceState) → IsReadOfSource source devices devices Good
+pub unread : (source : Source) (devices : List DeviceSeen) → IsReadOfSource source devices devices Good
 unread sources.Zeros devices = (refl, refl)
 unread (sources.File file start) devices = refl
 unread (sources.Image at file) devices = refl
@@ -112,8 +112,8 @@ source_in_leads nodes (suc turns) node place =
     by (Found source) leads rest = leads
     by (Below next) leads rest = leads_to_source nodes.graph.edges node next (source_in turns nodes next place) leads (rest next)
 
-pub source_leads : (nodes : Nodes) (node place : ℕ) → LeadsToSource nodes.graph.edges node (source_of nodes node place)
-unfolding source_of
+pub source_leads : (nodes : Nodes) (node place : ℕ) → LeadsToSource nodes.graph.edges node (source_at nodes node place)
+unfolding source_at
 source_leads nodes node place = source_in_leads nodes 64 node place
 
 -- ---- a piece of an image that was stopped before its first byte
@@ -127,7 +127,7 @@ module _ (old new : Nodes) (node : ℕ) (dev : DevNo) (count : ℕ) where
 
   stopped_rest : (rest : Option ℕ) → IsRestRead rest old new node (Io dev count) → StoppedBelow old new node dev count
   stopped_rest None is = absurd is
-  stopped_rest (Some start) is = stopped_source (source_of old node start) (source_leads old node start) is
+  stopped_rest (Some start) is = stopped_source (source_at old node start) (source_leads old node start) is
 
   -- a device that the node leads to stopped it
   pub stopped_piece : (fits : ℕ → Type 0) (own rest : Option ℕ) (n : ℕ) (outcome : Outcome) (wrote : WritesImage fits own rest old new node n outcome)

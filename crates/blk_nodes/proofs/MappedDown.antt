@@ -19,11 +19,11 @@ use Rattle.blk_nodes.specs.Contents.{disk_of}
 use Rattle.blk_nodes.specs.Copying.{AtEach, AtSome, GoesWhole, HasRoomIn, IsBeside, IsMappedAt, IsRoomInEach, LacksRoom, LacksRoomIn, StopsUnread, LeavesRest, MapsNext, MapsEach, images_met_in, puts_below}
 use Rattle.blk_nodes.specs.Found.{IsReadOfSource}
 use Rattle.blk_nodes.specs.Joined.{IsJoined}
-use Rattle.blk_nodes.specs.Nodes.{Nodes, DeviceState, AreTold, row_at, size_by, size_of, file_of}
+use Rattle.blk_nodes.specs.Nodes.{Nodes, DeviceSeen, AreTold, row_at, size_by, node_size, file_of}
 use Rattle.blk_nodes.specs.Parts.{OfImage, IsImage}
 use Rattle.blk_nodes.specs.Reading.{HaveRisen, IsReadBelow, LeadsTo, ReadsDisk}
-use Rattle.blk_nodes.specs.Sources.{step_of, source_of}
-use Rattle.blk_nodes.specs.Writing.{MayWrite, WritesPiece, LeavesNodes, taken_by}
+use Rattle.blk_nodes.specs.Sources.{step_of, source_at}
+use Rattle.blk_nodes.specs.Writing.{MayWriteThrough, WritesPiece, LeavesNodes, taken_by}
 use Rattle.blk_nodes.specs.declared.source.Step.TheVariants.{Below}
 use Rattle.blk_nodes.proofs.Copied.{IsOver, IsPutInto, over_below, below_size, below_reads, met_on, met_apart, met_into, put_into, into_still, may_still, room_still, written, goes_whole, mapped_after, each_so, each_both, one_leaves, then_leaves}
 use Rattle.blk_nodes.proofs.CopiedDisks.{with_same, with_taken, beside_stays, chain_stays}
@@ -79,10 +79,10 @@ module _ (old : Nodes) (joined : IsJoined old) (turns left node next : ℕ) (spa
   pub each_here : (P : ℕ → Type 0) → puts_here ≡ true → AtEach P all_ones → P next
   each_here P is all = let both : AtEach P (next ∷ below_ones) = subst (AtEach P) (met true is) all in both.0
 
-  pub inside_below : end_of span ≤ size_of old node → end_of span ≤ size_of old next
+  pub inside_below : end_of span ≤ node_size old node → end_of span ≤ node_size old next
   inside_below inside = let same = below_size old joined node span.start next over in omega (arith, inside, same)
 
-  pub read_below : (bytes : List ℕ) → IsWithinCluster 65536 span → end_of span ≤ size_of old node
+  pub read_below : (bytes : List ℕ) → IsWithinCluster 65536 span → end_of span ≤ node_size old node
       → (AreTold old.devices → bytes ≡ bytes_at (disk_of old node) span.start span.len) → AreTold old.devices → bytes ≡ bytes_at (disk_of old next) span.start span.len
   read_below bytes block inside read told =
       read told ∙ below_reads old joined node span.start next over told span.start span.len refl (omega (arith, block)) (omega (arith, inside))
@@ -125,9 +125,9 @@ module _ (old : Nodes) (joined : IsJoined old) (turns left node next : ℕ) (spa
   module _ (mid : Nodes) (joined_mid : IsJoined mid) (bytes : List ℕ) (below : Outcome) (maps : MapsEach below_ones old mid span bytes below)
       (rest : LeavesRest below_ones old mid below) (disk : AreTold old.devices → disk_of mid next ≡ disk_of old next)
       (disks : AreTold old.devices → (other : ℕ) → AtEach (IsBeside old other) below_ones → disk_of mid other ≡ disk_of old other)
-      (may : AtEach (MayWrite old) all_ones) where
-    may_below : AtEach (MayWrite old) below_ones
-    may_below = each_below (MayWrite old) may
+      (may : AtEach (MayWriteThrough old) all_ones) where
+    may_below : AtEach (MayWriteThrough old) below_ones
+    may_below = each_below (MayWriteThrough old) may
 
     next_apart : AtEach (λ n. next ≢ n) below_ones
     next_apart = met_apart old span.start joined left next
@@ -178,13 +178,13 @@ module _ (old : Nodes) (joined : IsJoined old) (turns left node next : ℕ) (spa
       into_mid : IsPutInto mid next span.start
       into_mid = into_still old mid below_ones below rest next span.start next_apart into
 
-      pub may_put : MayWrite mid next
-      may_put = may_still old mid below_ones below rest next next_apart (each_here (MayWrite old) is may)
+      pub may_put : MayWriteThrough mid next
+      may_put = may_still old mid below_ones below rest next next_apart (each_here (MayWriteThrough old) is may)
 
       pub image_put : IsImage mid next
       image_put = of_image (row_at mid next) into_mid.row into_mid.image (λ _. Unit {0}) into_mid.there into_mid.driver tt
 
-      pub inside_put : end_of span ≤ size_of old node → end_of span ≤ size_of mid next
+      pub inside_put : end_of span ≤ node_size old node → end_of span ≤ node_size mid next
       inside_put inside = let within = inside_below inside in let same = rest.sizes next in omega (arith, within, same)
 
       module _ (room : AtEach (HasRoomIn old span) all_ones) (new : Nodes) (joined_new : IsJoined new) (outcome : Outcome)
@@ -219,7 +219,7 @@ module _ (old : Nodes) (joined : IsJoined old) (turns left node next : ℕ) (spa
         pub rest_on : LeavesRest all_ones old new outcome
         rest_on = subst (λ (l : List ℕ). LeavesRest l old new outcome) (sym (met true is)) leaves_all
 
-        module _ (count : length bytes ≡ span.len) (inside : end_of span ≤ size_of old node) (block : IsWithinCluster 65536 span)
+        module _ (count : length bytes ≡ span.len) (inside : end_of span ≤ node_size old node) (block : IsWithinCluster 65536 span)
             (read : AreTold old.devices → bytes ≡ bytes_at (disk_of old node) span.start span.len)
             (put : AreTold mid.devices → disk_of new next ≡ with_bytes (disk_of mid next) span.start (taken_by outcome bytes)) where
           -- the image's disk has these bytes already
@@ -228,7 +228,7 @@ module _ (old : Nodes) (joined : IsJoined old) (turns left node next : ℕ) (spa
               let told_mid = rest.told told in
               let within = inside_put inside in
               let size = length_disk mid joined_mid told_mid next into_mid.row into_mid.there in
-              let sized : size_of mid next ≡ into_mid.row.size = ap size_by into_mid.there in
+              let sized : node_size mid next ≡ into_mid.row.size = ap size_by into_mid.there in
               put told_mid
               ∙ with_taken outcome (disk_of mid next) span.start bytes whole
               (with_same (disk_of mid next) span.start span.len bytes
@@ -237,7 +237,7 @@ module _ (old : Nodes) (joined : IsJoined old) (turns left node next : ℕ) (spa
           pub disk_on : AreTold old.devices → disk_of new node ≡ disk_of old node
           disk_on told =
               chain_stays old new joined joined_new (next ∷ below_ones) outcome leaves_all node span.start next over
-              (subst (AtEach (λ n. node ≢ n)) (met true is) all_apart) (subst (AtEach (MayWrite old)) (met true is) may) (into, met_into old span.start left next)
+              (subst (AtEach (λ n. node ≢ n)) (met true is) all_apart) (subst (AtEach (MayWriteThrough old)) (met true is) may) (into, met_into old span.start left next)
               (own told ∙ disk told)
 
           pub disks_on : AreTold old.devices → (other : ℕ) → AtEach (IsBeside old other) all_ones → disk_of new other ≡ disk_of old other
@@ -250,20 +250,20 @@ module _ (old : Nodes) (joined : IsJoined old) (turns left node next : ℕ) (spa
 
 -- ---- a whole read
 
-told_risen : (old new : List DeviceState) → HaveRisen old new → AreTold old → AreTold new
+told_risen : (old new : List DeviceSeen) → HaveRisen old new → AreTold old → AreTold new
 told_risen [] [] risen told d there = absurd (Contains-nil d there)
 told_risen [] (b ∷ new) risen told d there = absurd risen
 told_risen (a ∷ old) [] risen told d there = absurd risen
 told_risen (a ∷ old) (b ∷ new) risen told d there = elim (Contains-cases b new d there) [
   | inl here ↦
-      let content : b.content ≡ a.content = ap (λ (x : DeviceState). x.content) risen.0.same in
+      let content : b.content ≡ a.content = ap (λ (x : DeviceSeen). x.content) risen.0.same in
       let was : is_some a.content ≡ true = told a (Contains-here a old) in
-      ap (λ (x : DeviceState). is_some x.content) here ∙ ap (λ (x : Option (List ℕ)). is_some x) content ∙ was
+      ap (λ (x : DeviceSeen). is_some x.content) here ∙ ap (λ (x : Option (List ℕ)). is_some x) content ∙ was
   | inr behind ↦ told_risen old new risen.1 (λ x at. told x (Contains-there a old x at)) d behind
 ]
 
 -- where counts alone rose
-pub leaves_risen : (old : Nodes) (devices : List DeviceState) (images : List ℕ) (outcome : Outcome) → HaveRisen old.devices devices → (outcome ≡ Good → ⊥)
+pub leaves_risen : (old : Nodes) (devices : List DeviceSeen) (images : List ℕ) (outcome : Outcome) → HaveRisen old.devices devices → (outcome ≡ Good → ⊥)
     → LeavesRest images old (record old { devices = devices }) outcome
 leaves_risen old devices images outcome risen bad = record {
   graph = refl;
@@ -289,7 +289,7 @@ module _ (old : Nodes) (images : List ℕ) (node : ℕ) (span : Extent) (room : 
   room_for_all good = subst (IsRoomInEach images old span) good has
 
 pub read_stopped_unread : (old new : Nodes) (node : ℕ) (span : Extent) (outcome : Outcome) → (outcome ≡ Good → ⊥) → IsReadBelow old new node outcome
-    → IsReadOfSource (source_of old node span.start) old.devices new.devices outcome → new ≡ record old { devices = new.devices } → HaveRisen old.devices new.devices
+    → IsReadOfSource (source_at old node span.start) old.devices new.devices outcome → new ≡ record old { devices = new.devices } → HaveRisen old.devices new.devices
     → StopsUnread old new node span outcome
 read_stopped_unread old new node span outcome bad read source kept risen = by outcome refl read
   where

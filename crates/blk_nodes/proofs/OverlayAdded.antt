@@ -5,7 +5,7 @@ use Rattle.std.specs.Option.{option_map}
 use Rattle.std.proofs.lemmas.Bool.{eqb-true, eq-eqb}
 use Rattle.std.proofs.lemmas.List.Elements.{Contains-push_cases}
 use Rattle.blk_graph.specs.Edits.{IsLone, takes_place, is_edge, child_of, with_edge}
-use Rattle.blk_graph.specs.Graph.{Graph, HasNode, IsSoundGraph, with_node as with_graph_node}
+use Rattle.blk_graph.specs.Graph.{Graph, HasNode, IsSoundGraph, with_node}
 use Rattle.blk_graph.specs.Permissions.{node_edge}
 use Rattle.blk_graph.specs.declared.edge.Edge.{Edge}
 use Rattle.blk_graph.specs.declared.edge.Parent.TheVariants.{Node}
@@ -20,9 +20,9 @@ use Rattle.blk_graph.proofs.RuleLemmas.{find-none}
 use Rattle.q2_format.specs.Contents.{image_disk}
 use Rattle.q2_image.specs.Image.{Known}
 use Rattle.blk_nodes.specs.Adding.{file_edge}
-use Rattle.blk_nodes.specs.Contents.{below, disk_of, bytes_of}
+use Rattle.blk_nodes.specs.Contents.{disk_under, disk_of, bytes_of}
 use Rattle.blk_nodes.specs.Joined.{IsFile, HasSize, IsOverlay, IsJoined}
-use Rattle.blk_nodes.specs.Nodes.{Nodes, DeviceState, row_at, size_by, size_of, file_of, backing_of, node_kind}
+use Rattle.blk_nodes.specs.Nodes.{Nodes, DeviceSeen, row_at, size_by, node_size, file_of, backing_of, node_kind}
 use Rattle.blk_nodes.specs.Overlays.{Asked, backing_node, backing_size, backing_stop, format_edges, copying_row, qcow2_row, with_children, with_qcow2, IsOpened, IsOpening, MayBeAdded, IsQcow2Stop}
 use Rattle.blk_nodes.specs.Reading.{HaveRisen}
 use Rattle.blk_nodes.specs.declared.backing.Backing.{Backing}
@@ -99,19 +99,19 @@ other_children edges id file (Some over) n role other =
 
 -- a backing node that fits has a disk of the image's size
 fits_size : (nodes : Nodes) (image : Known) (over : ℕ) → IsJoined nodes → HasNode nodes.graph over
-    → backing_stop image (said.Node over) (size_of nodes over) ≡ None → HasSize nodes over image.header.size
+    → backing_stop image (said.Node over) (node_size nodes over) ≡ None → HasSize nodes over image.header.size
 fits_size nodes image over joined has fits =
     let found = some_row (row_at nodes over) (joined.there over has) in
-    let size : size_of nodes over ≡ found.0.size = ap size_by found.1 in
-    record { row = found.0; there = found.1; is = sym size ∙ same (size_of nodes over == image.header.size) refl fits }
+    let size : node_size nodes over ≡ found.0.size = ap size_by found.1 in
+    record { row = found.0; there = found.1; is = sym size ∙ same (node_size nodes over == image.header.size) refl fits }
   where
-    same : (b : Bool) → (size_of nodes over == image.header.size) ≡ b → cond b None (Some stops.SizeDiffers) ≡ None → size_of nodes over ≡ image.header.size
-    same true is fits = eqb-true (size_of nodes over) image.header.size is
+    same : (b : Bool) → (node_size nodes over == image.header.size) ≡ b → cond b None (Some stops.SizeDiffers) ≡ None → node_size nodes over ≡ image.header.size
+    same true is fits = eqb-true (node_size nodes over) image.header.size is
     same false is fits = absurd (cc fits)
 
 -- a backing node is there, and another than the new one
 pub backing_there : (graph : Graph) (id : ℕ) (name : List ℕ) (kind : NodeKind) (found : Option ℕ) → (HasNode graph id → ⊥) → IfSome found (HasNode graph)
-    → IfSome found (λ over. HasNode (with_graph_node graph id name kind) over × (over ≢ id))
+    → IfSome found (λ over. HasNode (with_node graph id name kind) over × (over ≢ id))
 backing_there graph id name kind None absent has = tt
 backing_there graph id name kind (Some over) absent has =
     (has_after graph id name kind over has, λ same. absent (subst (HasNode graph) same has))
@@ -177,7 +177,7 @@ module _ (nodes : Nodes) (id : ℕ) (name : List ℕ) (row : Row) (child : ℕ) 
 
 -- a node that copies on read
 module _ (nodes : Nodes) (id child size : ℕ) (name : List ℕ) (is_read_only : Bool) (joined : IsJoined nodes) (absent : HasNode nodes.graph id → ⊥) (small : id < 64)
-    (lone : IsLone nodes.graph.edges id) (has : HasNode nodes.graph child) (is : size_of nodes child ≡ size) where
+    (lone : IsLone nodes.graph.edges id) (has : HasNode nodes.graph child) (is : node_size nodes child ≡ size) where
   abbrev copying : Nodes
   copying = with_children nodes id name (copying_row size is_read_only) child None
 
@@ -204,7 +204,7 @@ module _ (nodes : Nodes) (id child size : ℕ) (name : List ℕ) (is_read_only :
   disk_copying sound =
       unfolds copying (joined_copying sound) id (copying_row size is_read_only)
       (formed_row nodes id name (copying_row size is_read_only) child None joined absent small lone)
-      ∙ ap (below (disk_of copying)) (formed_file nodes id name (copying_row size is_read_only) child None joined absent small lone)
+      ∙ ap (disk_under (disk_of copying)) (formed_file nodes id name (copying_row size is_read_only) child None joined absent small lone)
       ∙ disks_copying child has
 
 -- a qcow2 node
@@ -240,7 +240,7 @@ module _ (nodes : Nodes) (asked : Asked) (id : ℕ) (image : Known) (joined : Is
       opened = opened.on.opened;
       known = λ device bytes held told.
           let same : opened.device ≡ device = cc (sym opened.held ∙ held) in
-          opened.on.known bytes (ap (λ (d : DeviceState). d.content) same ∙ told);
+          opened.on.known bytes (ap (λ (d : DeviceSeen). d.content) same ∙ told);
       backing = λ node edge. formed_size nodes id asked.name row asked.file over joined absent small lone node image.header.size
           (over_size asked.backing node has fits (sym own_backing ∙ edge));
     }
@@ -252,25 +252,25 @@ module _ (nodes : Nodes) (asked : Asked) (id : ℕ) (image : Known) (joined : Is
     disks_qcow2 : (other : ℕ) → HasNode nodes.graph other → disk_of made other ≡ disk_of nodes other
     disks_qcow2 = disks_formed nodes id asked.name row asked.file over joined absent small lone
 
-    below_stays : (node : Option ℕ) → IfSome node (HasNode nodes.graph) → below (disk_of made) node ≡ below (disk_of nodes) node
+    below_stays : (node : Option ℕ) → IfSome node (HasNode nodes.graph) → disk_under (disk_of made) node ≡ disk_under (disk_of nodes) node
     below_stays None is = refl
     below_stays (Some node) is = disks_qcow2 node is
 
-    disk_qcow2 : disk_of made id ≡ image_disk (bytes_of nodes asked.file) (below (disk_of nodes) over)
+    disk_qcow2 : disk_of made id ≡ image_disk (bytes_of nodes asked.file) (disk_under (disk_of nodes) over)
     disk_qcow2 =
         unfolds made joined_qcow2 id row (formed_row nodes id asked.name row asked.file over joined absent small lone)
-        ∙ ap (λ (file : Option ℕ). image_disk (below (bytes_of made) file) (below (disk_of made) (backing_of made id)))
+        ∙ ap (λ (file : Option ℕ). image_disk (disk_under (bytes_of made) file) (disk_under (disk_of made) (backing_of made id)))
         (formed_file nodes id asked.name row asked.file over joined absent small lone)
-        ∙ ap (λ (node : Option ℕ). image_disk (bytes_of nodes asked.file) (below (disk_of made) node)) own_backing
+        ∙ ap (λ (node : Option ℕ). image_disk (bytes_of nodes asked.file) (disk_under (disk_of made) node)) own_backing
         ∙ ap (image_disk (bytes_of nodes asked.file)) (below_stays over has)
 
     -- the same where counts of devices have risen meanwhile
-    module _ (devices : List DeviceState) (risen : HaveRisen nodes.devices devices) where
+    module _ (devices : List DeviceSeen) (risen : HaveRisen nodes.devices devices) where
       pub joined_opened : IsJoined (record made { devices = devices })
       joined_opened = joined_after made devices risen joined_qcow2
 
       pub disks_opened : (other : ℕ) → HasNode nodes.graph other → disk_of (record made { devices = devices }) other ≡ disk_of nodes other
       disks_opened other there = disks_risen made devices risen other ∙ disks_qcow2 other there
 
-      pub disk_opened : disk_of (record made { devices = devices }) id ≡ image_disk (bytes_of nodes asked.file) (below (disk_of nodes) over)
+      pub disk_opened : disk_of (record made { devices = devices }) id ≡ image_disk (bytes_of nodes asked.file) (disk_under (disk_of nodes) over)
       disk_opened = disks_risen made devices risen id ∙ disk_qcow2

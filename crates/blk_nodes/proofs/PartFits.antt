@@ -15,7 +15,7 @@ use Rattle.q2_image.specs.Reading.{IsHost}
 use Rattle.q2_image.specs.Room.{WriteFits, ZerosFit, PartZerosFit, WriteFitsBy, ZerosFitBy, cluster_of, entry_for, is_whole}
 use Rattle.q2_image.specs.Writing.{PutFits, ZeroFits, own_end, own_place}
 use Rattle.blk_nodes.specs.Changing.{ImageChange, ChangesAround, ChangesInPlace, ChangesPart, ClearsCluster, IsImageWritten, IsZeroed, ZeroesBy, ZeroesPart}
-use Rattle.blk_nodes.specs.Nodes.{DeviceState, device_in}
+use Rattle.blk_nodes.specs.Nodes.{DeviceSeen, device_in}
 use Rattle.blk_nodes.specs.Parts.{OfImage, HasPiece, IsPieceOf, IsDiskFound, WritesPart, row_in}
 use Rattle.blk_nodes.specs.Writing.{own_place_by, rest_place, zeros_place}
 use Rattle.blk_nodes.specs.declared.part.Part.{Part}
@@ -46,7 +46,7 @@ no_place image span (entries.Host host) none = absurd (none tt)
 no_place image span entries.Compressed none = refl
 no_place image span entries.Reserved none = refl
 
-around_part : (IsDisk : List ℕ → Type 0) (e : L2Entry) → (IsHost e → ⊥) → (span : Extent) (bytes : List ℕ) (image now : Known) (before after : DeviceState) (o : Outcome)
+around_part : (IsDisk : List ℕ → Type 0) (e : L2Entry) → (IsHost e → ⊥) → (span : Extent) (bytes : List ℕ) (image now : Known) (before after : DeviceSeen) (o : Outcome)
     → ChangesAround IsDisk span bytes image now before after o → ChangesPart IsDisk e span bytes image now before after o
 around_part IsDisk entries.Unallocated none span bytes image now before after o is = is
 around_part IsDisk (entries.Zero host) none span bytes image now before after o is = is
@@ -81,7 +81,7 @@ module _ (span : Extent) (size : ℕ) (some : 0 < span.len) (block : span.start 
   ]
 
 -- the read of the rest of a piece's cluster begins with the cluster
-pub rest_begins : (rows : List (Option Row)) (devices : List DeviceState) (part : Part) (image : Known) → IsPieceOf rows devices part image → (own : Option ℕ) → own ≡ None
+pub rest_begins : (rows : List (Option Row)) (devices : List DeviceSeen) (part : Part) (image : Known) → IsPieceOf rows devices part image → (own : Option ℕ) → own ≡ None
     → part.span.len < part.whole.len → rest_place own (is_whole image part.span) image part.span ≡ Some part.whole.start
 rest_begins rows devices part image piece own none less =
     let bits = size_bits rows devices part image piece in
@@ -91,7 +91,7 @@ rest_begins rows devices part image piece own none less =
     ap (λ (o : Option ℕ). rest_place o (is_whole image part.span) image part.span) none ∙ ap (λ (b : Bool). rest_place None b image part.span) test
     ∙ ap (λ (start : ℕ). Some start) (base_is rows devices part image piece ∙ sym (start_is rows devices part image piece))
 
-module _ (rows left : List (Option Row)) (old new : List DeviceState) (part : Part) (bytes : List ℕ) (outcome : Outcome) (has : HasPiece rows old part) where
+module _ (rows left : List (Option Row)) (old new : List DeviceSeen) (part : Part) (bytes : List ℕ) (outcome : Outcome) (has : HasPiece rows old part) where
   -- what is known of the disk's bytes
   abbrev IsIts : List ℕ → Type 0
   IsIts = IsDiskFound old part
@@ -208,7 +208,7 @@ module _ (rows left : List (Option Row)) (old new : List DeviceState) (part : Pa
   -- zeros of a part that are written as other bytes are
   module _ (less : part.span.len ≢ part.whole.len) (e : L2Entry) (plain : (image : Known) (capacity : ℕ) → WriteFitsBy e image part.span capacity → PartZerosFit e image part.span capacity)
       (back : (image : Known) (capacity : ℕ) → PartZerosFit e image part.span capacity → WriteFitsBy e image part.span capacity)
-      (keeps : (image now : Known) (before after : DeviceState) (o : Outcome) → ChangesPart IsIts e part.span bytes image now before after o
+      (keeps : (image now : Known) (before after : DeviceSeen) (o : Outcome) → ChangesPart IsIts e part.span bytes image now before after o
       → ZeroesPart IsIts e part.span image now before after o) (is : OfImage (row_in rows part.node) (λ image. e ≡ entry_in image cluster))
       (w : WritesPart (λ image. WriteFits image part.span) (λ image. own_place_by (entry_for image part.span) image part.span) written rows left old new part bytes outcome) where
     abbrev ByWrite : Known → ℕ → Type 0
@@ -249,7 +249,7 @@ module _ (rows left : List (Option Row)) (old new : List DeviceState) (part : Pa
       let entry : entry_for image part.span ≡ entries.Zero host = entry_is rows old part image piece ∙ sym is in
       subst (λ (b : Bool). ZerosFitBy b image part.span capacity) (sym test) (subst (λ (e : L2Entry). PartZerosFit e image part.span capacity) (sym entry) tt)
 
-  pub zero_left_change : (image : Known) (host : ℕ) (device : DeviceState) → IsPieceOf rows old part image → part.span.len ≢ part.whole.len
+  pub zero_left_change : (image : Known) (host : ℕ) (device : DeviceSeen) → IsPieceOf rows old part image → part.span.len ≢ part.whole.len
       → entries.Zero host ≡ entry_in image cluster → IsZeroed IsIts part.span image image device device Good
   zero_left_change image host device piece less is =
       let bits = size_bits rows old part image piece in
@@ -286,13 +286,13 @@ of_part image span capacity mappings.Unallocated none fits = fits
 of_part image span capacity (mappings.Zero host) none fits = absurd (none host refl)
 of_part image span capacity (mappings.Host host) none fits = fits
 
-rest_zeroed : (IsDisk : List ℕ → Type 0) (m : Mapping) → ((host : ℕ) → m ≡ mappings.Zero host → ⊥) → (span : Extent) (image now : Known) (before after : DeviceState) (o : Outcome)
+rest_zeroed : (IsDisk : List ℕ → Type 0) (m : Mapping) → ((host : ℕ) → m ≡ mappings.Zero host → ⊥) → (span : Extent) (image now : Known) (before after : DeviceSeen) (o : Outcome)
     → ChangesPart IsDisk (entry_of m) span (replicate span.len 0) image now before after o → ZeroesPart IsDisk (entry_of m) span image now before after o
 rest_zeroed IsDisk mappings.Unallocated none span image now before after o is = is
 rest_zeroed IsDisk (mappings.Zero host) none span image now before after o is = absurd (none host refl)
 rest_zeroed IsDisk (mappings.Host host) none span image now before after o is = is
 
-pub zero_rest_as : (rows left : List (Option Row)) (old new : List DeviceState) (part : Part) (outcome : Outcome) (has : HasPiece rows old part)
+pub zero_rest_as : (rows left : List (Option Row)) (old new : List DeviceSeen) (part : Part) (outcome : Outcome) (has : HasPiece rows old part)
     → part.span.len ≢ part.whole.len → (m : Mapping) → ((host : ℕ) → m ≡ mappings.Zero host → ⊥)
     → OfImage (row_in rows part.node) (λ image. entry_of m ≡ entry_in image (part.span.start / 65536))
     → WritesPart (λ image. WriteFits image part.span) (λ image. own_place_by (entry_for image part.span) image part.span) (IsImageWritten (IsDiskFound old part) part.span (replicate part.span.len 0)) rows left old new part (replicate part.span.len 0) outcome
@@ -301,7 +301,7 @@ zero_rest_as rows left old new part outcome has less m none seen w =
     zero_part_as rows left old new part (replicate part.span.len 0) outcome has less (entry_of m) (λ image capacity fits. to_part image part.span capacity m none fits)
     (λ image capacity fits. of_part image part.span capacity m none fits) (rest_zeroed (IsDiskFound old part) m none part.span) seen w
 
-pub zero_left_as : (rows : List (Option Row)) (old : List DeviceState) (part : Part) (has : HasPiece rows old part) → part.span.len ≢ part.whole.len → (host : ℕ)
+pub zero_left_as : (rows : List (Option Row)) (old : List DeviceSeen) (part : Part) (has : HasPiece rows old part) → part.span.len ≢ part.whole.len → (host : ℕ)
     → OfImage (row_in rows part.node) (λ image. entries.Zero host ≡ entry_in image (part.span.start / 65536))
     → WritesPart (λ image. ZerosFit image part.span) (λ image. zeros_place (is_whole image part.span) image part.span) (IsZeroed (IsDiskFound old part) part.span) rows rows old old part (replicate part.span.len 0) Good
 zero_left_as rows old part has less host seen =

@@ -25,7 +25,7 @@ use Rattle.blk_nodes.specs.Reading.{HaveRisen, IsReadAt}
 use Rattle.blk_nodes.specs.Walk.{IsKnownAt}
 use Rattle.blk_nodes.specs.declared.source.Source.{Source}
 use Rattle.blk_nodes.specs.declared.source.Source.TheVariants as sources
-use Rattle.blk_nodes.specs.Nodes.{DeviceState, AreTold, device_in}
+use Rattle.blk_nodes.specs.Nodes.{DeviceSeen, AreTold, device_in}
 use Rattle.blk_nodes.specs.Parts.{OfImage, HasPiece, IsPieceOf, IsLaid, HasFound, IsDiskFound, CallsRow, IsDiskAfter, ReadsRest, WritesPart, row_in}
 use Rattle.blk_nodes.specs.Writing.{taken_by, FitsAt, HasRoomAt, HasRoomBy, HasImageCause, IsTornAt}
 use Rattle.blk_nodes.specs.declared.part.Part.{Part}
@@ -47,7 +47,7 @@ pub set_same : (rows : List (Option Row)) (node : ℕ) (found : Option Row) → 
 set_same rows node found below is = ap (set rows node) (sym is) ∙ set-get_or rows node None
 
 -- the cause of a call of a whole cluster, of whatever bytes
-pub cause_of : (fits : Type 0) (m n : ℕ) (old new : DeviceState) (image now : Known) (o : Outcome)
+pub cause_of : (fits : Type 0) (m n : ℕ) (old new : DeviceSeen) (image now : Known) (o : Outcome)
     → HasImageCause fits None m old new image now o → HasImageCause fits None n old new image now o
 cause_of fits m n old new image now Good is = is
 cause_of fits m n old new image now (Torn done dev count) is = absurd is.1
@@ -55,11 +55,11 @@ cause_of fits m n old new image now (Io dev count) is = is
 cause_of fits m n old new image now (NoSpace dev) is = is
 
 -- a piece of an image, and the file that is known
-module _ (rows : List (Option Row)) (old : List DeviceState) (part : Part) (image : Known) (piece : IsPieceOf rows old part image) where
-  known_of : (device : DeviceState) (b : List ℕ) → device_in old part.file ≡ Some device → device.content ≡ Some b → IsImageOf b image
+module _ (rows : List (Option Row)) (old : List DeviceSeen) (part : Part) (image : Known) (piece : IsPieceOf rows old part image) where
+  known_of : (device : DeviceSeen) (b : List ℕ) → device_in old part.file ≡ Some device → device.content ≡ Some b → IsImageOf b image
   known_of = piece.known
 
-  pub size_in : (device : DeviceState) (b : List ℕ) → device_in old part.file ≡ Some device → device.content ≡ Some b → (header_of b).size ≡ image.header.size
+  pub size_in : (device : DeviceSeen) (b : List ℕ) → device_in old part.file ≡ Some device → device.content ≡ Some b → (header_of b).size ≡ image.header.size
   size_in device b held content = ap (λ (h : Header). h.size) (known_of device b held content).header
 
   pub start_is : part.whole.start ≡ part.span.start - part.span.start % 65536
@@ -136,7 +136,7 @@ laid old [] at within some = absurd (omega (arith, some))
 laid old (x ∷ xs) at within some = sym (overwritten-within old at (x ∷ xs) within)
 
 -- the cluster of a piece, put together
-pub gathered : (rows : List (Option Row)) (devices : List DeviceState) (part : Part) → HasPiece rows devices part → (old found bytes new : List ℕ)
+pub gathered : (rows : List (Option Row)) (devices : List DeviceSeen) (part : Part) → HasPiece rows devices part → (old found bytes new : List ℕ)
     → length old ≡ 65536 → new ≡ take (part.span.start % 65536) old ++ bytes ++ drop (part.span.start % 65536 + length bytes) old → length bytes ≡ part.span.len
     → (part.span.len < part.whole.len → take part.whole.len old ≡ found) → HasFound part.whole.len (part.span.start % 65536) bytes found new
 gathered rows devices part has old found bytes new whole is len read =
@@ -165,7 +165,7 @@ length-laid : (old bytes : List ℕ) (at : ℕ) → at + length bytes ≤ length
 length-laid old [] at within = refl
 length-laid old (x ∷ xs) at within = length-overwritten old at (x ∷ xs) ∙ omega (arith, within)
 
-pub laid_part : (rows : List (Option Row)) (devices : List DeviceState) (part : Part) → HasPiece rows devices part → (old bytes new : List ℕ)
+pub laid_part : (rows : List (Option Row)) (devices : List DeviceSeen) (part : Part) → HasPiece rows devices part → (old bytes new : List ℕ)
     → length old ≡ 65536 → new ≡ take (part.span.start % 65536) old ++ bytes ++ drop (part.span.start % 65536 + length bytes) old → length bytes ≡ part.span.len
     → drop part.whole.len old ≡ replicate (65536 - part.whole.len) 0 → IsLaid part.whole.len (part.span.start % 65536) bytes new
 laid_part rows devices part has old bytes new whole is len zeros =
@@ -189,7 +189,7 @@ laid_part rows devices part has old bytes new whole is len zeros =
     }
 
 -- a call on the image of a piece
-module _ (rows left : List (Option Row)) (old new : List DeviceState) (part : Part) (bytes all_bytes : List ℕ) (outcome : Outcome) (fits : Known → ℕ → Type 0) (own : Known → Option ℕ)
+module _ (rows left : List (Option Row)) (old new : List DeviceSeen) (part : Part) (bytes all_bytes : List ℕ) (outcome : Outcome) (fits : Known → ℕ → Type 0) (own : Known → Option ℕ)
     (change : ImageChange) (place : ℕ) (slot : Option Row) (has : HasPiece rows old part) (below : part.node < length rows)
     (call : CallsRow part.file fits own change (row_in rows part.node) slot old new place all_bytes outcome)
     (is_left : left ≡ set rows part.node slot) where
@@ -243,7 +243,7 @@ module _ (rows left : List (Option Row)) (old new : List DeviceState) (part : Pa
   }
 
 -- in place
-pub own_wrote : (rows left : List (Option Row)) (old new : List DeviceState) (part : Part) (bytes : List ℕ) (outcome : Outcome) (slot : Option Row) → HasPiece rows old part
+pub own_wrote : (rows left : List (Option Row)) (old new : List DeviceSeen) (part : Part) (bytes : List ℕ) (outcome : Outcome) (slot : Option Row) → HasPiece rows old part
     → part.node < length rows
     → CallsRow part.file (λ image capacity. own_end image part.span ≤ capacity) (λ image. Some (own_place image part.span)) (ChangesInPlace part.span bytes) (row_in rows part.node) slot old new part.span.start bytes outcome
     → left ≡ set rows part.node slot → length bytes ≡ part.span.len
@@ -261,7 +261,7 @@ own_wrote rows left old new part bytes outcome slot has below call is_left len =
     disk_written b b' backing part.span.start (taken_by outcome bytes) (call.call.call.wrote.disk b b' was now) (omega arith))
 
 -- of a whole cluster
-module _ (rows left : List (Option Row)) (old new : List DeviceState) (part : Part) (outcome : Outcome) (fits : Known → ℕ → Type 0) (change : ImageChange)
+module _ (rows left : List (Option Row)) (old new : List DeviceSeen) (part : Part) (outcome : Outcome) (fits : Known → ℕ → Type 0) (change : ImageChange)
     (slot : Option Row) (has : HasPiece rows old part) (below : part.node < length rows) (all_bytes bytes : List ℕ)
     (call : CallsRow part.file fits (λ _. None) change (row_in rows part.node) slot old new (part.span.start / 65536 * 65536) all_bytes outcome)
     (is_left : left ≡ set rows part.node slot)
@@ -296,7 +296,7 @@ module _ (rows left : List (Option Row)) (old new : List DeviceState) (part : Pa
       by outcome call.call.call.cause all b b' was now size disk)
 
 -- the same call by other words for the change
-calls_as : (file : ℕ) (fits : Known → ℕ → Type 0) (own : Known → Option ℕ) (change to : ImageChange) (old new : Option Row) (before after : List DeviceState) (place : ℕ)
+calls_as : (file : ℕ) (fits : Known → ℕ → Type 0) (own : Known → Option ℕ) (change to : ImageChange) (old new : Option Row) (before after : List DeviceSeen) (place : ℕ)
     (bytes : List ℕ) (outcome : Outcome) (call : CallsRow file fits own change old new before after place bytes outcome)
     → to call.image call.now call.call.before call.call.after outcome → CallsRow file fits own to old new before after place bytes outcome
 calls_as file fits own change to old new before after place bytes outcome call changed = record {
@@ -319,7 +319,7 @@ calls_as file fits own change to old new before after place bytes outcome call c
 }
 
 -- a cluster that was put together is put around the bytes of a part
-around : (IsDisk : List ℕ → Type 0) (part : Extent) (bytes cluster : List ℕ) (image now : Known) (before after : DeviceState) (outcome : Outcome)
+around : (IsDisk : List ℕ → Type 0) (part : Extent) (bytes cluster : List ℕ) (image now : Known) (before after : DeviceSeen) (outcome : Outcome)
     → IsClusterAround IsDisk image part bytes cluster
     → (number : ℕ) → number ≡ cluster_of image part → PutsCluster number cluster image now before after outcome → ChangesAround IsDisk part bytes image now before after outcome
 around IsDisk part bytes cluster image now before after outcome has number is puts =
@@ -332,7 +332,7 @@ around IsDisk part bytes cluster image now before after outcome has number is pu
     by (NoSpace dev) puts = puts
 
 -- a put, of a cluster that was put together
-pub put_wrote : (rows left : List (Option Row)) (old new : List DeviceState) (part : Part) (bytes cluster : List ℕ) (outcome : Outcome) (slot : Option Row) → HasPiece rows old part
+pub put_wrote : (rows left : List (Option Row)) (old new : List DeviceSeen) (part : Part) (bytes cluster : List ℕ) (outcome : Outcome) (slot : Option Row) → HasPiece rows old part
     → part.node < length rows
     → CallsRow part.file (λ image. PutFits image (part.span.start / 65536)) (λ _. None) (PutsCluster (part.span.start / 65536) cluster) (row_in rows part.node) slot old new (part.span.start / 65536 * 65536) cluster outcome
     → left ≡ set rows part.node slot → length bytes ≡ part.span.len → IsLaid part.whole.len (part.span.start % 65536) bytes cluster
@@ -364,7 +364,7 @@ put_wrote rows left old new part bytes cluster outcome slot has below put is_lef
     cluster_wrote rows left old new part outcome fits change slot has below cluster bytes call is_left good
 
 -- a whole cluster that is made to read as zeros
-pub clear_wrote : (rows left : List (Option Row)) (old new : List DeviceState) (part : Part) (outcome : Outcome) (slot : Option Row) → HasPiece rows old part
+pub clear_wrote : (rows left : List (Option Row)) (old new : List DeviceSeen) (part : Part) (outcome : Outcome) (slot : Option Row) → HasPiece rows old part
     → part.node < length rows
     → CallsRow part.file (λ image. ZeroFits image (part.span.start / 65536)) (λ _. None) (ClearsCluster (part.span.start / 65536)) (row_in rows part.node) slot old new (part.span.start / 65536 * 65536) (replicate 65536 0) outcome
     → left ≡ set rows part.node slot → part.span.len ≡ part.whole.len
@@ -384,8 +384,8 @@ clear_wrote rows left old new part outcome slot has below call is_left all_of =
     cluster_wrote rows left old new part outcome fits (ClearsCluster (part.span.start / 65536)) slot has below (replicate 65536 0) zeros call is_left good
 
 -- a part of a cluster that reads as zeros already
-pub left_wrote : (rows : List (Option Row)) (old : List DeviceState) (part : Part) (fits : Known → ℕ → Type 0) (own : Known → Option ℕ) (change : ImageChange)
-    (row : Row) (image : Known) (host : ℕ) (device : DeviceState)
+pub left_wrote : (rows : List (Option Row)) (old : List DeviceSeen) (part : Part) (fits : Known → ℕ → Type 0) (own : Known → Option ℕ) (change : ImageChange)
+    (row : Row) (image : Known) (host : ℕ) (device : DeviceSeen)
     → row_in rows part.node ≡ Some row → row.driver ≡ Qcow2 image → IsPieceOf rows old part image → part.node < length rows
     → entry_in image (part.span.start / 65536) ≡ entries.Zero host → device_in old part.file ≡ Some device → fits image device.capacity
     → change image image device device Good → WritesPart fits own change rows rows old old part (replicate part.span.len 0) Good
@@ -430,11 +430,11 @@ left_wrote rows old part fits own change row image host device there driver is b
 }
 
 -- The same by other words for the room and the place.
-module _ (rows left : List (Option Row)) (old new : List DeviceState) (part : Part) (bytes : List ℕ) (outcome : Outcome) (fits to : Known → ℕ → Type 0) (own place : Known → Option ℕ)
+module _ (rows left : List (Option Row)) (old new : List DeviceSeen) (part : Part) (bytes : List ℕ) (outcome : Outcome) (fits to : Known → ℕ → Type 0) (own place : Known → Option ℕ)
     (change shows : ImageChange) (w : WritesPart fits own change rows left old new part bytes outcome) (there : (capacity : ℕ) → fits w.image capacity → to w.image capacity)
     (back : (capacity : ℕ) → to w.image capacity → fits w.image capacity) (same : own w.image ≡ place w.image)
-    (shown : (now : Known) (before after : DeviceState) (o : Outcome) → change w.image now before after o → shows w.image now before after o) where
-  cause_as : (capacity n : ℕ) (before after : DeviceState) (now : Known) (o : Outcome) → HasImageCause (fits w.image capacity) (own w.image) n before after w.image now o
+    (shown : (now : Known) (before after : DeviceSeen) (o : Outcome) → change w.image now before after o → shows w.image now before after o) where
+  cause_as : (capacity n : ℕ) (before after : DeviceSeen) (now : Known) (o : Outcome) → HasImageCause (fits w.image capacity) (own w.image) n before after w.image now o
       → HasImageCause (to w.image capacity) (place w.image) n before after w.image now o
   cause_as capacity n before after now Good is = (there capacity is.0, is.1)
   cause_as capacity n before after now (Torn done dev count) is = (there capacity is.0, subst (λ (p : Option ℕ). IsTornAt p n done) same is.1, is.2)
@@ -497,7 +497,7 @@ module _ (rows left : List (Option Row)) (old new : List DeviceState) (part : Pa
   }
 
 -- Over a row that was read at a place.
-module _ (rows : List (Option Row)) (old : List DeviceState) (part : Part) (has : HasPiece rows old part) (index : ℕ) (found : Option Row) (same : index ≡ part.node)
+module _ (rows : List (Option Row)) (old : List DeviceSeen) (part : Part) (has : HasPiece rows old part) (index : ℕ) (found : Option Row) (same : index ≡ part.node)
     (below : index < length rows) (is : found ≡ get_or rows index found) where
   there : row_in rows part.node ≡ found
   there = row_found rows index part.node found same below is
@@ -520,7 +520,7 @@ module _ (rows : List (Option Row)) (old : List DeviceState) (part : Part) (has 
   set_at : (slot : Option Row) → set rows index slot ≡ set rows part.node slot
   set_at slot = ap (λ (k : ℕ). set rows k slot) same
 
-  pub own_at : (new : List DeviceState) (bytes : List ℕ) (outcome : Outcome) (slot : Option Row)
+  pub own_at : (new : List DeviceSeen) (bytes : List ℕ) (outcome : Outcome) (slot : Option Row)
       → CallsRow part.file (λ image capacity. own_end image part.span ≤ capacity) (λ image. Some (own_place image part.span)) (ChangesInPlace part.span bytes) found slot old new part.span.start bytes outcome
       → length bytes ≡ part.span.len
       → WritesPart (λ image capacity. own_end image part.span ≤ capacity) (λ image. Some (own_place image part.span)) (ChangesInPlace part.span bytes) rows (set rows index slot) old new part bytes outcome
@@ -532,7 +532,7 @@ module _ (rows : List (Option Row)) (old : List DeviceState) (part : Part) (has 
   pub clear_asks : OfImage found (λ image. (part.span.start / 65536 < clusters_in image) × IsKnownAt part.file old image)
   clear_asks = of_found (λ image. (part.span.start / 65536 < clusters_in image) × IsKnownAt part.file old image) (λ row image piece. (cluster_below image piece, piece.known))
 
-  pub clear_at : (new : List DeviceState) (outcome : Outcome) (slot : Option Row)
+  pub clear_at : (new : List DeviceSeen) (outcome : Outcome) (slot : Option Row)
       → CallsRow part.file (λ image. ZeroFits image (part.span.start / 65536)) (λ _. None) (ClearsCluster (part.span.start / 65536)) found slot old new (part.span.start / 65536 * 65536) (replicate 65536 0) outcome
       → part.span.len ≡ part.whole.len
       → WritesPart (λ image. ZeroFits image (part.span.start / 65536)) (λ _. None) (ClearsCluster (part.span.start / 65536)) rows (set rows index slot) old new part (replicate part.span.len 0) outcome
@@ -548,19 +548,19 @@ good_is (Torn done dev count) is = absurd (cc is)
 good_is (Io dev count) is = absurd (cc is)
 good_is (NoSpace dev) is = absurd (cc is)
 
-pub source_good : (source : Source) (old new : List DeviceState) (o : Outcome) → o ≡ Good → IsReadOfSource source old new o → new ≡ old
+pub source_good : (source : Source) (old new : List DeviceSeen) (o : Outcome) → o ≡ Good → IsReadOfSource source old new o → new ≡ old
 source_good sources.Zeros old new o good read = read.1
 source_good (sources.File file start) old new o good read = subst (IsReadAt file old new) good read
 source_good (sources.Image node file) old new o good read = subst (IsReadAt file old new) good read
 
-good_read : (part : Part) (old new : List DeviceState) (o : Outcome) → o ≡ Good → ReadsRest part old new o → new ≡ old
+good_read : (part : Part) (old new : List DeviceSeen) (o : Outcome) → o ≡ Good → ReadsRest part old new o → new ≡ old
 good_read part old new o good (inl read) = source_good part.source old new o good read.1
 good_read part old new o good (inr both) = both.1
 
-fits_by : (file : ℕ) (devices : List DeviceState) (fits : ℕ → Type 0) (room : Outcome) → room ≡ Good → HasRoomAt file devices fits room → FitsAt file devices fits
+fits_by : (file : ℕ) (devices : List DeviceSeen) (fits : ℕ → Type 0) (room : Outcome) → room ≡ Good → HasRoomAt file devices fits room → FitsAt file devices fits
 fits_by file devices fits room good has device held = subst (HasRoomBy (fits device.capacity) device) good (has device held)
 
-pub put_asks : (rows : List (Option Row)) (old mid : List DeviceState) (part : Part) (room read : Outcome) → HasPiece rows old part → (index : ℕ) (first found : Option Row)
+pub put_asks : (rows : List (Option Row)) (old mid : List DeviceSeen) (part : Part) (room read : Outcome) → HasPiece rows old part → (index : ℕ) (first found : Option Row)
     → index ≡ part.node → index < length rows → first ≡ get_or rows index first → found ≡ get_or rows index found
     → OfImage first (λ image. HasRoomAt part.file old (PutFits image (part.span.start / 65536)) room) → is_good room ≡ true → is_good read ≡ true
     → ReadsRest part old mid read
@@ -568,7 +568,7 @@ pub put_asks : (rows : List (Option Row)) (old mid : List DeviceState) (part : P
 put_asks rows old mid part room read has index first found same below is_first is fits room_good read_good outcome =
     let stays : mid ≡ old = good_read part old mid read (good_is read read_good) outcome in
     let Q : Known → Type 0 = λ image. (part.span.start / 65536 < clusters_in image) × IsKnownAt part.file old image × FitsAt part.file old (PutFits image (part.span.start / 65536)) in
-    let R : List DeviceState → Type 0
+    let R : List DeviceSeen → Type 0
     = λ devices. OfImage found (λ image. (part.span.start / 65536 < clusters_in image) × IsKnownAt part.file devices image
     × FitsAt part.file devices (PutFits image (part.span.start / 65536))) in
     let row = has_image (row_in rows part.node) (IsPieceOf rows old part) has in
@@ -584,17 +584,17 @@ put_asks rows old mid part room read has index first found same below is_first i
     ))
 
 -- where the read of the rest of the cluster was stopped
-no_torn : (source : Source) (old new : List DeviceState) (done : ℕ) (dev : DevNo) (count : ℕ) → IsReadOfSource source old new (Torn done dev count) → ⊥
+no_torn : (source : Source) (old new : List DeviceSeen) (done : ℕ) (dev : DevNo) (count : ℕ) → IsReadOfSource source old new (Torn done dev count) → ⊥
 no_torn sources.Zeros old new done dev count is = cc is.0
 no_torn (sources.File file start) old new done dev count is = is
 no_torn (sources.Image node file) old new done dev count is = is
 
-no_space : (source : Source) (old new : List DeviceState) (dev : DevNo) → IsReadOfSource source old new (NoSpace dev) → ⊥
+no_space : (source : Source) (old new : List DeviceSeen) (dev : DevNo) → IsReadOfSource source old new (NoSpace dev) → ⊥
 no_space sources.Zeros old new dev is = cc is.0
 no_space (sources.File file start) old new dev is = is
 no_space (sources.Image node file) old new dev is = is
 
-pub read_stopped : (rows : List (Option Row)) (old mid : List DeviceState) (part : Part) (bytes : List ℕ) (room read : Outcome) → HasPiece rows old part → (index : ℕ) (first : Option Row)
+pub read_stopped : (rows : List (Option Row)) (old mid : List DeviceSeen) (part : Part) (bytes : List ℕ) (room read : Outcome) → HasPiece rows old part → (index : ℕ) (first : Option Row)
     → index ≡ part.node → index < length rows → first ≡ get_or rows index first
     → OfImage first (λ image. HasRoomAt part.file old (PutFits image (part.span.start / 65536)) room) → is_good room ≡ true → is_good read ≡ false
     → ReadsRest part old mid read → HaveRisen old mid
@@ -610,7 +610,7 @@ read_stopped rows old mid part bytes room read has index first same below is_fir
     room_of : HasRoomAt part.file old (PutFits row.1 (part.span.start / 65536)) room
     room_of = image_found first row.0 row.1 (λ image. HasRoomAt part.file old (PutFits image (part.span.start / 65536)) room) (sym here ∙ row.2) row.3 fits
 
-    device : (device : DeviceState) × (device_in old part.file ≡ Some device)
+    device : (device : DeviceSeen) × (device_in old part.file ≡ Some device)
     device = some_device (device_in old part.file) row.4.held
 
     by : (o : Outcome) → read ≡ o → is_good o ≡ false → ReadsRest part old mid o
@@ -642,7 +642,7 @@ read_stopped rows old mid part bytes room read has index first same below is_fir
       });
     }
 
-pub put_at : (rows : List (Option Row)) (old mid new : List DeviceState) (part : Part) (bytes cluster gathered_in : List ℕ) (read outcome : Outcome) (slot : Option Row) → HasPiece rows old part
+pub put_at : (rows : List (Option Row)) (old mid new : List DeviceSeen) (part : Part) (bytes cluster gathered_in : List ℕ) (read outcome : Outcome) (slot : Option Row) → HasPiece rows old part
     → (index : ℕ) (found : Option Row) → index ≡ part.node → index < length rows → found ≡ get_or rows index found
     → CallsRow part.file (λ image. PutFits image (part.span.start / 65536)) (λ _. None) (PutsCluster (part.span.start / 65536) cluster) found slot mid new (part.span.start / 65536 * 65536) cluster outcome
     → length bytes ≡ part.span.len → cluster ≡ gathered_in → is_good read ≡ true → ReadsRest part old mid read
@@ -655,7 +655,7 @@ put_at rows old mid new part bytes cluster gathered_in read outcome slot has ind
     let found_is : row_in rows part.node ≡ found = row_found rows index part.node found same below is in
     let P : Option Row → Type 0 = λ f. CallsRow part.file (λ image. PutFits image (part.span.start / 65536)) (λ _. None) (PutsCluster (part.span.start / 65536) cluster) f slot mid new
     (part.span.start / 65536 * 65536) cluster outcome in
-    let Q : List DeviceState → Type 0 = λ devices. CallsRow part.file (λ image. PutFits image (part.span.start / 65536)) (λ _. None) (PutsCluster (part.span.start / 65536) cluster) (row_in rows part.node) slot devices new
+    let Q : List DeviceSeen → Type 0 = λ devices. CallsRow part.file (λ image. PutFits image (part.span.start / 65536)) (λ _. None) (PutsCluster (part.span.start / 65536) cluster) (row_in rows part.node) slot devices new
     (part.span.start / 65536 * 65536) cluster outcome in
     let there_call : CallsRow part.file (λ image. PutFits image (part.span.start / 65536)) (λ _. None) (PutsCluster (part.span.start / 65536) cluster) (row_in rows part.node) slot old new (part.span.start / 65536 * 65536) cluster outcome
     = subst Q stays (subst P (sym found_is) call) in

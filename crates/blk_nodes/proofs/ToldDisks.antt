@@ -9,11 +9,11 @@ use Rattle.q2_format.specs.declared.entries.L2Entry.TheVariants as entries
 use Rattle.q2_image.specs.Image.{Known}
 use Rattle.q2_image.specs.Room.{entry_for, is_whole}
 use Rattle.blk_nodes.specs.Changing.{ImageChange, ChangesAround, ChangesPart, IsClusterAround, IsImageWritten, IsZeroed, LeavesRow, PutsAround, ZeroesBy, ZeroesPart}
-use Rattle.blk_nodes.specs.Nodes.{Nodes, DeviceState}
+use Rattle.blk_nodes.specs.Nodes.{Nodes, DeviceSeen}
 use Rattle.blk_nodes.specs.declared.row.Driver.TheVariants.{Qcow2}
 use Rattle.blk_nodes.specs.declared.row.Row.{Row}
 
-module _ (Less More : List ℕ → Type 0) (each : (disk : List ℕ) → More disk → Less disk) (part : Extent) (image now : Known) (before after : DeviceState) where
+module _ (Less More : List ℕ → Type 0) (each : (disk : List ℕ) → More disk → Less disk) (part : Extent) (image now : Known) (before after : DeviceSeen) where
   cluster_told : (bytes cluster : List ℕ) → IsClusterAround Less image part bytes cluster → IsClusterAround More image part bytes cluster
   cluster_told bytes cluster around = record {
     whole = around.whole;
@@ -58,7 +58,7 @@ module _ (Less More : List ℕ → Type 0) (each : (disk : List ℕ) → More di
 
 -- of a node's row
 module _ (old new : Nodes) (node : ℕ) (row : Row) (image : Known) (outcome : Outcome) (Less More : List ℕ → Type 0) (each : (disk : List ℕ) → More disk → Less disk) (span : Extent) where
-  row_told : (change to : ImageChange) → ((now : Known) (before after : DeviceState) → change image now before after outcome → to image now before after outcome)
+  row_told : (change to : ImageChange) → ((now : Known) (before after : DeviceSeen) → change image now before after outcome → to image now before after outcome)
       → LeavesRow change (Qcow2 image) row old new node outcome → LeavesRow to (Qcow2 image) row old new node outcome
   row_told change to as_to is =
       record { now = is.now; left = is.left; changed = λ file before after edge held left. as_to is.now before after (is.changed file before after edge held left) }

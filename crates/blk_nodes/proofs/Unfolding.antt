@@ -9,7 +9,7 @@ use Rattle.blk_graph.specs.declared.edge.Parent.TheVariants.{Node}
 use Rattle.blk_graph.specs.declared.edge.Role.TheVariants.{File as FileRole, Backing}
 use Rattle.blk_graph.proofs.ChildLemmas.{HasEdge, child-edge}
 use Rattle.blk_graph.proofs.GraphLemmas.{PathsAreShort-from_IsSound}
-use Rattle.blk_nodes.specs.Contents.{below, disk_by, disk_in, disk_of, bytes_of, Unfolds}
+use Rattle.blk_nodes.specs.Contents.{disk_under, disk_by, disk_down, disk_of, bytes_of, Unfolds}
 use Rattle.blk_nodes.specs.Joined.{IsJoined}
 use Rattle.blk_nodes.specs.Nodes.{Nodes, row_at, file_of, backing_of}
 use Rattle.blk_nodes.specs.declared.row.Driver.{Driver}
@@ -29,7 +29,7 @@ path_from edges (suc k) n h =
 
 module _ (nodes : Nodes) where
   -- a disk is made of those of the node's children alone
-  over_same : (f g : ℕ → List ℕ) (next : Option ℕ) → ((c : ℕ) → next ≡ Some c → f c ≡ g c) → below f next ≡ below g next
+  over_same : (f g : ℕ → List ℕ) (next : Option ℕ) → ((c : ℕ) → next ≡ Some c → f c ≡ g c) → disk_under f next ≡ disk_under g next
   over_same f g None each = refl
   over_same f g (Some c) each = each c refl
 
@@ -38,7 +38,7 @@ module _ (nodes : Nodes) where
   by_driver n f g each File = refl
   by_driver n f g each (Raw part) = refl
   by_driver n f g each (Qcow2 image) =
-      ap (image_disk (below (bytes_of nodes) (file_of nodes n)))
+      ap (image_disk (disk_under (bytes_of nodes) (file_of nodes n)))
       (over_same f g (backing_of nodes n) (λ c is. each c (child-edge (Node n) Backing nodes.graph.edges c is)))
   by_driver n f g each CopyOnRead =
       over_same f g (file_of nodes n) (λ c is. each c (child-edge (Node n) FileRole nodes.graph.edges c is))
@@ -50,11 +50,11 @@ module _ (nodes : Nodes) where
   by_row n f g each (Some row) = by_driver n f g each row.driver
 
   -- where no path is as long as the turns, more turns give the same
-  stable : (k n turns : ℕ) → (StartsAt nodes.graph.edges k n → ⊥) → k ≤ turns → disk_in turns nodes n ≡ disk_in k nodes n
+  stable : (k n turns : ℕ) → (StartsAt nodes.graph.edges k n → ⊥) → k ≤ turns → disk_down turns nodes n ≡ disk_down k nodes n
   stable zero n turns none h = absurd (none tt)
   stable (suc k) n zero none h = absurd (omega (arith, h))
   stable (suc k) n (suc turns) none h =
-      by_row n (disk_in turns nodes) (disk_in k nodes)
+      by_row n (disk_down turns nodes) (disk_down k nodes)
       (λ c edge. stable k c turns
       (λ starts. none (edge.edge, edge.there, edge.from, rw edge.to starts)) (omega (arith, h)))
       (row_at nodes n)
@@ -62,8 +62,8 @@ module _ (nodes : Nodes) where
   pub unfolds : IsJoined nodes → Unfolds nodes
   unfolding disk_of
   unfolds joined node row there =
-      ap (λ (found : Option Row). elim found as (λ _. List ℕ) [ None ↦ [] | Some r ↦ disk_by nodes (disk_in 63 nodes) node r.driver ]) there
-      ∙ by_driver node (disk_in 63 nodes) (disk_in 64 nodes) (λ c edge. sym (stable 63 c 64 (none c edge) (omega arith))) row.driver
+      ap (λ (found : Option Row). elim found as (λ _. List ℕ) [ None ↦ [] | Some r ↦ disk_by nodes (disk_down 63 nodes) node r.driver ]) there
+      ∙ by_driver node (disk_down 63 nodes) (disk_down 64 nodes) (λ c edge. sym (stable 63 c 64 (none c edge) (omega arith))) row.driver
     where
       none : (c : ℕ) → HasEdge nodes.graph.edges (Node node) c → StartsAt nodes.graph.edges 63 c → ⊥
       none c edge starts =

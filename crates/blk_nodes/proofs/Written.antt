@@ -13,14 +13,14 @@ use Rattle.q2_format.proofs.ByPlace.{length-bytes_at as length-format_bytes, get
 use Rattle.q2_format.specs.Contents.{file_disk, raw_disk, image_disk}
 use Rattle.q2_image.specs.Image.{Known, IsImageOf}
 use Rattle.blk_graph.specs.declared.edge.Role.TheVariants.{File as FileRole, Backing}
-use Rattle.blk_nodes.specs.Contents.{IsToldDisk, told, below, disk_by, disk_in, disk_of, bytes_by, bytes_of, file_node_disk}
+use Rattle.blk_nodes.specs.Contents.{IsToldDisk, told, disk_under, disk_by, disk_down, disk_of, bytes_by, bytes_of, file_node_disk}
 use Rattle.blk_nodes.specs.Changing.{ImageChange, IsImageWritten, IsZeroed, LeavesRow}
 use Rattle.blk_nodes.specs.Joined.{IsFile, HasSize, IsPartOfFile, IsOverlay, HasBelow, IsJoined}
-use Rattle.blk_nodes.specs.Nodes.{Nodes, DeviceState, AreTold, row_at, device_in, size_by, size_of, file_of, backing_of}
+use Rattle.blk_nodes.specs.Nodes.{Nodes, DeviceSeen, AreTold, row_at, device_in, size_by, node_size, file_of, backing_of}
 use Rattle.blk_nodes.specs.Parts.{OfImage, OfImageBy, IsImage}
 use Rattle.blk_nodes.specs.Reading.{OnlyAt, LeadsTo}
-use Rattle.blk_nodes.specs.Sources.{in_file, step_by, step_of, source_of}
-use Rattle.blk_nodes.specs.Writing.{taken_by, IsWriteOf, IsWriteAt, WritesFile, WritesBy, WritesPiece, ZerosBy, ZerosPiece, LeavesNodes, OwnsFile, CanBeWritten, MayWrite, IsApartFrom}
+use Rattle.blk_nodes.specs.Sources.{in_file, step_by, step_of, source_at}
+use Rattle.blk_nodes.specs.Writing.{taken_by, IsWriteOf, IsWriteAt, WritesFile, WritesBy, WritesPiece, ZerosBy, ZerosPiece, LeavesNodes, OwnsFile, CanBeWritten, MayWriteThrough, IsApartFrom}
 use Rattle.blk_nodes.specs.Writing as writing
 use Rattle.blk_nodes.specs.declared.row.Driver.{Driver}
 use Rattle.blk_nodes.specs.declared.row.Driver.TheVariants.{File, Raw, Qcow2, CopyOnRead}
@@ -43,7 +43,7 @@ use Rattle.blk_graph.proofs.ChildLemmas.{child-edge}
 use Rattle.blk_nodes.specs.Flushing.{IsFlushAt, base_in, base_of}
 
 -- where no path leads to the file that changed, the disk stays
-module _ (nodes : Nodes) (devices : List DeviceState) (file : ℕ) (only : OnlyAt file nodes.devices devices) where
+module _ (nodes : Nodes) (devices : List DeviceSeen) (file : ℕ) (only : OnlyAt file nodes.devices devices) where
   abbrev after : Nodes
   after = record nodes { devices = devices }
 
@@ -54,30 +54,30 @@ module _ (nodes : Nodes) (devices : List DeviceState) (file : ℕ) (only : OnlyA
   child_apart node child none leads = λ same. none (subst (LeadsTo nodes.graph.edges node) same leads)
 
   bytes_below : (node : ℕ) → (LeadsTo nodes.graph.edges node file → ⊥) → (found : Option ℕ) → file_of nodes node ≡ found
-      → below (bytes_of after) found ≡ below (bytes_of nodes) found
+      → disk_under (bytes_of after) found ≡ disk_under (bytes_of nodes) found
   bytes_below node none None is = refl
   bytes_below node none (Some child) is =
       bytes_stay child (child_apart node child none (child_leads nodes.graph.edges node child FileRole is))
 
   file_below : (node : ℕ) → (LeadsTo nodes.graph.edges node file → ⊥) → (found : Option ℕ) → file_of nodes node ≡ found
-      → below (file_node_disk after) found ≡ below (file_node_disk nodes) found
+      → disk_under (file_node_disk after) found ≡ disk_under (file_node_disk nodes) found
   file_below node none None is = refl
   file_below node none (Some child) is =
-      ap (file_disk (size_of nodes child)) (bytes_stay child (child_apart node child none (child_leads nodes.graph.edges node child FileRole is)))
+      ap (file_disk (node_size nodes child)) (bytes_stay child (child_apart node child none (child_leads nodes.graph.edges node child FileRole is)))
 
   over_below : (f g : ℕ → List ℕ) → ((n : ℕ) → (LeadsTo nodes.graph.edges n file → ⊥) → f n ≡ g n) → (node : ℕ) → (LeadsTo nodes.graph.edges node file → ⊥)
-      → (found : Option ℕ) → ((child : ℕ) → found ≡ Some child → LeadsTo nodes.graph.edges node child) → below f found ≡ below g found
+      → (found : Option ℕ) → ((child : ℕ) → found ≡ Some child → LeadsTo nodes.graph.edges node child) → disk_under f found ≡ disk_under g found
   over_below f g each node none None leads = refl
   over_below f g each node none (Some child) leads =
       each child (λ rest. none (leads_on nodes.graph.edges node child file (leads child refl) rest))
 
   by_driver : (f g : ℕ → List ℕ) → ((n : ℕ) → (LeadsTo nodes.graph.edges n file → ⊥) → f n ≡ g n) → (node : ℕ) → (LeadsTo nodes.graph.edges node file → ⊥)
       → (driver : Driver) → disk_by after f node driver ≡ disk_by nodes g node driver
-  by_driver f g each node none File = ap (file_disk (size_of nodes node)) (bytes_stay node (λ same. none (inl same)))
+  by_driver f g each node none File = ap (file_disk (node_size nodes node)) (bytes_stay node (λ same. none (inl same)))
   by_driver f g each node none (Raw part) = ap (raw_disk part.offset part.size) (file_below node none (file_of nodes node) refl)
   by_driver f g each node none (Qcow2 image) =
-      ap (λ (bytes : List ℕ). image_disk bytes (below f (backing_of nodes node))) (bytes_below node none (file_of nodes node) refl)
-      ∙ ap (image_disk (below (bytes_of nodes) (file_of nodes node)))
+      ap (λ (bytes : List ℕ). image_disk bytes (disk_under f (backing_of nodes node))) (bytes_below node none (file_of nodes node) refl)
+      ∙ ap (image_disk (disk_under (bytes_of nodes) (file_of nodes node)))
       (over_below f g each node none (backing_of nodes node) (λ child is. child_leads nodes.graph.edges node child Backing is))
   by_driver f g each node none CopyOnRead =
       over_below f g each node none (file_of nodes node) (λ child is. child_leads nodes.graph.edges node child FileRole is)
@@ -88,19 +88,19 @@ module _ (nodes : Nodes) (devices : List DeviceState) (file : ℕ) (only : OnlyA
   by_row f g each node none None = refl
   by_row f g each node none (Some row) = by_driver f g each node none row.driver
 
-  kept_in : (turns node : ℕ) → (LeadsTo nodes.graph.edges node file → ⊥) → disk_in turns after node ≡ disk_in turns nodes node
+  kept_in : (turns node : ℕ) → (LeadsTo nodes.graph.edges node file → ⊥) → disk_down turns after node ≡ disk_down turns nodes node
   kept_in zero node none = refl
-  kept_in (suc turns) node none = by_row (disk_in turns after) (disk_in turns nodes) (kept_in turns) node none (row_at nodes node)
+  kept_in (suc turns) node none = by_row (disk_down turns after) (disk_down turns nodes) (kept_in turns) node none (row_at nodes node)
 
   pub disk_apart : (node : ℕ) → (LeadsTo nodes.graph.edges node file → ⊥) → disk_of after node ≡ disk_of nodes node
   unfolding disk_of
   disk_apart node none = kept_in 64 node none
 
 -- all still belongs together, where what is known of the file's image stays so
-module _ (nodes : Nodes) (devices : List DeviceState) (file : ℕ) (only : OnlyAt file nodes.devices devices)
+module _ (nodes : Nodes) (devices : List DeviceSeen) (file : ℕ) (only : OnlyAt file nodes.devices devices)
     (held : IsSome (device_in nodes.devices file)) (left : IsSome (device_in devices file)) (joined : IsJoined nodes)
     (keeps : (node : ℕ) (row : Row) (image : Known) → row_at nodes node ≡ Some row → row.driver ≡ Qcow2 image → file_of nodes node ≡ Some file
-    → (device : DeviceState) (bytes : List ℕ) → device_in devices file ≡ Some device → device.content ≡ Some bytes → IsImageOf bytes image) where
+    → (device : DeviceSeen) (bytes : List ℕ) → device_in devices file ≡ Some device → device.content ≡ Some bytes → IsImageOf bytes image) where
   abbrev changed : Nodes
   changed = record nodes { devices = devices }
 
@@ -123,7 +123,7 @@ module _ (nodes : Nodes) (devices : List DeviceState) (file : ℕ) (only : OnlyA
   size_after node size has = record { row = has.row; there = has.there; is = has.is }
 
   known_after : (node : ℕ) (row : Row) (image : Known) → row_at nodes node ≡ Some row → row.driver ≡ Qcow2 image → (is : IsOverlay nodes node image)
-      → (device : DeviceState) (bytes : List ℕ) → device_in devices is.file ≡ Some device → device.content ≡ Some bytes → IsImageOf bytes image
+      → (device : DeviceSeen) (bytes : List ℕ) → device_in devices is.file ≡ Some device → device.content ≡ Some bytes → IsImageOf bytes image
   known_after node row image there driver is device bytes has content = elim (cases_eq is.file file) [
     | inl same ↦
         keeps node row image there driver (is.edge ∙ ap (λ (n : ℕ). Some n) same) device bytes (ap (device_in devices) (sym same) ∙ has) content
@@ -167,13 +167,13 @@ length-written (Io dev count) bytes = omega arith
 length-written (NoSpace dev) bytes = omega arith
 
 -- the bytes of a file that was written
-pub bytes_written : (nodes : Nodes) (devices : List DeviceState) (file start : ℕ) (bytes : List ℕ) (outcome : Outcome) → AreTold nodes.devices
+pub bytes_written : (nodes : Nodes) (devices : List DeviceSeen) (file start : ℕ) (bytes : List ℕ) (outcome : Outcome) → AreTold nodes.devices
     → IsWriteAt file nodes.devices devices start bytes outcome
     → bytes_of (record nodes { devices = devices }) file ≡ with_bytes (bytes_of nodes file) start (taken_by outcome bytes)
 bytes_written nodes devices file start bytes outcome all at =
     let old = told_held file nodes.devices all (rw at.held refl) in
     let same : at.before ≡ old.0 = cc (sym at.held ∙ old.1) in
-    let before : at.before.content ≡ Some (bytes_of nodes file) = ap (λ (d : DeviceState). d.content) same ∙ old.2 in
+    let before : at.before.content ≡ Some (bytes_of nodes file) = ap (λ (d : DeviceSeen). d.content) same ∙ old.2 in
     ap bytes_by at.left
     ∙ ap told (at.wrote.content ∙ ap (option_map (λ (b : List ℕ). with_bytes b start (taken_by outcome bytes))) before)
 
@@ -194,7 +194,7 @@ IsPlain (Raw part) = Unit {0}
 IsPlain (Qcow2 image) = ⊥
 IsPlain CopyOnRead = ⊥
 
-pub plain_if : (nodes : Nodes) (node : ℕ) (may : MayWrite nodes node) → (IsImage nodes node → ⊥) → IsPlain may.row.driver
+pub plain_if : (nodes : Nodes) (node : ℕ) (may : MayWriteThrough nodes node) → (IsImage nodes node → ⊥) → IsPlain may.row.driver
 plain_if nodes node may none = by may.row.driver refl may.can
   where
     image_there : (image : Known) → may.row.driver ≡ Qcow2 image → IsImage nodes node
@@ -209,7 +209,7 @@ plain_if nodes node may none = by may.row.driver refl may.can
     by CopyOnRead is can = absurd can
 
 -- such a node that may be written
-module _ (nodes : Nodes) (joined : IsJoined nodes) (node place : ℕ) (may : MayWrite nodes node) (plain : IsPlain may.row.driver) where
+module _ (nodes : Nodes) (joined : IsJoined nodes) (node place : ℕ) (may : MayWriteThrough nodes node) (plain : IsPlain may.row.driver) where
   step_there : {driver : Driver} → may.row.driver ≡ driver → step_of nodes node place ≡ step_by node (file_of nodes node) (backing_of nodes node) place driver
   step_there is =
       ap (λ (found : Option Row). elim found as (λ _. Step) [
@@ -218,9 +218,9 @@ module _ (nodes : Nodes) (joined : IsJoined nodes) (node place : ℕ) (may : May
       ]) may.there ∙ ap (step_by node (file_of nodes node) (backing_of nodes node) place) is
 
   -- where its bytes stand
-  stands_by : (driver : Driver) → may.row.driver ≡ driver → IsPlain driver → (file : ℕ) × (start : ℕ) × (source_of nodes node place ≡ sources.File file start)
+  stands_by : (driver : Driver) → may.row.driver ≡ driver → IsPlain driver → (file : ℕ) × (start : ℕ) × (source_at nodes node place ≡ sources.File file start)
       × (writing.own_file nodes node driver ≡ Some file) × (start ≡ writing.own_start driver place)
-  unfolding source_of
+  unfolding source_at
   stands_by File is plain =
       let step : step_of nodes node place ≡ Found (sources.File node place) = step_there is in
       (node, place, walk_ends nodes node place (sources.File node place) 64 (omega arith) step, refl, refl)
@@ -232,7 +232,7 @@ module _ (nodes : Nodes) (joined : IsJoined nodes) (node place : ℕ) (may : May
   stands_by (Qcow2 image) is plain = absurd plain
   stands_by CopyOnRead is plain = absurd plain
 
-  pub owned : (file start : ℕ) → source_of nodes node place ≡ sources.File file start
+  pub owned : (file start : ℕ) → source_at nodes node place ≡ sources.File file start
       → (writing.own_file nodes node may.row.driver ≡ Some file) × OwnsFile nodes node file
   owned file start stands =
       let at = stands_by may.row.driver refl plain in
@@ -240,16 +240,16 @@ module _ (nodes : Nodes) (joined : IsJoined nodes) (node place : ℕ) (may : May
       let own : writing.own_file nodes node may.row.driver ≡ Some file = at.3 ∙ ap (λ (n : ℕ). Some n) same in
       (own, may.owns file own)
 
-  pub owned_at : (file start : ℕ) → source_of nodes node place ≡ sources.File file start → start ≡ writing.own_start may.row.driver place
+  pub owned_at : (file start : ℕ) → source_at nodes node place ≡ sources.File file start → start ≡ writing.own_start may.row.driver place
   owned_at file start stands =
       let at = stands_by may.row.driver refl plain in
       let same : at.1 ≡ start = cc (sym at.2 ∙ stands) in
       sym same ∙ at.4
 
-  pub stands : (file : ℕ) × (start : ℕ) × (source_of nodes node place ≡ sources.File file start)
+  pub stands : (file : ℕ) × (start : ℕ) × (source_at nodes node place ≡ sources.File file start)
   stands = let at = stands_by may.row.driver refl plain in (at.0, at.1, at.2)
 
-  module _ (devices : List DeviceState) (file start : ℕ) (stands : source_of nodes node place ≡ sources.File file start) (bytes : List ℕ) (outcome : Outcome)
+  module _ (devices : List DeviceSeen) (file start : ℕ) (stands : source_at nodes node place ≡ sources.File file start) (bytes : List ℕ) (outcome : Outcome)
       (at : IsWriteAt file nodes.devices devices start bytes outcome) where
     abbrev wrote : Nodes
     wrote = record nodes { devices = devices }
@@ -274,7 +274,7 @@ module _ (nodes : Nodes) (joined : IsJoined nodes) (node place : ℕ) (may : May
 
     disk_by_driver : AreTold nodes.devices → place + length xs ≤ may.row.size → (driver : Driver) → may.row.driver ≡ driver → IsPlain driver
         → disk_of wrote node ≡ with_bytes (disk_of nodes node) place xs
-    unfolding source_of
+    unfolding source_at
     disk_by_driver all inside File is plain =
         let step : step_of nodes node place ≡ Found (sources.File node place) = step_there is in
         let found = sym (walk_ends nodes node place (sources.File node place) 64 (omega arith) step) ∙ stands in
@@ -297,7 +297,7 @@ module _ (nodes : Nodes) (joined : IsJoined nodes) (node place : ℕ) (may : May
         let found = sym (walk_ends nodes node place (sources.File below.file (part.offset + place)) 64 (omega arith) step) ∙ stands in
         let here : below.file ≡ file = cc found in
         let from : part.offset + place ≡ start = cc found in
-        let whole : ℕ = size_of nodes below.file in
+        let whole : ℕ = node_size nodes below.file in
         let b : List ℕ = bytes_of nodes below.file in
         let bytes_are : bytes_of wrote below.file ≡ with_bytes b (part.offset + place) xs
         = ap (bytes_of wrote) here ∙ bytes_written nodes devices file start bytes outcome all at
@@ -311,16 +311,16 @@ module _ (nodes : Nodes) (joined : IsJoined nodes) (node place : ℕ) (may : May
     disk_by_driver all inside (Qcow2 image) is plain = absurd plain
     disk_by_driver all inside CopyOnRead is plain = absurd plain
 
-    pub disk_wrote : AreTold nodes.devices → (n : ℕ) → length bytes ≡ n → place + n ≤ size_of nodes node
+    pub disk_wrote : AreTold nodes.devices → (n : ℕ) → length bytes ≡ n → place + n ≤ node_size nodes node
         → disk_of wrote node ≡ with_bytes (disk_of nodes node) place xs
     disk_wrote all n whole inside =
-        let size : size_of nodes node ≡ may.row.size = ap size_by may.there in
+        let size : node_size nodes node ≡ may.row.size = ap size_by may.there in
         disk_by_driver all (omega (arith, whole, inside, size, length-written outcome bytes)) may.row.driver refl plain
 
 -- After a flush each device has the bytes that it had.
-module _ (nodes : Nodes) (devices : List DeviceState) (file : ℕ) (outcome : Outcome) (at : IsFlushAt file nodes.devices devices outcome) (joined : IsJoined nodes) where
+module _ (nodes : Nodes) (devices : List DeviceSeen) (file : ℕ) (outcome : Outcome) (at : IsFlushAt file nodes.devices devices outcome) (joined : IsJoined nodes) where
   content_same : at.after.content ≡ at.before.content
-  content_same = ap (λ (d : DeviceState). d.content) at.flush.is
+  content_same = ap (λ (d : DeviceSeen). d.content) at.flush.is
 
   pub joined_flushed : IsJoined (record nodes { devices = devices })
   joined_flushed =
@@ -329,7 +329,7 @@ module _ (nodes : Nodes) (devices : List DeviceState) (file : ℕ) (outcome : Ou
       let below : IsOverlay nodes node image = rw driver at (joined.below node row there) in
       let same : below.file ≡ file = cc (sym below.edge ∙ edge) in
       let now : at.after ≡ device = cc (sym at.left ∙ has) in
-      below.known at.before bytes (ap (device_in nodes.devices) same ∙ at.held) (sym content_same ∙ ap (λ (d : DeviceState). d.content) now ∙ content))
+      below.known at.before bytes (ap (device_in nodes.devices) same ∙ at.held) (sym content_same ∙ ap (λ (d : DeviceSeen). d.content) now ∙ content))
 
   bytes_same : (node : ℕ) → bytes_of (record nodes { devices = devices }) node ≡ bytes_of nodes node
   bytes_same node = elim (cases_eq node file) [
@@ -391,7 +391,7 @@ row_plain change (Qcow2 image) row old new node outcome is same = absurd is
 row_plain change CopyOnRead row old new node outcome is same = absurd is
 
 -- A piece of such a node, by what the node is.
-pub piece_plain : (old new : Nodes) (node : ℕ) (span : Extent) (bytes : List ℕ) (outcome : Outcome) (may : MayWrite old node) → IsPlain may.row.driver
+pub piece_plain : (old new : Nodes) (node : ℕ) (span : Extent) (bytes : List ℕ) (outcome : Outcome) (may : MayWriteThrough old node) → IsPlain may.row.driver
     → WritesFile old new node span.start bytes outcome → row_at new node ≡ row_at old node → WritesPiece old new node span bytes outcome
 piece_plain old new node span bytes outcome may plain wrote same =
     record { row = may.row; there = may.there; wrote = by may.row.driver plain; left = row_plain (IsImageWritten (IsToldDisk old node) span bytes) may.row.driver may.row old new node outcome plain (same ∙ may.there) }
@@ -402,7 +402,7 @@ piece_plain old new node span bytes outcome may plain wrote same =
     by (Qcow2 image) is = absurd is
     by CopyOnRead is = absurd is
 
-pub zeros_plain : (old new : Nodes) (node : ℕ) (span : Extent) (outcome : Outcome) (may : MayWrite old node) → IsPlain may.row.driver
+pub zeros_plain : (old new : Nodes) (node : ℕ) (span : Extent) (outcome : Outcome) (may : MayWriteThrough old node) → IsPlain may.row.driver
     → WritesFile old new node span.start (replicate span.len 0) outcome → row_at new node ≡ row_at old node → ZerosPiece old new node span outcome
 zeros_plain old new node span outcome may plain wrote same =
     record { row = may.row; there = may.there; wrote = by may.row.driver plain; left = row_plain (IsZeroed (IsToldDisk old node) span) may.row.driver may.row old new node outcome plain (same ∙ may.there) }
@@ -414,5 +414,5 @@ zeros_plain old new node span outcome may plain wrote same =
     by CopyOnRead is = absurd is
 
 -- only devices have changed
-pub leaves_devices : (old : Nodes) (devices : List DeviceState) (node : ℕ) → LeavesNodes old (record old { devices = devices }) node
+pub leaves_devices : (old : Nodes) (devices : List DeviceSeen) (node : ℕ) → LeavesNodes old (record old { devices = devices }) node
 leaves_devices old devices node = record { graph = refl; others = λ other apart. refl; own = row_refl (row_at old node) }

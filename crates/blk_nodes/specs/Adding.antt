@@ -1,7 +1,7 @@
 -- What an addition makes of the nodes, and why one is refused.
 use Rattle.std.specs.Prelude.{◌≡◌, ℕ, Bool, false, not, List, [], ◌∷◌, ◌++◌, length, slice_set, Option, Some, None}
 use Rattle.blk_graph.specs.Edits.{with_edge, without_parent}
-use Rattle.blk_graph.specs.Graph.{Graph, HasName, ids, with_node as with_graph_node}
+use Rattle.blk_graph.specs.Graph.{Graph, HasName, ids, with_node}
 use Rattle.blk_graph.specs.Ids.{IsLowestFree}
 use Rattle.blk_graph.specs.Judged.{with_edges}
 use Rattle.blk_graph.specs.Permissions.{drive_edge, node_edge}
@@ -13,7 +13,7 @@ use Rattle.blk_graph.specs.declared.edge.Conflict.{Conflict as Pair}
 use Rattle.blk_graph.specs.declared.edge.Edge.{Edge}
 use Rattle.blk_graph.specs.declared.edge.Parent.TheVariants.{Guest}
 use Rattle.blk_graph.specs.declared.edge.Role.TheVariants.{File}
-use Rattle.blk_nodes.specs.Nodes.{Nodes, DeviceState, row_at, node_kind}
+use Rattle.blk_nodes.specs.Nodes.{Nodes, DeviceSeen, row_at, node_kind}
 use Rattle.blk_base.specs.Pieces.{Extent}
 use Rattle.blk_nodes.specs.declared.row.Driver.TheVariants.{Raw}
 use Rattle.blk_nodes.specs.declared.row.Row.{Row}
@@ -21,9 +21,9 @@ use Rattle.blk_nodes.specs.declared.stop.AddStop.{AddStop}
 use Rattle.blk_nodes.specs.declared.stop.AddStop.TheVariants.{NameTaken, TooManyNodes, Conflict, NoMemory}
 
 -- one more node with its row
-abbrev pub with_node : Nodes → ℕ → List ℕ → Row → Nodes
-with_node nodes id name row = record nodes {
-  graph = with_graph_node nodes.graph id name (node_kind row);
+abbrev pub with_node_row : Nodes → ℕ → List ℕ → Row → Nodes
+with_node_row nodes id name row = record nodes {
+  graph = with_node nodes.graph id name (node_kind row);
   rows = slice_set nodes.rows id (Some row);
 }
 
@@ -40,8 +40,8 @@ abbrev pub kind_with : Kind → Bool → NodeKind
 kind_with kind is_read_only = record { kind = kind; writes = not is_read_only }
 
 -- and its device
-abbrev pub with_device : Nodes → DeviceState → Nodes
-with_device nodes device = record nodes { devices = nodes.devices ++ device ∷ [] }
+abbrev pub with_node_device : Nodes → DeviceSeen → Nodes
+with_node_device nodes device = record nodes { devices = nodes.devices ++ device ∷ [] }
 
 -- no node of this name can be added
 abbrev pub IsNameStop : Graph → List ℕ → AddStop → Type 0

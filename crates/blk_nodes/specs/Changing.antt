@@ -17,14 +17,14 @@ use Rattle.q2_image.specs.Made.{WriteStep, MakesSteps, WroteOwn, IsOldOrWith, Is
 use Rattle.q2_image.specs.Reading.{IsHost}
 use Rattle.q2_image.specs.Writing.{ClearsFirst}
 use Rattle.q2_image.specs.Room.{cluster_of, entry_for, is_whole}
-use Rattle.blk_nodes.specs.Nodes.{Nodes, DeviceState, row_at, device_in, file_of}
+use Rattle.blk_nodes.specs.Nodes.{Nodes, DeviceSeen, row_at, device_in, file_of}
 use Rattle.blk_nodes.specs.Reading.{HasRisen}
 use Rattle.blk_nodes.specs.declared.row.Driver.{Driver}
 use Rattle.blk_nodes.specs.declared.row.Driver.TheVariants as drivers
 use Rattle.blk_nodes.specs.declared.row.Row.{Row}
 
 -- a device by what is seen of it
-abbrev pub seen : Ghosts DeviceState
+abbrev pub seen : Ghosts DeviceSeen
 seen = record {
   content = λ device. device.content;
   is_flushed = λ device. device.is_flushed;
@@ -36,10 +36,10 @@ seen = record {
 
 -- how an image and its device change: what is known of the one, before and after, what is seen of the other, and how it went
 abbrev pub ImageChange : Type 1
-ImageChange = Known → Known → DeviceState → DeviceState → Outcome → Type 0
+ImageChange = Known → Known → DeviceSeen → DeviceSeen → Outcome → Type 0
 
 -- not at all
-abbrev pub IsUnchanged : Known → Known → DeviceState → DeviceState → Type 0
+abbrev pub IsUnchanged : Known → Known → DeviceSeen → DeviceSeen → Type 0
 IsUnchanged image now before after = (now ≡ image) × (after ≡ before)
 
 -- By steps.
@@ -47,7 +47,7 @@ IsUnchanged image now before after = (now ≡ image) × (after ≡ before)
 -- The steps are made, or a part of them, and the autoclear field is cleared before anything else. Wherever they stop, the file is
 -- sound, and its disk is the old one or the one with these bytes at a place.
 pub record MakesChange (steps : List WriteStep) (place : ℕ) (bytes : List ℕ)
-    (stop : Option DevStop) (image now : Known) (before after : DeviceState) : Type 0 where
+    (stop : Option DevStop) (image now : Known) (before after : DeviceSeen) : Type 0 where
   pub made : MakesSteps seen image steps stop now before after
   pub cleared : ClearsFirst before.content after.content now
   pub stops : AtEachStopOf seen (IsOldOrWith place bytes) (writes_of_steps steps) before
@@ -80,7 +80,7 @@ ClearsCluster cluster image =
 -- The first of these bytes are written in place, behind a cleared autoclear field. Wherever that stops, the file is sound, and its
 -- disk is the old one with some of the first bytes of the part.
 pub record WritesInPlace (part : Extent) (bytes written : List ℕ) (image now : Known)
-    (before after : DeviceState) : Type 0 where
+    (before after : DeviceSeen) : Type 0 where
   pub wrote : WroteOwn seen image now part written before after
   pub cleared : ClearsFirst before.content after.content now
   pub stops : AtEachStopOf seen (IsOwnPart part.start bytes) (own_writes image part bytes) before
@@ -114,7 +114,7 @@ pub record IsClusterAround (IsDisk : List ℕ → Type 0) (image : Known) (part 
 
 -- that cluster is put
 pub record PutsAround (IsDisk : List ℕ → Type 0) (part : Extent) (bytes : List ℕ)
-    (stop : Option DevStop) (image now : Known) (before after : DeviceState) : Type 0 where
+    (stop : Option DevStop) (image now : Known) (before after : DeviceSeen) : Type 0 where
   pub cluster : List ℕ
   pub around : IsClusterAround IsDisk image part bytes cluster
   pub puts : MakesChange (put_steps image (cluster_of image part) cluster)
@@ -165,7 +165,7 @@ pub record ChangesRow (change : ImageChange) (image : Known) (row : Row) (old ne
     (node : ℕ) (outcome : Outcome) : Type 0 where
   pub now : Known
   pub left : row_at new node ≡ Some (record row { driver = drivers.Qcow2 now })
-  pub changed : (file : ℕ) (before after : DeviceState) → file_of old node ≡ Some file
+  pub changed : (file : ℕ) (before after : DeviceSeen) → file_of old node ≡ Some file
       → device_in old.devices file ≡ Some before → device_in new.devices file ≡ Some after
       → change image now before after outcome
 

@@ -1,7 +1,7 @@
 -- What a node reads as: its disk, from the bytes of the devices and the edges of the graph.
 use Rattle.std.specs.Prelude.{◌≡◌, ℕ, zero, suc, List, [], Option, Some, None}
 use Rattle.q2_format.specs.Contents.{file_disk, raw_disk, image_disk}
-use Rattle.blk_nodes.specs.Nodes.{Nodes, DeviceState, AreTold, row_at, device_in, size_of, file_of, backing_of}
+use Rattle.blk_nodes.specs.Nodes.{Nodes, DeviceSeen, AreTold, row_at, device_in, node_size, file_of, backing_of}
 use Rattle.blk_nodes.specs.declared.row.Driver.{Driver}
 use Rattle.blk_nodes.specs.declared.row.Row.{Row}
 use Rattle.blk_nodes.specs.declared.row.Driver.TheVariants.{File, Raw, Qcow2, CopyOnRead}
@@ -10,7 +10,7 @@ abbrev pub told : Option (List ℕ) → List ℕ
 told None = []
 told (Some bytes) = bytes
 
-abbrev pub bytes_by : Option DeviceState → List ℕ
+abbrev pub bytes_by : Option DeviceSeen → List ℕ
 bytes_by None = []
 bytes_by (Some device) = told device.content
 
@@ -20,34 +20,35 @@ bytes_of nodes file = bytes_by (device_in nodes.devices file)
 
 -- the disk of a `file` node: the first bytes of the file, zeros past its end
 abbrev pub file_node_disk : Nodes → ℕ → List ℕ
-file_node_disk nodes file = file_disk (size_of nodes file) (bytes_of nodes file)
+file_node_disk nodes file = file_disk (node_size nodes file) (bytes_of nodes file)
 
 -- what is below, where there is a node
-abbrev pub below : (ℕ → List ℕ) → Option ℕ → List ℕ
-below disk None = []
-below disk (Some node) = disk node
+abbrev pub disk_under : (ℕ → List ℕ) → Option ℕ → List ℕ
+disk_under disk None = []
+disk_under disk (Some node) = disk node
 
 -- A `raw` node is its part of the `file` node, a qcow2 node the image in the file over the disk of its backing node, and
 -- copy-on-read reads as its child.
 abbrev pub disk_by : Nodes → (ℕ → List ℕ) → ℕ → Driver → List ℕ
 disk_by nodes disk node File = file_node_disk nodes node
 disk_by nodes disk node (Raw part) =
-    raw_disk part.offset part.size (below (file_node_disk nodes) (file_of nodes node))
+    raw_disk part.offset part.size (disk_under (file_node_disk nodes) (file_of nodes node))
 disk_by nodes disk node (Qcow2 image) =
-    image_disk (below (bytes_of nodes) (file_of nodes node)) (below disk (backing_of nodes node))
-disk_by nodes disk node CopyOnRead = below disk (file_of nodes node)
+    image_disk (disk_under (bytes_of nodes) (file_of nodes node))
+    (disk_under disk (backing_of nodes node))
+disk_by nodes disk node CopyOnRead = disk_under disk (file_of nodes node)
 
 -- the disk of a node, down a chain of so many nodes
-abbrev pub disk_in : ℕ → Nodes → ℕ → List ℕ
-disk_in zero nodes node = []
-disk_in (suc turns) nodes node = elim (row_at nodes node) as (λ _. List ℕ) [
+abbrev pub disk_down : ℕ → Nodes → ℕ → List ℕ
+disk_down zero nodes node = []
+disk_down (suc turns) nodes node = elim (row_at nodes node) as (λ _. List ℕ) [
   | None ↦ []
-  | Some row ↦ disk_by nodes (disk_in turns nodes) node row.driver
+  | Some row ↦ disk_by nodes (disk_down turns nodes) node row.driver
 ]
 
 -- there are at most 64 nodes, and no node reaches itself
 unfoldable pub disk_of : Nodes → ℕ → List ℕ
-disk_of nodes node = disk_in 64 nodes node
+disk_of nodes node = disk_down 64 nodes node
 
 -- the disk of a node, where all devices tell their bytes
 abbrev pub IsToldDisk : Nodes → ℕ → List ℕ → Type 0

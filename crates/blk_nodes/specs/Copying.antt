@@ -13,10 +13,10 @@ use Rattle.q2_image.specs.Reading.{IsHost}
 use Rattle.q2_image.specs.Room.{WriteFits}
 use Rattle.blk_nodes.specs.Contents.{bytes_of}
 use Rattle.blk_nodes.specs.Found.{IsReadOfSource}
-use Rattle.blk_nodes.specs.Nodes.{Nodes, DeviceState, AreTold, row_at, device_in, size_of, file_of}
+use Rattle.blk_nodes.specs.Nodes.{Nodes, DeviceSeen, AreTold, row_at, device_in, node_size, file_of}
 use Rattle.blk_nodes.specs.Parts.{OfImage}
 use Rattle.blk_nodes.specs.Reading.{HaveRisen, LeadsTo, StoppedBelow}
-use Rattle.blk_nodes.specs.Sources.{step_of, source_of}
+use Rattle.blk_nodes.specs.Sources.{step_of, source_at}
 use Rattle.blk_nodes.specs.Writing.{FitsAt, HasImageIn, WritesPiece, LeavesNodes}
 use Rattle.blk_nodes.specs.declared.row.Driver.{Driver}
 use Rattle.blk_nodes.specs.declared.row.Driver.TheVariants as drivers
@@ -84,7 +84,7 @@ HasRoomIn nodes span node = OfImage (row_at nodes node) (λ image.
 pub record LacksRoomIn (nodes : Nodes) (span : Extent) (dev : DevNo) (node : ℕ) : Type 0 where
   pub file : ℕ
   pub edge : file_of nodes node ≡ Some file
-  pub device : DeviceState
+  pub device : DeviceSeen
   pub held : device_in nodes.devices file ≡ Some device
   pub named : dev ≡ device.number
   pub full : OfImage (row_at nodes node) (λ image. WriteFits image span device.capacity → ⊥)
@@ -140,7 +140,7 @@ pub record StopsUnread (old new : Nodes) (node : ℕ) (span : Extent) (outcome :
   pub count : ℕ
   pub is : outcome ≡ Io dev count
   pub stopped : StoppedBelow old new node dev count
-  pub source : IsReadOfSource (source_of old node span.start) old.devices new.devices outcome
+  pub source : IsReadOfSource (source_at old node span.start) old.devices new.devices outcome
   pub kept : new ≡ record old { devices = new.devices }
   pub devices : HaveRisen old.devices new.devices
 
@@ -168,7 +168,7 @@ pub record LeavesRest (images : List ℕ) (old new : Nodes) (outcome : Outcome) 
   pub graph : new.graph ≡ old.graph
   pub rows : (other : ℕ) → AtEach (λ node. other ≢ node) images
       → row_at new other ≡ row_at old other
-  pub sizes : (other : ℕ) → size_of new other ≡ size_of old other
+  pub sizes : (other : ℕ) → node_size new other ≡ node_size old other
   pub alike : (node file : ℕ) → HasImageIn new node file → HasImageIn old node file
   pub bytes : (file : ℕ) → AtEach (λ node. file_of old node ≢ Some file) images
       → bytes_of new file ≡ bytes_of old file

@@ -3,7 +3,7 @@ use Rattle.std.specs.Prelude.{◌≡◌, ℕ, ◌≤◌, zero, suc, ◌||◌, Li
 use Rattle.blk_base.specs.Outcomes.{is_good}
 use Rattle.blk_base.specs.declared.fault.Outcome.{Outcome}
 use Rattle.blk_base.specs.declared.fault.Outcome.TheVariants.{Good, Torn, Io, NoSpace}
-use Rattle.blk_nodes.specs.Nodes.{Nodes, DeviceState, device_in, file_of}
+use Rattle.blk_nodes.specs.Nodes.{Nodes, DeviceSeen, device_in, file_of}
 use Rattle.blk_nodes.specs.Reading.{OnlyAt, StoppedBy}
 
 -- the node that stands at the end of a node's `file` edges, of which so many are followed
@@ -19,14 +19,14 @@ unfoldable pub base_of : Nodes → ℕ → ℕ
 base_of nodes node = base_in 64 nodes node
 
 -- why a flush went so
-abbrev pub HasFlushCause : DeviceState → DeviceState → Outcome → Type 0
+abbrev pub HasFlushCause : DeviceSeen → DeviceSeen → Outcome → Type 0
 HasFlushCause old new Good = new.faults ≡ old.faults
 HasFlushCause old new (Torn done dev count) = ⊥
 HasFlushCause old new (Io dev count) = StoppedBy old new dev count
 HasFlushCause old new (NoSpace dev) = ⊥
 
 -- a device after a flush
-pub record IsFlushOf (old new : DeviceState) (outcome : Outcome) : Type 0 where
+pub record IsFlushOf (old new : DeviceSeen) (outcome : Outcome) : Type 0 where
   pub is : new ≡ record old {
     is_flushed = option_map (λ f. is_good outcome || f) old.is_flushed;
     faults = new.faults;
@@ -35,9 +35,9 @@ pub record IsFlushOf (old new : DeviceState) (outcome : Outcome) : Type 0 where
   pub cause : HasFlushCause old new outcome
 
 -- the device of a `file` node after it, and all others as before
-pub record IsFlushAt (file : ℕ) (old new : List DeviceState) (outcome : Outcome) : Type 0 where
-  pub before : DeviceState
-  pub after : DeviceState
+pub record IsFlushAt (file : ℕ) (old new : List DeviceSeen) (outcome : Outcome) : Type 0 where
+  pub before : DeviceSeen
+  pub after : DeviceSeen
   pub held : device_in old file ≡ Some before
   pub left : device_in new file ≡ Some after
   pub flush : IsFlushOf before after outcome

@@ -11,7 +11,7 @@ use Rattle.q2_image.specs.Creating.{AreStages, ChangesWithin, IsBeforeOrNone, Ma
 use Rattle.q2_image.specs.declared.create.CreateStop.{CreateStop}
 use Rattle.q2_image.specs.declared.create.CreateStop.TheVariants as image
 use Rattle.blk_nodes.specs.Changing.{seen}
-use Rattle.blk_nodes.specs.Nodes.{DeviceState, device_in}
+use Rattle.blk_nodes.specs.Nodes.{DeviceSeen, device_in}
 use Rattle.blk_nodes.specs.Reading.{OnlyAt, StoppedBy}
 use Rattle.blk_nodes.specs.declared.stop.FormatStop.{FormatStop}
 use Rattle.blk_nodes.specs.declared.stop.FormatStop.TheVariants.{Io, NoSpace, NoMemory}
@@ -41,7 +41,7 @@ HoldsAfter new before (Ok done) now = HoldsImage new before now
 HoldsAfter new before (Err stop) now = (now ≡ before) ⊎ (image_refusal now ≡ Some (InHeader Magic))
 
 -- why an image that ends there is created or not; where there is no room or no memory, nothing was tried
-abbrev pub HasFormatCause : DeviceState → DeviceState → ℕ → Result (Unit {0}) FormatStop → Type 0
+abbrev pub HasFormatCause : DeviceSeen → DeviceSeen → ℕ → Result (Unit {0}) FormatStop → Type 0
 HasFormatCause old new end (Ok done) = (end ≤ old.capacity) × (new.faults ≡ old.faults)
 HasFormatCause old new end (Err (Io dev count)) = (end ≤ old.capacity) × StoppedBy old new dev count
 HasFormatCause old new end (Err (NoSpace dev)) =
@@ -49,25 +49,25 @@ HasFormatCause old new end (Err (NoSpace dev)) =
 HasFormatCause old new end (Err NoMemory) = (end ≤ old.capacity) × (new ≡ old)
 
 -- which writes were made, of the six that make an image
-abbrev pub MakesFormat : Creation → Result (Unit {0}) FormatStop → DeviceState → DeviceState
+abbrev pub MakesNewImage : Creation → Result (Unit {0}) FormatStop → DeviceSeen → DeviceSeen
     → Type 0
-MakesFormat image (Ok done) before now = MakesStages seen image 0 6 None before now
-MakesFormat image (Err (Io dev count)) before now =
+MakesNewImage image (Ok done) before now = MakesStages seen image 0 6 None before now
+MakesNewImage image (Err (Io dev count)) before now =
     MakesStages seen image 0 6 (Some (stops.Io count)) before now
-MakesFormat image (Err stop) before now = now ≡ before
+MakesNewImage image (Err stop) before now = now ≡ before
 
 -- wherever its writes stop, the file is as it was or no image, until all are made
-abbrev pub IsNoneAtEachStop : Creation → DeviceState → Type 0
+abbrev pub IsNoneAtEachStop : Creation → DeviceSeen → Type 0
 IsNoneAtEachStop image before = (ws : List Write) → AreStages image 0 ws → length ws ≡ 6
     → AtEachStopOf seen (IsBeforeOrNone ws) ws before
 
 -- a device in whose file an image is created, or not
-pub record IsFormatOf (old new : DeviceState) (image : Creation)
+pub record IsFormatOf (old new : DeviceSeen) (image : Creation)
     (result : Result (Unit {0}) FormatStop) : Type 0 where
   pub node : new.node ≡ old.node
   pub number : new.number ≡ old.number
   pub within : ChangesWithin old.content new.content 0 (created_length image)
-  pub writes : MakesFormat image result old new
+  pub writes : MakesNewImage image result old new
   pub stops : IsNoneAtEachStop image old
   pub holds : (before now : List ℕ) → old.content ≡ Some before → new.content ≡ Some now
       → HoldsAfter image before result now
@@ -81,10 +81,10 @@ pub record IsFormatOf (old new : DeviceState) (image : Creation)
   pub cause : HasFormatCause old new (created_length image) result
 
 -- the same of the device of a `file` node, and all others as before
-pub record IsFormatAt (file : ℕ) (old new : List DeviceState) (image : Creation)
+pub record IsFormatAt (file : ℕ) (old new : List DeviceSeen) (image : Creation)
     (result : Result (Unit {0}) FormatStop) : Type 0 where
-  pub before : DeviceState
-  pub after : DeviceState
+  pub before : DeviceSeen
+  pub after : DeviceSeen
   pub held : device_in old file ≡ Some before
   pub left : device_in new file ≡ Some after
   pub formatted : IsFormatOf before after image result

@@ -32,8 +32,8 @@ abbrev pub with_read_only : Bool → Row → Row
 with_read_only is_read_only row = record row { is_read_only = is_read_only }
 
 -- the nodes where one may be written or not
-abbrev pub with_written : ℕ → Bool → Nodes → Nodes
-with_written node writes nodes = record nodes {
+abbrev pub with_node_writes : ℕ → Bool → Nodes → Nodes
+with_node_writes node writes nodes = record nodes {
   graph = with_kinds nodes.graph (with_writes node writes nodes.graph.kinds);
   rows = slice_set nodes.rows node
       (option_map (with_read_only (not writes)) (row_at nodes node));

@@ -3,7 +3,7 @@ use Rattle.std.specs.Prelude.{◌≡◌, ◌≢◌, ℕ, ◌+◌, ◌≤◌, Lis
 use Rattle.blk_graph.specs.Graph.{HasNode, IsSoundGraph}
 use Rattle.blk_graph.specs.Refreshed.{kind_at}
 use Rattle.q2_image.specs.Image.{Known, IsImageOf, IsOpen}
-use Rattle.blk_nodes.specs.Nodes.{Nodes, DeviceState, row_at, device_in, size_of, file_of, backing_of, node_kind}
+use Rattle.blk_nodes.specs.Nodes.{Nodes, DeviceSeen, row_at, device_in, node_size, file_of, backing_of, node_kind}
 use Rattle.blk_nodes.specs.declared.row.Driver.{Driver}
 use Rattle.blk_nodes.specs.declared.row.Driver.TheVariants.{File, Raw, Qcow2, CopyOnRead}
 use Rattle.blk_nodes.specs.declared.row.Row.{Row}
@@ -24,7 +24,7 @@ pub record IsPartOfFile (nodes : Nodes) (node offset size : ℕ) : Type 0 where
   pub file : ℕ
   pub edge : file_of nodes node ≡ Some file
   pub is_file : IsFile nodes file
-  pub within : offset + size ≤ size_of nodes file
+  pub within : offset + size ≤ node_size nodes file
 
 pub record IsOverlay (nodes : Nodes) (node : ℕ) (image : Known) : Type 0 where
   pub file : ℕ
@@ -32,7 +32,7 @@ pub record IsOverlay (nodes : Nodes) (node : ℕ) (image : Known) : Type 0 where
   pub is_file : IsFile nodes file
   pub opened : IsOpen image
   -- what is known of the image is so of the file, where that is told
-  pub known : (device : DeviceState) (bytes : List ℕ) → device_in nodes.devices file ≡ Some device
+  pub known : (device : DeviceSeen) (bytes : List ℕ) → device_in nodes.devices file ≡ Some device
       → device.content ≡ Some bytes → IsImageOf bytes image
   -- the backing node's disk has the same size
   pub backing : (node' : ℕ) → backing_of nodes node ≡ Some node'
@@ -58,7 +58,7 @@ IsSized size (Qcow2 image) = image.header.size ≡ size
 IsSized size CopyOnRead = Unit {0}
 
 -- two devices are of different nodes
-abbrev pub DifferInNode : DeviceState → DeviceState → Type 0
+abbrev pub DifferInNode : DeviceSeen → DeviceSeen → Type 0
 DifferInNode a b = a.node ≢ b.node
 
 -- what is true of all nodes at each moment

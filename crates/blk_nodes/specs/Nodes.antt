@@ -14,7 +14,7 @@ use Rattle.blk_nodes.specs.declared.row.Driver.TheVariants.{File, Raw, Qcow2, Co
 use Rattle.blk_nodes.specs.declared.row.Row.{Row}
 
 -- the device of a `file` node: its number among the openings of the run, and what is seen of it
-pub record DeviceState : Type 0 where
+pub record DeviceSeen : Type 0 where
   pub node : ℕ
   pub number : DevNo
   pub content : Option (List ℕ)
@@ -25,23 +25,23 @@ pub record DeviceState : Type 0 where
   pub faults : ℕ
 
 -- what a node is, as far as the permissions of its edges go
-abbrev pub kind_of : Driver → Kind
-kind_of File = kinds.Protocol
-kind_of (Raw _) = kinds.Raw
-kind_of (Qcow2 _) = kinds.Qcow2
-kind_of CopyOnRead = kinds.CopyOnRead
+abbrev pub driver_kind : Driver → Kind
+driver_kind File = kinds.Protocol
+driver_kind (Raw _) = kinds.Raw
+driver_kind (Qcow2 _) = kinds.Qcow2
+driver_kind CopyOnRead = kinds.CopyOnRead
 
 abbrev pub kind_in : Row → Kind
-kind_in row = kind_of row.driver
+kind_in row = driver_kind row.driver
 
 abbrev pub node_kind : Row → NodeKind
-node_kind row = record { kind = kind_of row.driver; writes = not row.is_read_only }
+node_kind row = record { kind = driver_kind row.driver; writes = not row.is_read_only }
 
 -- the rows stand by the numbers of their nodes, and the devices in the order in which their nodes were added
 pub record Nodes : Type 0 where
   pub graph : Graph
   pub rows : List (Option Row)
-  pub devices : List DeviceState
+  pub devices : List DeviceSeen
 
 abbrev pub no_nodes : Nodes
 no_nodes = record { graph = no_graph; rows = replicate 64 None; devices = [] }
@@ -50,19 +50,19 @@ abbrev pub row_at : Nodes → ℕ → Option Row
 row_at nodes node = slice_index_or nodes.rows node None
 
 -- whether a device is that of a node
-abbrev pub is_of : ℕ → DeviceState → Bool
-is_of node device = device.node == node
+abbrev pub is_device_of : ℕ → DeviceSeen → Bool
+is_device_of node device = device.node == node
 
-abbrev pub device_in : List DeviceState → ℕ → Option DeviceState
-device_in devices node = find (is_of node) devices
+abbrev pub device_in : List DeviceSeen → ℕ → Option DeviceSeen
+device_in devices node = find (is_device_of node) devices
 
 -- the bytes of a disk, 0 where there is no node
 abbrev pub size_by : Option Row → ℕ
 size_by None = 0
 size_by (Some row) = row.size
 
-abbrev pub size_of : Nodes → ℕ → ℕ
-size_of nodes node = size_by (row_at nodes node)
+abbrev pub node_size : Nodes → ℕ → ℕ
+node_size nodes node = size_by (row_at nodes node)
 
 -- the `file` node under a node, and its backing node
 abbrev pub file_of : Nodes → ℕ → Option ℕ
@@ -72,5 +72,5 @@ abbrev pub backing_of : Nodes → ℕ → Option ℕ
 backing_of nodes node = child_of (Node node) Backing nodes.graph.edges
 
 -- each device tells its bytes
-abbrev pub AreTold : List DeviceState → Type 0
-AreTold devices = (device : DeviceState) → Contains devices device → is_some device.content ≡ true
+abbrev pub AreTold : List DeviceSeen → Type 0
+AreTold devices = (device : DeviceSeen) → Contains devices device → is_some device.content ≡ true

@@ -18,8 +18,8 @@ use Rattle.q2_image.specs.Image.{Known, IsImageOf, IsOpen, clusters_in, entry_in
 use Rattle.q2_image.specs.Opening.{Names, fault_in_image}
 use Rattle.q2_image.specs.declared.stop.ImageStop.{ImageStop}
 use Rattle.q2_image.specs.declared.stop.ImageStop.TheVariants as images
-use Rattle.blk_nodes.specs.Adding.{with_node, file_edge, kind_with, IsDenied, IsAllowed}
-use Rattle.blk_nodes.specs.Nodes.{Nodes, DeviceState, row_at, device_in, size_of}
+use Rattle.blk_nodes.specs.Adding.{with_node_row, file_edge, kind_with, IsDenied, IsAllowed}
+use Rattle.blk_nodes.specs.Nodes.{Nodes, DeviceSeen, row_at, device_in, node_size}
 use Rattle.blk_nodes.specs.Reading.{OnlyAt}
 use Rattle.blk_nodes.specs.declared.backing.Backing.{Backing}
 use Rattle.blk_nodes.specs.declared.backing.Backing.TheVariants.{Unsaid, Null, Node}
@@ -37,7 +37,7 @@ backing_node (Node node) = Some node
 abbrev pub backing_size : Nodes → Backing → ℕ
 backing_size nodes Unsaid = 0
 backing_size nodes Null = 0
-backing_size nodes (Node node) = size_of nodes node
+backing_size nodes (Node node) = node_size nodes node
 
 -- with an edge to a backing node, where there is one
 abbrev pub backed : ℕ → Option ℕ → List Edge → List Edge
@@ -75,7 +75,7 @@ copying_row size is_read_only = record {
 -- the nodes with one more, and its edges
 abbrev pub with_children : Nodes → ℕ → List ℕ → Row → ℕ → Option ℕ → Nodes
 with_children nodes id name row child backing =
-    let more = with_node nodes id name row in
+    let more = with_node_row nodes id name row in
     record more { graph = with_edges more.graph (format_edges id child backing nodes.graph.edges) }
 
 abbrev pub with_qcow2 : Nodes → Asked → ℕ → Known → Nodes
@@ -84,32 +84,32 @@ with_qcow2 nodes asked id image =
     (backing_node asked.backing)
 
 -- the image on a device is open
-pub record IsOpenedOn (device : DeviceState) (image : Known) : Type 0 where
+pub record IsOpenedOn (device : DeviceSeen) (image : Known) : Type 0 where
   pub opened : IsOpen image
   pub known : (bytes : List ℕ) → device.content ≡ Some bytes → IsImageOf bytes image
   pub reach : length image.refs.counts ≡ reach_of image.header device.size
   pub long : MIN_HEADER_LENGTH ≤ device.size
 
 -- why it isn't opened: one that is too short for a header, for that
-pub record IsUnopenedOn (old new : DeviceState) (stop : ImageStop) : Type 0 where
+pub record IsUnopenedOn (old new : DeviceSeen) (stop : ImageStop) : Type 0 where
   pub named : (bytes : List ℕ) → old.content ≡ Some bytes → Names (image_refusal bytes) stop
   pub short : old.size < MIN_HEADER_LENGTH → stop ≡ images.Header Short
   pub cause : CountsFault (fault_in_image stop) old.faults new.faults
 
 -- Only a failed read raises a count: behind any other stop all devices are as before.
-abbrev pub KeptBy : ImageStop → List DeviceState → List DeviceState → Type 0
+abbrev pub KeptBy : ImageStop → List DeviceSeen → List DeviceSeen → Type 0
 KeptBy (images.Io count) old new = Unit {0}
 KeptBy stop old new = new ≡ old
 
 -- the same of the device of a `file` node
-pub record IsOpened (devices : List DeviceState) (file : ℕ) (image : Known) : Type 0 where
-  pub device : DeviceState
+pub record IsOpened (devices : List DeviceSeen) (file : ℕ) (image : Known) : Type 0 where
+  pub device : DeviceSeen
   pub held : device_in devices file ≡ Some device
   pub on : IsOpenedOn device image
 
-pub record IsUnopened (old new : List DeviceState) (file : ℕ) (stop : ImageStop) : Type 0 where
-  pub before : DeviceState
-  pub after : DeviceState
+pub record IsUnopened (old new : List DeviceSeen) (file : ℕ) (stop : ImageStop) : Type 0 where
+  pub before : DeviceSeen
+  pub after : DeviceSeen
   pub held : device_in old file ≡ Some before
   pub left : device_in new file ≡ Some after
   pub on : IsUnopenedOn before after stop
@@ -124,7 +124,7 @@ backing_stop image Null size = None
 backing_stop image (Node node) size =
     if size == image.header.size then None else Some stops.SizeDiffers
 
-pub record IsMisfit (devices : List DeviceState) (file : ℕ) (backing : Backing) (size : ℕ)
+pub record IsMisfit (devices : List DeviceSeen) (file : ℕ) (backing : Backing) (size : ℕ)
     (stop : AddStop) : Type 0 where
   pub image : Known
   pub opened : IsOpened devices file image
@@ -136,7 +136,7 @@ image_stop images.NoMemory = stops.NoMemory
 image_stop stop = stops.Image stop
 
 -- Why the image in a file isn't had, where its backing node has a disk of that size. Only a failed read raises a count.
-abbrev pub IsOpening : List DeviceState → List DeviceState → ℕ → Backing → ℕ → AddStop → Type 0
+abbrev pub IsOpening : List DeviceSeen → List DeviceSeen → ℕ → Backing → ℕ → AddStop → Type 0
 IsOpening old new file backing size stops.NameTaken = ⊥
 IsOpening old new file backing size stops.TooManyNodes = ⊥
 IsOpening old new file backing size (stops.Conflict pair) = ⊥

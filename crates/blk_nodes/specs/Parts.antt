@@ -11,7 +11,7 @@ use Rattle.q2_image.specs.Reading.{IsWithinCluster}
 use Rattle.q2_image.specs.Writing.{HasHeaderOf, StaysTaken}
 use Rattle.blk_nodes.specs.Changing.{ImageChange}
 use Rattle.blk_nodes.specs.Found.{found_bytes, IsReadOfSource}
-use Rattle.blk_nodes.specs.Nodes.{Nodes, DeviceState, AreTold, device_in, row_at}
+use Rattle.blk_nodes.specs.Nodes.{Nodes, DeviceSeen, AreTold, device_in, row_at}
 use Rattle.blk_nodes.specs.Reading.{HasRisen, HaveRisen, OnlyAt}
 use Rattle.blk_nodes.specs.Walk.{IsKnownAt, CanSourceBeRead}
 use Rattle.blk_nodes.specs.Writing.{taken_by, StaysMapped, IsDeviceAfter, IsImageCallAt, HasImageCause}
@@ -42,7 +42,7 @@ cluster_around size span =
     record { start = start; len = min 65536 (size - start) }
 
 -- a piece of an image: it has bytes, lies in one cluster within the disk, and the rest of the cluster can be read
-pub record IsPieceOf (rows : List (Option Row)) (devices : List DeviceState) (part : Part)
+pub record IsPieceOf (rows : List (Option Row)) (devices : List DeviceSeen) (part : Part)
     (image : Known) : Type 0 where
   pub opened : IsOpen image
   pub some : 0 < part.span.len
@@ -56,7 +56,7 @@ pub record IsPieceOf (rows : List (Option Row)) (devices : List DeviceState) (pa
 abbrev pub row_in : List (Option Row) → ℕ → Option Row
 row_in rows node = slice_index_or rows node None
 
-abbrev pub HasPiece : List (Option Row) → List DeviceState → Part → Type 0
+abbrev pub HasPiece : List (Option Row) → List DeviceSeen → Part → Type 0
 HasPiece rows devices part = OfImage (row_in rows part.node) (IsPieceOf rows devices part)
 
 -- a cluster of which the disk has n bytes: these from a place on, and zeros behind the disk's end
@@ -72,7 +72,7 @@ HasFound n at bytes found cluster = (i : ℕ) → i < n → (i < at) ⊎ (at + l
 
 -- A disk of which the bytes of a piece's cluster were found, where the devices tell theirs. A cluster that isn't whole is the
 -- disk's last.
-pub record IsDiskFound (devices : List DeviceState) (part : Part) (disk : List ℕ) : Type 0 where
+pub record IsDiskFound (devices : List DeviceSeen) (part : Part) (disk : List ℕ) : Type 0 where
   pub told : AreTold devices
   pub found : found_bytes devices part.source part.whole.start part.whole.len
       ≡ bytes_at disk part.whole.start part.whole.len
@@ -80,7 +80,7 @@ pub record IsDiskFound (devices : List DeviceState) (part : Part) (disk : List �
 
 -- a call of the image in a row, on the device of a `file` node
 pub record CallsRow (file : ℕ) (fits : Known → ℕ → Type 0) (own : Known → Option ℕ)
-    (change : ImageChange) (old new : Option Row) (before after : List DeviceState)
+    (change : ImageChange) (old new : Option Row) (before after : List DeviceSeen)
     (place : ℕ) (bytes : List ℕ) (outcome : Outcome) : Type 0 where
   pub row : Row
   pub image : Known
@@ -96,10 +96,10 @@ pub record CallsRow (file : ℕ) (fits : Known → ℕ → Type 0) (own : Known 
 
 -- no row and no device changed, for want of room
 pub record RefusesPiece (file : ℕ) (fits : ℕ → Type 0) (rows left : List (Option Row))
-    (old new : List DeviceState) (outcome : Outcome) : Type 0 where
+    (old new : List DeviceSeen) (outcome : Outcome) : Type 0 where
   pub dev : DevNo
   pub is : outcome ≡ NoSpace dev
-  pub device : DeviceState
+  pub device : DeviceSeen
   pub held : device_in old file ≡ Some device
   pub full : fits device.capacity → ⊥
   pub named : dev ≡ device.number
@@ -108,30 +108,30 @@ pub record RefusesPiece (file : ℕ) (fits : ℕ → Type 0) (rows left : List (
 
 -- The read of the rest of the cluster was stopped: the piece isn't written in place, nor all that the disk has of the cluster.
 pub record StopsReading (part : Part) (fits : ℕ → Type 0) (own : Option ℕ) (change : ImageChange)
-    (image : Known) (rows left : List (Option Row)) (old new : List DeviceState)
+    (image : Known) (rows left : List (Option Row)) (old new : List DeviceSeen)
     (outcome : Outcome) : Type 0 where
   pub dev : DevNo
   pub count : ℕ
   pub is : outcome ≡ Io dev count
   pub nowhere : own ≡ None
   pub less : part.span.len < part.whole.len
-  pub device : DeviceState
+  pub device : DeviceSeen
   pub held : device_in old part.file ≡ Some device
   pub fit : fits device.capacity
   pub read : IsReadOfSource part.source old new outcome
   pub risen : HaveRisen old new
   pub rows_same : left ≡ rows
-  pub changed : (after : DeviceState) → HasRisen device after
+  pub changed : (after : DeviceSeen) → HasRisen device after
       → change image image device after outcome
 
 -- it is read only where the piece isn't all that the disk has of the cluster
-abbrev pub ReadsRest : Part → List DeviceState → List DeviceState → Outcome → Type 0
+abbrev pub ReadsRest : Part → List DeviceSeen → List DeviceSeen → Outcome → Type 0
 ReadsRest part old new outcome =
     ((part.span.len < part.whole.len) × IsReadOfSource part.source old new outcome)
     ⊎ ((outcome ≡ Good) × (new ≡ old))
 
 -- the image's disk has the piece's bytes, over each backing disk from which the rest of the cluster was found
-abbrev pub IsDiskAfter : List DeviceState → Part → List ℕ → List ℕ → List ℕ → Type 0
+abbrev pub IsDiskAfter : List DeviceSeen → Part → List ℕ → List ℕ → List ℕ → Type 0
 IsDiskAfter devices part bytes old new = (backing : List ℕ)
     → found_bytes devices part.source part.whole.start part.whole.len
     ≡ bytes_at (image_disk old backing) part.whole.start part.whole.len
@@ -139,7 +139,7 @@ IsDiskAfter devices part bytes old new = (backing : List ℕ)
 
 -- the image was called
 pub record CallsPiece (part : Part) (fits : ℕ → Type 0) (own : Option ℕ) (change : ImageChange)
-    (image : Known) (row : Row) (rows left : List (Option Row)) (old new : List DeviceState)
+    (image : Known) (row : Row) (rows left : List (Option Row)) (old new : List DeviceSeen)
     (bytes : List ℕ) (outcome : Outcome) : Type 0 where
   pub now : Known
   pub opened : IsOpen now
@@ -147,8 +147,8 @@ pub record CallsPiece (part : Part) (fits : ℕ → Type 0) (own : Option ℕ) (
   pub taken : StaysTaken image now
   pub mapped : StaysMapped image now
   pub row_now : left ≡ slice_set rows part.node (Some (record row { driver = Qcow2 now }))
-  pub before : DeviceState
-  pub after : DeviceState
+  pub before : DeviceSeen
+  pub after : DeviceSeen
   pub held : device_in old part.file ≡ Some before
   pub held_now : device_in new part.file ≡ Some after
   pub only : OnlyAt part.file old new
@@ -161,7 +161,7 @@ pub record CallsPiece (part : Part) (fits : ℕ → Type 0) (own : Option ℕ) (
       → IsDiskAfter old part (taken_by outcome bytes) b b'
 
 pub record WritesPart (fits : Known → ℕ → Type 0) (own : Known → Option ℕ)
-    (change : ImageChange) (rows left : List (Option Row)) (old new : List DeviceState)
+    (change : ImageChange) (rows left : List (Option Row)) (old new : List DeviceSeen)
     (part : Part) (bytes : List ℕ) (outcome : Outcome) : Type 0 where
   pub row : Row
   pub image : Known

@@ -8,48 +8,48 @@ use Rattle.blk_base.specs.declared.fault.Outcome.TheVariants.{Good, Torn, Io, No
 use Rattle.blk_base.specs.declared.fault.DevNo.{DevNo}
 use Rattle.blk_graph.specs.Paths.{Reaches}
 use Rattle.blk_graph.specs.declared.edge.Edge.{Edge}
-use Rattle.blk_nodes.specs.Nodes.{Nodes, DeviceState, device_in}
+use Rattle.blk_nodes.specs.Nodes.{Nodes, DeviceSeen, device_in}
 
 -- a device but for its count, which may have risen
-pub record HasRisen (old new : DeviceState) : Type 0 where
+pub record HasRisen (old new : DeviceSeen) : Type 0 where
   pub same : new ≡ record old { faults = new.faults }
   pub faults : old.faults ≤ new.faults
 
-abbrev pub HaveRisen : List DeviceState → List DeviceState → Type 0
+abbrev pub HaveRisen : List DeviceSeen → List DeviceSeen → Type 0
 HaveRisen [] [] = Unit {0}
 HaveRisen (a ∷ old) (b ∷ new) = HasRisen a b × HaveRisen old new
 HaveRisen _ _ = ⊥
 
 -- a device stopped the call: it is named with its count, which rose
-pub record StoppedBy (old new : DeviceState) (dev : DevNo) (count : ℕ) : Type 0 where
+pub record StoppedBy (old new : DeviceSeen) (dev : DevNo) (count : ℕ) : Type 0 where
   pub named : dev ≡ old.number
   pub rose : Rose old.faults count
   pub now : count ≡ new.faults
 
 -- how a read of one device went
-abbrev pub IsReadOf : DeviceState → DeviceState → Outcome → Type 0
+abbrev pub IsReadOf : DeviceSeen → DeviceSeen → Outcome → Type 0
 IsReadOf old new Good = new ≡ old
 IsReadOf old new (Torn done dev count) = ⊥
 IsReadOf old new (Io dev count) = StoppedBy old new dev count
 IsReadOf old new (NoSpace dev) = ⊥
 
 -- all devices but that of a `file` node are as before
-pub record OnlyAt (file : ℕ) (old new : List DeviceState) : Type 0 where
+pub record OnlyAt (file : ℕ) (old new : List DeviceSeen) : Type 0 where
   pub nodes : map (λ device. device.node) new ≡ map (λ device. device.node) old
   pub others : (other : ℕ) → other ≢ file → device_in new other ≡ device_in old other
 
 -- the device of a `file` node, and no other, stopped the call
-pub record StoppedAt (file : ℕ) (old new : List DeviceState) (dev : DevNo) (count : ℕ) : Type 0
+pub record StoppedAt (file : ℕ) (old new : List DeviceSeen) (dev : DevNo) (count : ℕ) : Type 0
   where
-    pub before : DeviceState
-    pub after : DeviceState
+    pub before : DeviceSeen
+    pub after : DeviceSeen
     pub held : device_in old file ≡ Some before
     pub left : device_in new file ≡ Some after
     pub stopped : StoppedBy before after dev count
     pub only : OnlyAt file old new
 
 -- how a read of the device of a `file` node went
-abbrev pub IsReadAt : ℕ → List DeviceState → List DeviceState → Outcome → Type 0
+abbrev pub IsReadAt : ℕ → List DeviceSeen → List DeviceSeen → Outcome → Type 0
 IsReadAt file old new Good = new ≡ old
 IsReadAt file old new (Torn done dev count) = ⊥
 IsReadAt file old new (Io dev count) = StoppedAt file old new dev count

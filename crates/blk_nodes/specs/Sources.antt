@@ -59,8 +59,8 @@ source_in (suc turns) nodes node place = elim (step_of nodes node place) as (λ 
   | Below next ↦ source_in turns nodes next place
 ]
 
-unfoldable pub source_of : Nodes → ℕ → ℕ → Source
-source_of nodes node place = source_in 64 nodes node place
+unfoldable pub source_at : Nodes → ℕ → ℕ → Source
+source_at nodes node place = source_in 64 nodes node place
 
 -- the byte that stands there, so many behind the place
 abbrev pub byte_at : Nodes → Source → ℕ → ℕ → ℕ

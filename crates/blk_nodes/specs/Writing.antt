@@ -18,9 +18,9 @@ use Rattle.q2_image.specs.Writing.{IsDiskWith, HasHeaderOf, StaysTaken, own_plac
 use Rattle.blk_nodes.specs.Changing.{ImageChange, IsImageWritten, IsZeroed, LeavesRow, cluster_start}
 use Rattle.blk_nodes.specs.Contents.{IsToldDisk}
 use Rattle.blk_nodes.specs.Found.{IsReadOfSource}
-use Rattle.blk_nodes.specs.Nodes.{Nodes, DeviceState, row_at, device_in, file_of, backing_of}
+use Rattle.blk_nodes.specs.Nodes.{Nodes, DeviceSeen, row_at, device_in, file_of, backing_of}
 use Rattle.blk_nodes.specs.Reading.{HaveRisen, OnlyAt, StoppedBy, LeadsTo}
-use Rattle.blk_nodes.specs.Sources.{source_of}
+use Rattle.blk_nodes.specs.Sources.{source_at}
 use Rattle.blk_nodes.specs.declared.row.Driver.{Driver}
 use Rattle.blk_nodes.specs.declared.row.Driver.TheVariants as drivers
 use Rattle.blk_nodes.specs.declared.row.Row.{Row}
@@ -33,18 +33,18 @@ taken_by (Torn done dev count) bytes = take done bytes
 taken_by (Io dev count) bytes = []
 taken_by (NoSpace dev) bytes = []
 
-abbrev pub outcome_by : DeviceState → ℕ → Stop → Outcome
+abbrev pub outcome_by : DeviceSeen → ℕ → Stop → Outcome
 outcome_by device done why.NoSpace = NoSpace device.number
 outcome_by device done why.Failed =
     if done == 0 then Io device.number device.faults else Torn done device.number device.faults
 
 -- what a write that stopped has answered
-abbrev pub write_outcome : DeviceState → WriteStop → Outcome
+abbrev pub write_outcome : DeviceSeen → WriteStop → Outcome
 write_outcome device stop = outcome_by device stop.done stop.why
 
 -- why a write of so many bytes at a place went so: it has room unless it is refused for want of that, and else only a fault
 -- stops it, within the bytes at a border of sectors or before them
-abbrev pub HasCauseOf : DeviceState → DeviceState → ℕ → ℕ → Outcome → Type 0
+abbrev pub HasCauseOf : DeviceSeen → DeviceSeen → ℕ → ℕ → Outcome → Type 0
 HasCauseOf old new place n Good = (place + n ≤ old.capacity) × (new.faults ≡ old.faults)
 HasCauseOf old new place n (Torn done dev count) = (place + n ≤ old.capacity)
     × (0 < done) × (done < n) × ((place + done) % 512 ≡ 0) × StoppedBy old new dev count
@@ -53,7 +53,7 @@ HasCauseOf old new place n (NoSpace dev) =
     (old.capacity < place + n) × (dev ≡ old.number) × (new.faults ≡ old.faults)
 
 -- a device after a write of these bytes at a place
-pub record IsWriteOf (old new : DeviceState) (place : ℕ) (bytes : List ℕ)
+pub record IsWriteOf (old new : DeviceSeen) (place : ℕ) (bytes : List ℕ)
     (outcome : Outcome) : Type 0 where
   pub node : new.node ≡ old.node
   pub number : new.number ≡ old.number
@@ -67,10 +67,10 @@ pub record IsWriteOf (old new : DeviceState) (place : ℕ) (bytes : List ℕ)
   pub cause : HasCauseOf old new place (length bytes) outcome
 
 -- the device of a `file` node was written, and no other
-pub record IsWriteAt (file : ℕ) (old new : List DeviceState) (place : ℕ) (bytes : List ℕ)
+pub record IsWriteAt (file : ℕ) (old new : List DeviceSeen) (place : ℕ) (bytes : List ℕ)
     (outcome : Outcome) : Type 0 where
-  pub before : DeviceState
-  pub after : DeviceState
+  pub before : DeviceSeen
+  pub after : DeviceSeen
   pub held : device_in old file ≡ Some before
   pub left : device_in new file ≡ Some after
   pub wrote : IsWriteOf before after place bytes outcome
@@ -79,7 +79,7 @@ pub record IsWriteAt (file : ℕ) (old new : List DeviceState) (place : ℕ) (by
 -- Of the image on a device.
 
 -- it is the same device, whose count may have risen
-pub record IsDeviceAfter (old new : DeviceState) : Type 0 where
+pub record IsDeviceAfter (old new : DeviceSeen) : Type 0 where
   pub node : new.node ≡ old.node
   pub number : new.number ≡ old.number
   pub told : is_some new.content ≡ is_some old.content
@@ -92,7 +92,7 @@ StaysMapped before after = (cluster : ℕ) → entry_in before cluster ≢ entri
     → entry_in after cluster ≢ entries.Unallocated
 
 -- what is so of an image and of its device behind a call that writes these bytes from a place of the image's disk on
-pub record IsImageWrite (old new : DeviceState) (before after : Known) (place : ℕ)
+pub record IsImageWrite (old new : DeviceSeen) (before after : Known) (place : ℕ)
     (bytes : List ℕ) : Type 0 where
   pub device : IsDeviceAfter old new
   -- what is known of the image is so of the file
@@ -109,7 +109,7 @@ IsTornAt None n done = ⊥
 IsTornAt (Some place) n done = (0 < done) × (done < n) × ((place + done) % 512 ≡ 0)
 
 -- why it went so: there is room unless it is refused for want of that, and then nothing is tried; and else only a fault stops it
-abbrev pub HasImageCause : Type 0 → Option ℕ → ℕ → DeviceState → DeviceState → Known → Known
+abbrev pub HasImageCause : Type 0 → Option ℕ → ℕ → DeviceSeen → DeviceSeen → Known → Known
     → Outcome → Type 0
 HasImageCause fits place n old new before after Good = fits × (new.faults ≡ old.faults)
 HasImageCause fits place n old new before after (Torn done dev count) =
@@ -119,7 +119,7 @@ HasImageCause fits place n old new before after (NoSpace dev) =
     (fits → ⊥) × (dev ≡ old.number) × (new ≡ old) × (after ≡ before)
 
 pub record IsImageCall (fits : Type 0) (own : Option ℕ) (change : ImageChange)
-    (old new : DeviceState) (before after : Known) (place : ℕ) (bytes : List ℕ)
+    (old new : DeviceSeen) (before after : Known) (place : ℕ) (bytes : List ℕ)
     (outcome : Outcome) : Type 0 where
   pub wrote : IsImageWrite old new before after place (taken_by outcome bytes)
   pub cause : HasImageCause fits own (length bytes) old new before after outcome
@@ -127,10 +127,10 @@ pub record IsImageCall (fits : Type 0) (own : Option ℕ) (change : ImageChange)
 
 -- the same of the device of a `file` node; whether there is room goes by its capacity
 pub record IsImageCallAt (file : ℕ) (fits : ℕ → Type 0) (own : Option ℕ)
-    (change : ImageChange) (old new : List DeviceState) (image now : Known) (place : ℕ)
+    (change : ImageChange) (old new : List DeviceSeen) (image now : Known) (place : ℕ)
     (bytes : List ℕ) (outcome : Outcome) : Type 0 where
-  pub before : DeviceState
-  pub after : DeviceState
+  pub before : DeviceSeen
+  pub after : DeviceSeen
   pub held : device_in old file ≡ Some before
   pub left : device_in new file ≡ Some after
   pub call : IsImageCall (fits before.capacity) own change before after image now place bytes
@@ -139,25 +139,25 @@ pub record IsImageCallAt (file : ℕ) (fits : ℕ → Type 0) (own : Option ℕ)
   pub full : (dev : DevNo) → outcome ≡ NoSpace dev → new ≡ old
 
 -- how a write of a whole cluster went, or of its entry
-abbrev pub cluster_outcome : DeviceState → Result (Unit {0}) DevStop → Outcome
+abbrev pub cluster_outcome : DeviceSeen → Result (Unit {0}) DevStop → Outcome
 cluster_outcome device (Ok done) = Good
 cluster_outcome device (Err (stops.Io count)) = Io device.number count
 cluster_outcome device (Err stops.NoSpace) = NoSpace device.number
 
 -- whether there is room on a device
-abbrev pub HasRoomBy : Type 0 → DeviceState → Outcome → Type 0
+abbrev pub HasRoomBy : Type 0 → DeviceSeen → Outcome → Type 0
 HasRoomBy fits device Good = fits
 HasRoomBy fits device (Torn done dev count) = ⊥
 HasRoomBy fits device (Io dev count) = ⊥
 HasRoomBy fits device (NoSpace dev) = (fits → ⊥) × (dev ≡ device.number)
 
-abbrev pub HasRoomAt : ℕ → List DeviceState → (ℕ → Type 0) → Outcome → Type 0
-HasRoomAt file devices fits outcome = (device : DeviceState) → device_in devices file ≡ Some device
+abbrev pub HasRoomAt : ℕ → List DeviceSeen → (ℕ → Type 0) → Outcome → Type 0
+HasRoomAt file devices fits outcome = (device : DeviceSeen) → device_in devices file ≡ Some device
     → HasRoomBy (fits device.capacity) device outcome
 
-abbrev pub FitsAt : ℕ → List DeviceState → (ℕ → Type 0) → Type 0
+abbrev pub FitsAt : ℕ → List DeviceSeen → (ℕ → Type 0) → Type 0
 FitsAt file devices fits =
-    (device : DeviceState) → device_in devices file ≡ Some device → fits device.capacity
+    (device : DeviceSeen) → device_in devices file ≡ Some device → fits device.capacity
 
 -- Of a node.
 
@@ -178,7 +178,7 @@ pub record WritesFile (old new : Nodes) (node place : ℕ) (bytes : List ℕ)
     (outcome : Outcome) : Type 0 where
   pub file : ℕ
   pub start : ℕ
-  pub stands : source_of old node place ≡ File file start
+  pub stands : source_at old node place ≡ File file start
   pub row : Row
   pub there : row_at old node ≡ Some row
   pub own : own_file old node row.driver ≡ Some file
@@ -201,12 +201,12 @@ rest_place None false image span = Some (cluster_start image span)
 abbrev pub IsRestRead : Option ℕ → Nodes → Nodes → ℕ → Outcome → Type 0
 IsRestRead None old new node outcome = ⊥
 IsRestRead (Some start) old new node outcome =
-    IsReadOfSource (source_of old node start) old.devices new.devices outcome
+    IsReadOfSource (source_at old node start) old.devices new.devices outcome
 
 -- Why a piece of an image went so whose file is on this device. What stops it before its first byte is a call of that device, or
 -- the read of the rest of its cluster.
-abbrev pub HasPieceCause : Type 0 → Option ℕ → Option ℕ → ℕ → ℕ → Nodes → Nodes → ℕ → DeviceState
-    → DeviceState → Outcome → Type 0
+abbrev pub HasPieceCause : Type 0 → Option ℕ → Option ℕ → ℕ → ℕ → Nodes → Nodes → ℕ → DeviceSeen
+    → DeviceSeen → Outcome → Type 0
 HasPieceCause fits own rest n file old new node before after Good =
     fits × (after.faults ≡ before.faults) × OnlyAt file old.devices new.devices
 HasPieceCause fits own rest n file old new node before after (Torn done dev count) =
@@ -223,8 +223,8 @@ pub record WritesImage (fits : ℕ → Type 0) (own rest : Option ℕ) (old new 
     (outcome : Outcome) : Type 0 where
   pub file : ℕ
   pub edge : file_of old node ≡ Some file
-  pub before : DeviceState
-  pub after : DeviceState
+  pub before : DeviceSeen
+  pub after : DeviceSeen
   pub held : device_in old.devices file ≡ Some before
   pub left : device_in new.devices file ≡ Some after
   pub device : IsDeviceAfter before after
@@ -323,7 +323,7 @@ CanBeWritten nodes node drivers.CopyOnRead = ⊥
 
 -- A node that may be written: it isn't read-only, and no other node's image is in its file, so that a write through it breaks
 -- nothing that is known of one.
-pub record MayWrite (nodes : Nodes) (node : ℕ) : Type 0 where
+pub record MayWriteThrough (nodes : Nodes) (node : ℕ) : Type 0 where
   pub row : Row
   pub there : row_at nodes node ≡ Some row
   pub writable : row.is_read_only ≡ false

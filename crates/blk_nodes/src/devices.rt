@@ -11,7 +11,7 @@ ghost use Rattle.q2_image.specs.Reading.{IsHost, IsWithinCluster};
 ghost use Rattle.blk_nodes.specs.Contents.{bytes_by};
 ghost use Rattle.blk_nodes.specs.Dropping.{other_devices};
 ghost use Rattle.blk_nodes.specs.Joined.{DifferInNode};
-ghost use Rattle.blk_nodes.specs.Nodes.{AreTold, DeviceState, is_of, device_in};
+ghost use Rattle.blk_nodes.specs.Nodes.{AreTold, DeviceSeen, is_device_of, device_in};
 ghost use Rattle.blk_nodes.specs.Overlays.{IsOpened, IsOpenedOn, IsUnopened, IsUnopenedOn};
 ghost use Rattle.blk_nodes.specs.Flushing.{IsFlushOf, IsFlushAt};
 ghost use Rattle.blk_nodes.specs.Formatting.{format_stop, IsFormatOf, IsFormatAt};
@@ -36,9 +36,9 @@ pub(crate) struct Held<D: Device> {
 }
 
 impl<D: Device> Model for Held<D> {
-    ghost use Rattle.blk_nodes.specs.Nodes.{DeviceState};
+    ghost use Rattle.blk_nodes.specs.Nodes.{DeviceSeen};
 
-    ghost Value = { DeviceState };
+    ghost Value = { DeviceSeen };
 
     ghost view = { λ h. record {
       node = h.node;
@@ -60,7 +60,7 @@ impl<D: Device> Held<D> {
     }
 
     fn is_of(&self, node: NodeId) -> bool
-        ensures { result ≡ is_of node self.now }
+        ensures { result ≡ is_device_of node self.now }
     {
         self.node == node
     }
@@ -199,9 +199,9 @@ pub(crate) struct Devices<D: Device> {
 
 impl<D: Device> Model for Devices<D> {
     ghost use Rattle.std.specs.Prelude.{List};
-    ghost use Rattle.blk_nodes.specs.Nodes.{DeviceState};
+    ghost use Rattle.blk_nodes.specs.Nodes.{DeviceSeen};
 
-    ghost Value = { List DeviceState };
+    ghost Value = { List DeviceSeen };
 
     ghost view = { λ d. d.list.items };
 }
@@ -218,7 +218,7 @@ impl<D: Device> Devices<D> {
 
     /// Where the device of a `file` node stands.
     fn place_of(&self, file: NodeId) -> Option<usize>
-        ensures place { result ≡ position (is_of file) self.now }
+        ensures place { result ≡ position (is_device_of file) self.now }
         ensures within { IfSome result (λ at. at < length self.now) }
     {
         self.list.iter().position(|held| held.is_of(file))
@@ -269,7 +269,7 @@ impl<D: Device> Devices<D> {
         requires inside { span.start < image.now.header.size }
         requires host { IsHost (entry_in image.now (span.start / cluster_size_in image.now)) }
         requires whole { length buffer.old ≡ span.len }
-        requires known { (device : DeviceState) (bytes : List ℕ)
+        requires known { (device : DeviceSeen) (bytes : List ℕ)
             → device_in self.old file ≡ Some device → device.content ≡ Some bytes
             → IsImageOf bytes image.now }
         ensures read { AreTold self.old → result ≡ Outcome.Good
@@ -319,7 +319,7 @@ impl<D: Device> Devices<D> {
         requires { AllPairs DifferInNode self.old }
         ensures left { self.new ≡ other_devices node self.old }
         ensures device { MatchOption result (device_in self.old node ≡ None)
-            (λ device. (held : DeviceState) × (device_in self.old node ≡ Some held)
+            (λ device. (held : DeviceSeen) × (device_in self.old node ≡ Some held)
             × (held ≡ record held {
               content = D.content device;
               is_flushed = D.is_flushed device;

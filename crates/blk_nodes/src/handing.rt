@@ -16,9 +16,9 @@ pub struct DevicesLeft<D: Device> {
 
 impl<D: Device> Model for DevicesLeft<D> {
     ghost use Rattle.std.specs.Prelude.{List};
-    ghost use Rattle.blk_nodes.specs.Nodes.{DeviceState};
+    ghost use Rattle.blk_nodes.specs.Nodes.{DeviceSeen};
 
-    ghost Value = { List DeviceState };
+    ghost Value = { List DeviceSeen };
 
     ghost view = { λ d. d.left.items };
 }

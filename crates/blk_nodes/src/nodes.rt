@@ -4,18 +4,18 @@ ghost use Rattle.blk_base.specs.Pieces.{end_of};
 ghost use Rattle.blk_graph.specs.Edits.{with_edge};
 ghost use Rattle.blk_graph.specs.Graph.{HasName, HasNode, ids};
 ghost use Rattle.blk_graph.specs.Ids.{IsLowestFree};
-ghost use Rattle.blk_nodes.specs.Adding.{with_node, with_device, with_below, kind_with, without_guest, file_edge, guest_edge, raw_row, is_read_only_in, IsDenied, IsFileStop, IsNameStop, IsOverStop};
+ghost use Rattle.blk_nodes.specs.Adding.{with_node_row, with_node_device, with_below, kind_with, without_guest, file_edge, guest_edge, raw_row, is_read_only_in, IsDenied, IsFileStop, IsNameStop, IsOverStop};
 ghost use Rattle.blk_nodes.specs.Joined.{IsFile, IsJoined};
 ghost use Rattle.blk_graph.specs.Rule.{KeepsPermissions, first_conflict};
 ghost use Rattle.blk_graph.specs.declared.edge.Conflict.{Conflict as Pair};
 ghost use Rattle.q2_image.specs.Reading.{IsWithinCluster};
-ghost use Rattle.blk_nodes.specs.Nodes.{no_nodes, row_at, size_of, AreTold};
-ghost use Rattle.blk_nodes.specs.Contents.{told, below, disk_of, bytes_of, Unfolds};
+ghost use Rattle.blk_nodes.specs.Nodes.{no_nodes, row_at, node_size, AreTold};
+ghost use Rattle.blk_nodes.specs.Contents.{told, disk_under, disk_of, bytes_of, Unfolds};
 ghost use Rattle.blk_nodes.specs.Overlays.{copying_row, with_children, backing_node, backing_size, IsQcow2Added, IsQcow2Stop};
 ghost use Rattle.q2_format.specs.Contents.{file_disk, raw_disk, image_disk};
 ghost use Rattle.blk_nodes.specs.Found.{IsReadOfSource};
 ghost use Rattle.blk_nodes.specs.Walk.{CanSourceBeRead, GoesDown, LeadsToSource, LeadsOn};
-ghost use Rattle.blk_nodes.specs.Sources.{step_of, source_in, source_of};
+ghost use Rattle.blk_nodes.specs.Sources.{step_of, source_in, source_at};
 ghost use Rattle.blk_nodes.specs.Reading.{HaveRisen, IsReadBelow, ReadsDisk};
 
 mod copying;
@@ -101,7 +101,7 @@ impl<D: Device> Nodes<D> {
 
     /// The bytes of a node's disk; of no node, 0.
     pub fn size(&self, node: NodeId) -> u64
-        ensures { result ≡ size_of self.now node }
+        ensures { result ≡ node_size self.now node }
     {
         match &self.rows[node.index()] {
             None => 0,
@@ -162,8 +162,8 @@ impl<D: Device> Nodes<D> {
         ensures only { IfErr result (λ e. IsFileStop e.0) }
         ensures ok { IfOk result
             (λ id. self.new
-            ≡ with_device
-            (with_node self.old id name.bytes
+            ≡ with_node_device
+            (with_node_row self.old id name.bytes
             (record { driver = Driver.File; size = D.size device; is_read_only = read_only }))
             (record {
               node = id;
@@ -217,7 +217,7 @@ impl<D: Device> Nodes<D> {
         read_only: bool,
     ) -> Result<NodeId, AddStop>
         requires file { IsFile self.old file }
-        requires part { end_of part ≤ size_of self.old file }
+        requires part { end_of part ≤ node_size self.old file }
         ensures taken { (result ≡ Err AddStop.NameTaken) ↔ HasName self.old.graph name.bytes }
         ensures full { (result ≡ Err AddStop.TooManyNodes)
             ↔ ((length self.old.graph.nodes ≡ 64) × ¬ HasName self.old.graph name.bytes) }
@@ -226,7 +226,7 @@ impl<D: Device> Nodes<D> {
             (λ id. with_edge (file_edge id file)) pair }
         ensures only { IfErr result IsOverStop }
         ensures ok { IfOk result (λ id. self.new
-            ≡ with_below (with_node self.old id name.bytes (raw_row part read_only))
+            ≡ with_below (with_node_row self.old id name.bytes (raw_row part read_only))
             (file_edge id file)) }
         ensures lowest { IfOk result (IsLowestFree (ids self.old.graph)) }
         ensures disks { OnOk result ((other : ℕ) → HasNode self.old.graph other
@@ -300,7 +300,7 @@ impl<D: Device> Nodes<D> {
             → disk_of self.new other ≡ disk_of self.old other) }
         ensures disk { IfOk result (λ id. disk_of self.new id
             ≡ image_disk (bytes_of self.old file)
-            (below (disk_of self.old) (backing_node backing))) }
+            (disk_under (disk_of self.old) (backing_node backing))) }
     {
         let size = self.backing_size(&backing);
         if let Err(stop) = self.check_name(name.as_str()) {
@@ -349,7 +349,8 @@ impl<D: Device> Nodes<D> {
             (λ id. with_edge (file_edge id child)) pair }
         ensures only { IfErr result IsOverStop }
         ensures ok { IfOk result (λ id. self.new
-            ≡ with_children self.old id name.bytes (copying_row (size_of self.old child) read_only)
+            ≡ with_children self.old id name.bytes
+            (copying_row (node_size self.old child) read_only)
             child None) }
         ensures lowest { IfOk result (IsLowestFree (ids self.old.graph)) }
         ensures disks { OnOk result ((other : ℕ) → HasNode self.old.graph other
@@ -422,7 +423,7 @@ impl<D: Device> Nodes<D> {
 
     /// One step down the chain of a node: where its bytes stand from a place on.
     fn step(&self, node: NodeId, place: u64) -> Step
-        requires { place < size_of self.now node }
+        requires { place < node_size self.now node }
         ensures step { result ≡ step_of self.now node place }
         ensures walk { GoesDown self.now place result }
         ensures leads { LeadsOn self.now.graph.edges node result }
@@ -437,7 +438,7 @@ impl<D: Device> Nodes<D> {
 
     /// Where the bytes of a node's disk stand from a place on, down a chain of so many nodes.
     fn source_in(&self, turns: u32, node: NodeId, place: u64) -> Source
-        requires { place < size_of self.now node }
+        requires { place < node_size self.now node }
         ensures source { result ≡ source_in turns self.now node place }
         ensures read { CanSourceBeRead self.now.rows self.now.devices place result }
         ensures leads { LeadsToSource self.now.graph.edges node result }
@@ -452,10 +453,10 @@ impl<D: Device> Nodes<D> {
     }
 
     /// Where the bytes of a node's disk stand from a place on. No chain has more than 64 nodes.
-    #[tactic(auto, unfolding(crate::specs::Sources::source_of))]
+    #[tactic(auto, unfolding(crate::specs::Sources::source_at))]
     fn source(&self, node: NodeId, place: u64) -> Source
-        requires { place < size_of self.now node }
-        ensures source { result ≡ source_of self.now node place }
+        requires { place < node_size self.now node }
+        ensures source { result ≡ source_at self.now node place }
         ensures read { CanSourceBeRead self.now.rows self.now.devices place result }
         ensures leads { LeadsToSource self.now.graph.edges node result }
     {
@@ -466,12 +467,12 @@ impl<D: Device> Nodes<D> {
     /// bytes stand, with that device's count of faults; `buffer` then holds any bytes. Takes no memory.
     pub fn peek_piece(&mut self, node: NodeId, span: Span, buffer: &mut [u8]) -> Outcome
         requires block { IsWithinCluster 65536 span }
-        requires inside { end_of span ≤ size_of self.old node }
+        requires inside { end_of span ≤ node_size self.old node }
         requires whole { length buffer.old ≡ span.len }
         ensures read { AreTold self.old.devices
             → ReadsDisk result (disk_of self.old node) span buffer.new }
         ensures outcome { IsReadBelow self.old self.new node result }
-        ensures source { IsReadOfSource (source_of self.old node span.start) self.old.devices
+        ensures source { IsReadOfSource (source_at self.old node span.start) self.old.devices
             self.new.devices result }
         ensures kept { self.new ≡ record self.old { devices = self.new.devices } }
         ensures devices { HaveRisen self.old.devices self.new.devices }

@@ -7,7 +7,7 @@ use Rattle.blk_base.specs.declared.fault.Outcome.{Outcome}
 use Rattle.blk_base.specs.declared.fault.Outcome.TheVariants.{Good, NoSpace}
 use Rattle.blk_nodes.specs.Contents.{disk_of}
 use Rattle.blk_nodes.specs.Copying.{AtSome, LacksRoomIn, MapsNext, MapsEach, MapsOne, StopsUnread, images_met}
-use Rattle.blk_nodes.specs.Nodes.{Nodes, DeviceState}
+use Rattle.blk_nodes.specs.Nodes.{Nodes, DeviceSeen}
 use Rattle.blk_nodes.specs.Reading.{HaveRisen, IsReadBelow}
 use Rattle.blk_nodes.proofs.Disks.{disks_risen}
 use Rattle.blk_nodes.proofs.HeldDevices.{HaveRisen-refl}
@@ -33,7 +33,7 @@ reads_only old new drive outcome kept risen read = record {
 
 reads_good : (old new : Nodes) (drive : ℕ) (outcome : Outcome) → new ≡ old → outcome ≡ Good → ReadsOnly old new drive outcome
 reads_good old new drive outcome same good =
-    reads_only old new drive outcome (same ∙ ap (λ (devices : List DeviceState). record old { devices = devices }) (sym (ap (λ (n : Nodes). n.devices) same)))
+    reads_only old new drive outcome (same ∙ ap (λ (devices : List DeviceSeen). record old { devices = devices }) (sym (ap (λ (n : Nodes). n.devices) same)))
     (subst (λ (n : Nodes). HaveRisen old.devices n.devices) (sym same) (HaveRisen-refl old.devices))
     (subst (λ (o : Outcome). IsReadBelow old new drive o) (sym good) same)
 

@@ -12,7 +12,7 @@ use Rattle.blk_history.specs.Fold.{With}
 use Rattle.blk_history.specs.Legal.{Tells}
 use Rattle.blk_nodes.specs.Contents.{disk_of}
 use Rattle.blk_nodes.specs.Copying.{GoesWhole, MapsNext, MapsEach, ReadsPiece, images_met}
-use Rattle.blk_nodes.specs.Nodes.{Nodes, DeviceState, AreTold}
+use Rattle.blk_nodes.specs.Nodes.{Nodes, DeviceSeen, AreTold}
 use Rattle.blk_nodes.specs.Writing.{WritesBy, ZerosBy, IsTornAt, HasCauseOf}
 use Rattle.blk_nodes.specs.declared.row.Driver.{Driver}
 use Rattle.blk_nodes.specs.declared.row.Driver.TheVariants as drivers
@@ -21,7 +21,7 @@ use Rattle.blk_pieces.proofs.Payloads.{payload_length}
 
 -- ---- torn pieces
 
-torn_file : (before after : DeviceState) (place n done : ℕ) (dev : DevNo) (count : ℕ) → HasCauseOf before after place n (Torn done dev count) → (0 < done) × (done < n)
+torn_file : (before after : DeviceSeen) (place n done : ℕ) (dev : DevNo) (count : ℕ) → HasCauseOf before after place n (Torn done dev count) → (0 < done) × (done < n)
 torn_file before after place n done dev count cause = (cause.1, cause.2)
 
 torn_image : (own : Option ℕ) (n done : ℕ) → IsTornAt own n done → (0 < done) × (done < n)

@@ -11,9 +11,9 @@ use Rattle.blk_history.specs.Disk.{is_write, payload_in}
 use Rattle.blk_nodes.specs.Contents.{disk_of}
 use Rattle.blk_nodes.specs.Copying.{AtEach, IsBeside, IsMappedAt, LeavesRest, ReadsPiece, images_met}
 use Rattle.blk_nodes.specs.Flushing.{base_of, IsFlushAt}
-use Rattle.blk_nodes.specs.Nodes.{Nodes, AreTold, size_of}
+use Rattle.blk_nodes.specs.Nodes.{Nodes, AreTold, node_size}
 use Rattle.blk_nodes.specs.Reading.{ReadsDisk}
-use Rattle.blk_nodes.specs.Writing.{MayWrite, IsApartFrom, LeavesNodes, WritesPiece, ZerosPiece, taken_by}
+use Rattle.blk_nodes.specs.Writing.{MayWriteThrough, IsApartFrom, LeavesNodes, WritesPiece, ZerosPiece, taken_by}
 
 -- ---- what a piece is
 
@@ -26,8 +26,8 @@ IsPartAsked op part = 0 < part.len
 -- A read goes in at the node that a guest is on, and may put what it reads into images below; all else is asked of the node
 -- that this one reads as.
 pub record CanRead (nodes : Nodes) (drive : ℕ) (part : Extent) : Type 0 where
-  pub inside : end_of part ≤ size_of nodes drive
-  pub may : AtEach (MayWrite nodes) (images_met nodes drive part.start)
+  pub inside : end_of part ≤ node_size nodes drive
+  pub may : AtEach (MayWriteThrough nodes) (images_met nodes drive part.start)
 
 abbrev pub CanReadFor : Op → Nodes → ℕ → Extent → Type 0
 CanReadFor (Read span) nodes drive part = CanRead nodes drive part
@@ -36,9 +36,9 @@ CanReadFor op nodes drive part = Unit {0}
 -- the nodes can be asked for it
 pub record CanTransfer (nodes : Nodes) (drive node : ℕ) (op : Op) (part : Extent) : Type 0 where
   pub there : HasNode nodes.graph node
-  pub inside : end_of part ≤ size_of nodes node
+  pub inside : end_of part ≤ node_size nodes node
   pub read : CanReadFor op nodes drive part
-  pub may : is_write op ≡ true → MayWrite nodes node
+  pub may : is_write op ≡ true → MayWriteThrough nodes node
 
 -- what it shows, of what its read left in the buffer
 abbrev pub shown_of : Op → Outcome → List ℕ → List ℕ

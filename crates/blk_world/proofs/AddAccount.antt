@@ -10,8 +10,8 @@ use Rattle.qmp_codec.specs.declared.nodes.Added.{Added}
 use Rattle.qmp_codec.specs.declared.nodes.Added.TheVariants as added
 use Rattle.qmp_codec.specs.declared.nodes.FileRef.{FileRef}
 use Rattle.qmp_codec.specs.declared.nodes.FileRef.TheVariants as file_ref
-use Rattle.qmp_rules.specs.Answers.{refusal_of, untold}
-use Rattle.qmp_rules.specs.Table.{Table}
+use Rattle.qmp_rules.specs.Answers.{refusal_to, told_none}
+use Rattle.qmp_rules.specs.Table.{RunTable}
 use Rattle.qmp_rules.specs.declared.refusal.Refusal.{Refusal}
 use Rattle.qmp_asks.specs.declared.look.Look.TheVariants as look
 use Rattle.qmp_rules.specs.declared.told.Told.{Told}
@@ -22,7 +22,7 @@ use Rattle.world_commands.specs.Carrying.{IsCaused, as_held, fault_told}
 use Rattle.world_parts.specs.Coherent.{DevicesTell, IsCoherent, IsWholeWorld}
 use Rattle.world_commands.specs.Comes.{ShowsState}
 use Rattle.world_commands.specs.Counting.{HidesNoFault, RunsOn}
-use Rattle.world_parts.specs.Face.{Face}
+use Rattle.world_parts.specs.Face.{WorldSeen}
 use Rattle.world_parts.specs.Looking.{AreIn, LooksAtImage, LooksAtPart, LooksBy, LooksOut, Site}
 use Rattle.world_parts.specs.Staging.{HasAdditionEnded, IsAdditionOf, opened_name, site_of, store_of}
 use Rattle.blk_world.proofs.AddCarried.{sited}
@@ -39,7 +39,7 @@ use Rattle.blk_world.proofs.AddUnder.{seen-under}
 
 -- ---- what was seen
 
-module _ (o : Opening) (s : State) (w : Face) (shows : ShowsState o s w) (coherent : IsCoherent w.table w.nodes w.opened w.progress)
+module _ (o : Opening) (s : State) (w : WorldSeen) (shows : ShowsState o s w) (coherent : IsCoherent w.table w.nodes w.opened w.progress)
     (tell : DevicesTell w.files w.nodes.devices) (files : List File) (told_files : w.files ≡ Some files) (c : Adding) (now : Site)
     (out : Option Taken) (image : Option Known) (told : Told) where
   seen-out : (at : Opens) → OpensAs c at → LooksOut w.table c at (site_of w) now out image told → IsSeenHeld s w c told
@@ -47,7 +47,7 @@ module _ (o : Opening) (s : State) (w : Face) (shows : ShowsState o s w) (cohere
       held-of s w c told (expects-held o s w shows files told_files c at opener)
       (seen-store o s w shows files told_files c at opener now.store (store_of w) refl out image told looks.looks)
 
-  seen-nothing : expects s c ≡ untold → expects (as_held w s) c ≡ untold → told ≡ untold → IsSeenHeld s w c told
+  seen-nothing : expects s c ≡ told_none → expects (as_held w s) c ≡ told_none → told ≡ told_none → IsSeenHeld s w c told
   seen-nothing mine held is = held-of s w c told (held ∙ sym mine) (seen-whole s c told (mine ∙ sym is))
 
   seen-part : (raw : AddRaw (List ℕ)) (file : FileRef (List ℕ)) → c.driver ≡ added.Raw raw → raw.file ≡ file
@@ -73,7 +73,7 @@ module _ (o : Opening) (s : State) (w : Face) (shows : ShowsState o s w) (cohere
 
 -- ---- all of it
 
-module _ (w : Face) (whole : IsWholeWorld w) (joined : IsJoined w.nodes) (given : List ℕ) (c : Adding) (x : Site) (u : Table) (text : List ℕ)
+module _ (w : WorldSeen) (whole : IsWholeWorld w) (joined : IsJoined w.nodes) (given : List ℕ) (c : Adding) (x : Site) (u : RunTable) (text : List ℕ)
     (is : IsAdditionOf w.table given c (site_of w) x u text) where
   closed : AreIn w.table w.opened
   closed name unopened = closed-in w.table w.nodes w.opened name whole.coherent.out unopened
@@ -98,7 +98,7 @@ module _ (w : Face) (whole : IsWholeWorld w) (joined : IsJoined w.nodes) (given 
   }
     where
       by_end : HasAdditionEnded w.table given c is.told is.out is.image is.between x u text → (cause : Refusal)
-          → refusal_of w.table is.told (command.BlockdevAdd c) ≡ Some cause → IsCaused w (sited w x u) (command.BlockdevAdd c) cause
+          → refusal_to w.table is.told (command.BlockdevAdd c) ≡ Some cause → IsCaused w (sited w x u) (command.BlockdevAdd c) cause
       by_end (inl refused) cause some =
           causes w (sited w x u) c refl whole.counted whole.coherent runs-so is.between is.out is.image is.told closed is.looked refused.is cause some
       by_end (inr ends) cause some = absurd (let bad : None ≡ Some cause = sym ends.accepted.none ∙ some in cc bad)
@@ -107,7 +107,7 @@ module _ (w : Face) (whole : IsWholeWorld w) (joined : IsJoined w.nodes) (given 
       over = looked-over w whole joined c is.told is.between is.out closed is.image is.looked
 
       hides_end : HasAdditionEnded w.table given c is.told is.out is.image is.between x u text
-          → HidesNoFault w (sited w x u) (fault_told (refusal_of w.table is.told (command.BlockdevAdd c)))
+          → HidesNoFault w (sited w x u) (fault_told (refusal_to w.table is.told (command.BlockdevAdd c)))
       hides_end (inl refused) =
           subst (λ (r : Option Refusal). HidesNoFault w (sited w x u) (fault_told r)) (sym refused.staged.is)
           (hides-refused w (sited w x u) whole c is.told is.between is.out is.image over refused.is refused.staged.cause refused.staged.is)

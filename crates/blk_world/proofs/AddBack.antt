@@ -6,14 +6,14 @@ use Rattle.blk_base.specs.declared.file.File.{File}
 use Rattle.blk_base.specs.declared.file.Opened.{Opened}
 use Rattle.blk_graph.proofs.Members.{Contains-cases, Contains-here, Contains-nil, Contains-there}
 use Rattle.q2_image.specs.Image.{Known}
-use Rattle.blk_nodes.specs.Nodes.{AreTold, DeviceState, Nodes, row_at}
+use Rattle.blk_nodes.specs.Nodes.{AreTold, DeviceSeen, Nodes, row_at}
 use Rattle.blk_nodes.specs.Reading.{HaveRisen}
 use Rattle.qmp_codec.specs.declared.nodes.Added.{Added}
-use Rattle.qmp_rules.specs.Table.{Table, node_at}
+use Rattle.qmp_rules.specs.Table.{RunTable, node_by_id}
 use Rattle.flat_machine.proofs.Tables.{pushed-cases}
 use Rattle.world_parts.specs.Adding.{Adding, Taken, of_node}
 use Rattle.world_parts.specs.Coherent.{AreAlike, AreNodesOf, AreOut, DevicesTell, IsCoherent}
-use Rattle.world_parts.specs.Face.{Face}
+use Rattle.world_parts.specs.Face.{WorldSeen}
 use Rattle.world_parts.specs.Joining.{HasAdded}
 use Rattle.world_parts.specs.Looking.{HasCalled, Site, site}
 use Rattle.world_parts.specs.Progress.{Progress}
@@ -27,7 +27,7 @@ use Rattle.world_commands.proofs.CountLemmas.{out-same, same-risen}
 -- ---- openings that are over
 
 -- one more that is back again
-pub out-closed : (t : Table) (nodes : Nodes) (opened : List Opened) (o : Opened) (count : ℕ) → o.returned ≡ Some count → AreOut t nodes opened → AreOut t nodes (opened ++ o ∷ [])
+pub out-closed : (t : RunTable) (nodes : Nodes) (opened : List Opened) (o : Opened) (count : ℕ) → o.returned ≡ Some count → AreOut t nodes opened → AreOut t nodes (opened ++ o ∷ [])
 out-closed t nodes opened o count back was = record {
   each = λ held there.
       let is = was.each held there in
@@ -54,7 +54,7 @@ out-closed t nodes opened o count back was = record {
 
 -- ---- the other parts stay
 
-pub coherent-put : (t : Table) (nodes now : Nodes) (opened opened' : List Opened) (p : Progress) → IsCoherent t nodes opened p → AreNodesOf t now → AreOut t now opened'
+pub coherent-put : (t : RunTable) (nodes now : Nodes) (opened opened' : List Opened) (p : Progress) → IsCoherent t nodes opened p → AreNodesOf t now → AreOut t now opened'
     → IsCoherent t now opened' p
 coherent-put t nodes now opened opened' p was alike out = record {
   table = was.table;
@@ -70,34 +70,34 @@ coherent-put t nodes now opened opened' p was alike out = record {
   out = out;
 }
 
-pub alike-called : (t : Table) (old now : Nodes) → HasCalled old now → AreNodesOf t old → AreNodesOf t now
+pub alike-called : (t : RunTable) (old now : Nodes) → HasCalled old now → AreNodesOf t old → AreNodesOf t now
 alike-called t old now called alike = record {
   listed = ap (λ (n : Nodes). n.graph.nodes) called.kept ∙ alike.listed;
   edges = ap (λ (n : Nodes). n.graph.edges) called.kept ∙ alike.edges;
-  rows = λ id. subst (λ (n : Nodes). AreAlike (node_at t id) (row_at n id)) (sym called.kept) (alike.rows id);
+  rows = λ id. subst (λ (n : Nodes). AreAlike (node_by_id t id) (row_at n id)) (sym called.kept) (alike.rows id);
 }
 
-pub told-risen : (old new : List DeviceState) → HaveRisen old new → AreTold old → AreTold new
+pub told-risen : (old new : List DeviceSeen) → HaveRisen old new → AreTold old → AreTold new
 told-risen [] [] risen told d there = absurd (Contains-nil d there)
 told-risen [] (b ∷ new) risen told d there = absurd risen
 told-risen (a ∷ old) [] risen told d there = absurd risen
 told-risen (a ∷ old) (b ∷ new) risen told d there = elim (Contains-cases b new d there) [
   | inl here ↦
-      let content : b.content ≡ a.content = ap (λ (x : DeviceState). x.content) risen.0.same in
+      let content : b.content ≡ a.content = ap (λ (x : DeviceSeen). x.content) risen.0.same in
       let was : is_some a.content ≡ true = told a (Contains-here a old) in
-      ap (λ (x : DeviceState). is_some x.content) here ∙ ap (λ (x : Option (List ℕ)). is_some x) content ∙ was
+      ap (λ (x : DeviceSeen). is_some x.content) here ∙ ap (λ (x : Option (List ℕ)). is_some x) content ∙ was
   | inr behind ↦ told-risen old new risen.1 (λ x at. told x (Contains-there a old x at)) d behind
 ]
 
-told-more : (ds : List DeviceState) (new : DeviceState) → AreTold ds → is_some new.content ≡ true → AreTold (ds ++ new ∷ [])
+told-more : (ds : List DeviceSeen) (new : DeviceSeen) → AreTold ds → is_some new.content ≡ true → AreTold (ds ++ new ∷ [])
 told-more ds new told own d there = elim (pushed-cases ds new d there) [
   | inl before ↦ told d before
-  | inr is ↦ ap (λ (x : DeviceState). is_some x.content) is ∙ own
+  | inr is ↦ ap (λ (x : DeviceSeen). is_some x.content) is ∙ own
 ]
 
 -- ---- by what the looks left
 
-module _ (w : Face) (coherent : IsCoherent w.table w.nodes w.opened w.progress) (tell : DevicesTell w.files w.nodes.devices) (now : Site) (driver : Added (List ℕ)) (out : Option Taken) (x : Site) where
+module _ (w : WorldSeen) (coherent : IsCoherent w.table w.nodes w.opened w.progress) (tell : DevicesTell w.files w.nodes.devices) (now : Site) (driver : Added (List ℕ)) (out : Option Taken) (x : Site) where
   -- nothing is left of it
   pub back-both : IsLookedSo (opened_name driver) (site_of w) now out → x ≡ site (back_if driver out now.store) now.nodes
       → IsCoherent w.table x.nodes x.store.opened w.progress × DevicesTell x.store.files x.nodes.devices
@@ -132,7 +132,7 @@ module _ (w : Face) (coherent : IsCoherent w.table w.nodes w.opened w.progress) 
       )
 
   -- its device tells what the store does
-  pub added-tell : (t : Table) (c : Adding) (image : Option Known) → IsLookedSo (opened_name driver) (site_of w) now out → x.store ≡ now.store
+  pub added-tell : (t : RunTable) (c : Adding) (image : Option Known) → IsLookedSo (opened_name driver) (site_of w) now out → x.store ≡ now.store
       → HasAdded t c out image now.nodes x.nodes → DevicesTell x.store.files x.nodes.devices
   added-tell t c image (inl called) same has told =
       let files : x.store.files ≡ w.files = ap (λ (s : StoreInRun). s.files) (same ∙ called.store) in

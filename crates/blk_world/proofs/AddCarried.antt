@@ -12,13 +12,13 @@ use Rattle.qmp_codec.specs.declared.nodes.Added.{Added}
 use Rattle.qmp_codec.specs.declared.nodes.Added.TheVariants as added
 use Rattle.qmp_codec.specs.declared.nodes.FileRef.{FileRef}
 use Rattle.qmp_codec.specs.declared.nodes.FileRef.TheVariants as file_ref
-use Rattle.qmp_rules.specs.Answers.{command_edits, refusal_of}
+use Rattle.qmp_rules.specs.Answers.{command_edits, refusal_to}
 use Rattle.qmp_rules.specs.Asks.{id_or}
 use Rattle.qmp_rules.specs.Changes.{all_changed}
 use Rattle.qmp_rules.specs.Edits.{added_edits, edits_of, free_id, image_row, qcow2_edits, raw_edits}
 use Rattle.qmp_rules.specs.Looks.{file_stop, raw_stop}
 use Rattle.qmp_asks.specs.NodeAsks.{backing_name, is_read_only}
-use Rattle.qmp_rules.specs.Table.{Table, id_named}
+use Rattle.qmp_rules.specs.Table.{RunTable, id_named}
 use Rattle.qmp_rules.specs.declared.change.Change.{Change}
 use Rattle.qmp_asks.specs.declared.look.Look.TheVariants as look
 use Rattle.qmp_rules.specs.declared.told.Told.{Told}
@@ -26,7 +26,7 @@ use Rattle.flat_machine.specs.Performing.{AllPerformed, IsQuiet}
 use Rattle.flat_machine.specs.State.{State}
 use Rattle.world_parts.specs.Adding.{Adding, IsTakenOut, Taken, TellsAddition, TellsInside, TellsLength}
 use Rattle.world_parts.specs.Coherent.{IsCoherent}
-use Rattle.world_parts.specs.Face.{Face, contents_of, told_bytes}
+use Rattle.world_parts.specs.Face.{WorldSeen, contents_of, told_bytes}
 use Rattle.world_parts.specs.Joining.{HasAdded, HasAddedBy, HasAddedFile, HasAddedImage, HasAddedPart}
 use Rattle.world_parts.specs.Looking.{HasLooked, LooksAtImage, LooksAtPart, LooksBy, Site}
 use Rattle.world_parts.specs.Staging.{site_of, store_of}
@@ -45,7 +45,7 @@ use Rattle.blk_world.proofs.AddWhole.{fresh-of}
 use Rattle.world_commands.proofs.CountLemmas.{out-same, same-risen}
 
 -- the world with this store, these nodes and this table
-abbrev pub sited : Face → Site → Table → Face
+abbrev pub sited : WorldSeen → Site → RunTable → WorldSeen
 sited w x u = record w {
   files = x.store.files;
   earlier = x.store.earlier;
@@ -57,7 +57,7 @@ sited w x u = record w {
 }
 
 -- a file that was opened holds what its device does
-opened-bytes : (w : Face) (files : List File) (now : StoreInRun) (filename : List ℕ) (first device : Taken) → w.files ≡ Some files
+opened-bytes : (w : WorldSeen) (files : List File) (now : StoreInRun) (filename : List ℕ) (first device : Taken) → w.files ≡ Some files
     → IsTakenOut (store_of w) now filename first → device ≡ first → device.content ≡ told_bytes w.files filename
 opened-bytes w files now filename first device told out same =
     let holds = holds-file (store_of w) now files filename first told out in
@@ -65,9 +65,9 @@ opened-bytes w files now filename first device told out same =
 
 -- ---- the nodes of an addition, as the flat machine sees them
 
-module _ (w : Face) (coherent : IsCoherent w.table w.nodes w.opened w.progress) (joined : IsJoined w.nodes) (c : Adding) (told : Told)
-    (none : refusal_of w.table told (command.BlockdevAdd c) ≡ None) (now : Site) (joined' : IsJoined now.nodes) (out : Option Taken) (image : Option Known)
-    (v : Face) (same_files : v.files ≡ w.files) (files : List File) (told_files : w.files ≡ Some files) (s : State) (table_is : s.table ≡ w.table) where
+module _ (w : WorldSeen) (coherent : IsCoherent w.table w.nodes w.opened w.progress) (joined : IsJoined w.nodes) (c : Adding) (told : Told)
+    (none : refusal_to w.table told (command.BlockdevAdd c) ≡ None) (now : Site) (joined' : IsJoined now.nodes) (out : Option Taken) (image : Option Known)
+    (v : WorldSeen) (same_files : v.files ≡ w.files) (files : List File) (told_files : w.files ≡ Some files) (s : State) (table_is : s.table ≡ w.table) where
   abbrev Did : List Change → Type 0
   Did changes = AllPerformed s changes (contents_of w) (contents_of v)
 
@@ -116,7 +116,7 @@ module _ (w : Face) (coherent : IsCoherent w.table w.nodes w.opened w.progress) 
       → Did (qcow2_edits w.table told c.node_name (is_read_only c.options) (backing_name q.backing) file)
   did-image-by q (file_ref.Name name) e f looks has table =
       let there = image-there w.table told c none q name e f w.nodes now.nodes image looks.looks in
-      let y : Face = record w { nodes = now.nodes } in
+      let y : WorldSeen = record w { nodes = now.nodes } in
       let made =
       subst (λ (i : Option Known). HasAddedImage w.table c q (file_ref.Name name) None i now.nodes v.nodes) there.1
       (subst (λ (o : Option Taken). HasAddedImage w.table c q (file_ref.Name name) o image now.nodes v.nodes) looks.none has) in

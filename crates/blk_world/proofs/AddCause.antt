@@ -9,7 +9,7 @@ use Rattle.blk_base.specs.declared.file.Opened.{Opened}
 use Rattle.blk_graph.proofs.Members.{find-Some}
 use Rattle.q2_image.specs.Image.{Known}
 use Rattle.q2_image.specs.declared.stop.ImageStop.TheVariants as stop
-use Rattle.blk_nodes.specs.Nodes.{DeviceState, Nodes, device_in, is_of}
+use Rattle.blk_nodes.specs.Nodes.{DeviceSeen, Nodes, device_in, is_device_of}
 use Rattle.blk_nodes.specs.Overlays.{IsUnopenedOn}
 use Rattle.blk_nodes.specs.Reading.{HasRisen, HaveRisen}
 use Rattle.qmp_codec.specs.Commands.{Cmd}
@@ -21,10 +21,10 @@ use Rattle.qmp_codec.specs.declared.nodes.Added.TheVariants as added
 use Rattle.qmp_codec.specs.declared.nodes.FileRef.{FileRef}
 use Rattle.qmp_codec.specs.declared.nodes.FileRef.TheVariants as file_ref
 use Rattle.qmp_codec.specs.declared.nodes.InlineFile.{InlineFile}
-use Rattle.qmp_rules.specs.Answers.{refusal_of}
+use Rattle.qmp_rules.specs.Answers.{refusal_to}
 use Rattle.qmp_rules.specs.Asks.{file_node, is_file}
-use Rattle.qmp_rules.specs.Looks.{file_stop, image_stop, is_unopened, raw_stop}
-use Rattle.qmp_rules.specs.Table.{Table, id_named, node_named}
+use Rattle.qmp_rules.specs.Looks.{file_stop, unfit_image, is_unopened, raw_stop}
+use Rattle.qmp_rules.specs.Table.{RunTable, id_named, node_named}
 use Rattle.qmp_rules.specs.declared.refusal.Refusal.{Refusal}
 use Rattle.qmp_rules.specs.declared.refusal.Refusal.TheVariants as refusal
 use Rattle.qmp_rules.specs.declared.rows.NodeRecord.{NodeRecord}
@@ -33,10 +33,10 @@ use Rattle.qmp_asks.specs.declared.look.Look.TheVariants as look
 use Rattle.qmp_rules.specs.declared.told.Stopped.{Stopped}
 use Rattle.qmp_rules.specs.declared.told.Told.{Told}
 use Rattle.world_parts.specs.Adding.{Adding, CountFits, HasOpeningFailed, IsAbsent, IsTakenOut, Looks, LooksBadly, LooksUnder, Opens, Taken, LooksAtFile, LooksInVain, TellsAddition, TellsInside, TellsLength, look_in_vain, of_node, opened_sight, put_back, unopened}
-use Rattle.world_commands.specs.Carrying.{IsCaused, is_failed}
+use Rattle.world_commands.specs.Carrying.{IsCaused, is_io_refusal}
 use Rattle.world_parts.specs.Coherent.{IsCoherent}
 use Rattle.world_commands.specs.Counting.{RunsOn, counts_within}
-use Rattle.world_parts.specs.Face.{Face, count_of_opening, counts_now, first_counts}
+use Rattle.world_parts.specs.Face.{WorldSeen, count_of_opening, counts_now, first_counts}
 use Rattle.world_parts.specs.Looking.{AreIn, HasLooked, LooksAtImage, LooksAtPart, LooksBy, LooksIn, LooksOut, Site, site}
 use Rattle.world_parts.specs.Staging.{back_if, opened_name, site_of, store_of}
 use Rattle.world_parts.specs.Stores.{StoreInRun}
@@ -49,7 +49,7 @@ use Rattle.world_commands.proofs.CountLemmas.{counts-at, out-same, reached-held,
 
 -- ---- counts of an opening that is over
 
-file-named : (t : Table) (name : List ℕ) (row : NodeRecord) → file_node t name ≡ Some row → node_named t name ≡ Some row
+file-named : (t : RunTable) (name : List ℕ) (row : NodeRecord) → file_node t name ≡ Some row → node_named t name ≡ Some row
 file-named t name row is = by_row (node_named t name) refl is
   where
     by_kind : (found : NodeRecord) (b : Bool) → node_named t name ≡ Some found → (if b then Some found else None) ≡ Some row → node_named t name ≡ Some row
@@ -61,12 +61,12 @@ file-named t name row is = by_row (node_named t name) refl is
     by_row None there h = absurd (let bad : ⊥ = cc h in bad)
     by_row (Some found) there h = by_kind found (is_file found) there h
 
-module _ (w v : Face) (c : Adding) (first_same : v.first_faults ≡ w.first_faults) (counted : w.first_faults ≤ w.faults)
+module _ (w v : WorldSeen) (c : Adding) (first_same : v.first_faults ≡ w.first_faults) (counted : w.first_faults ≤ w.faults)
     (coherent : IsCoherent w.table w.nodes w.opened w.progress) (runs : RunsOn w v) where
   abbrev cmd : Cmd
   cmd = command.BlockdevAdd c
 
-  calm : (cause : Refusal) → is_failed cause ≡ false → IsCaused w v cmd cause
+  calm : (cause : Refusal) → is_io_refusal cause ≡ false → IsCaused w v cmd cause
   calm (refusal.Io from count) call = absurd cc
   calm (refusal.NoSpace dev) call = absurd cc
   calm _ call = tt
@@ -158,21 +158,21 @@ module _ (w v : Face) (c : Adding) (first_same : v.first_faults ≡ w.first_faul
     on : IsUnopenedOn badly.device badly.stopped.after (stop.Io n)
     on =
         subst (IsUnopenedOn badly.device badly.stopped.after) io
-        (subst (λ (d : DeviceState). IsUnopenedOn d badly.stopped.after badly.cause) same badly.stopped.on)
+        (subst (λ (d : DeviceSeen). IsUnopenedOn d badly.stopped.after badly.cause) same badly.stopped.on)
 
     node-failed : IsCaused w v cmd (refusal.Io (Dev badly.device.number) n)
     node-failed =
         let fits : n ≤ 18446744073709551615 = subst CountFits io badly.fits in
-        let found = find-Some (is_of badly.node) w.nodes.devices badly.device badly.held in
+        let found = find-Some (is_device_of badly.node) w.nodes.devices badly.device badly.held in
         let left : device_in v.nodes.devices badly.node ≡ Some badly.stopped.after = ap (λ (m : Nodes). device_in m.devices badly.node) same_nodes ∙ badly.stopped.left in
-        let found_now = find-Some (is_of badly.node) v.nodes.devices badly.stopped.after left in
-        let number : badly.stopped.after.number ≡ badly.device.number = ap (λ (d : DeviceState). d.number) after.same in
+        let found_now = find-Some (is_device_of badly.node) v.nodes.devices badly.stopped.after left in
+        let number : badly.stopped.after.number ≡ badly.device.number = ap (λ (d : DeviceSeen). d.number) after.same in
         let risen_v : HaveRisen w.nodes.devices v.nodes.devices = subst (λ (m : Nodes). HaveRisen w.nodes.devices m.devices) (sym same_nodes) risen in
         let out_now = out-same w.table w.nodes v.nodes w.opened (same-risen w.nodes.devices v.nodes.devices risen_v) coherent.out in
         let id : id_named w.table name ≡ Some badly.node =
         ap (option_map (λ (r : NodeRecord). r.id)) (file-named w.table name badly.free.row badly.free.named) ∙ ap Some badly.free.is in
-        let device : option_map (λ (d : DeviceState). d.number.0) (device_in w.nodes.devices badly.node) ≡ Some badly.device.number.0 =
-        ap (option_map (λ (d : DeviceState). d.number.0)) badly.held in
+        let device : option_map (λ (d : DeviceSeen). d.number.0) (device_in w.nodes.devices badly.node) ≡ Some badly.device.number.0 =
+        ap (option_map (λ (d : DeviceSeen). d.number.0)) badly.held in
         record {
           called = rw (e, f, id) device;
           numbered = badly.numbered;
@@ -186,7 +186,7 @@ module _ (w v : Face) (c : Adding) (first_same : v.first_faults ≡ w.first_faul
       (put : site_of v ≡ site (back_if c.driver out now.store) now.nodes) (cause : Refusal) (stopped : Stopped) (stops : told.stopped ≡ Some stopped)
       (is_cause : stopped.refusal ≡ cause) where
     calm-by : (found : Option Stopped) → told.stopped ≡ found → IsCalm found → IsCaused w v cmd cause
-    calm-by found is quiet = calm cause (ap is_failed (sym is_cause) ∙ calm-not told found is quiet stopped stops)
+    calm-by found is quiet = calm cause (ap is_io_refusal (sym is_cause) ∙ calm-not told found is quiet stopped stops)
 
     no-stop : told.stopped ≡ None → IsCaused w v cmd cause
     no-stop none = calm-by None none tt
@@ -202,7 +202,7 @@ module _ (w v : Face) (c : Adding) (first_same : v.first_faults ≡ w.first_faul
         → (first device : Taken) → out ≡ Some device → IsTakenOut (store_of w) now.store file.filename first → is_unopened w.table file.filename ≡ false
         → opened_name c.driver ≡ file.filename → (found : Option Known) → TellsInside w.table c.node_name file.filename q first device found told → IsCaused w v cmd cause
     by-inside q file e f begun device is taken free name_is (Some open_image) its =
-        calm-by (image_stop w.table c.node_name q (opened_sight open_image.header)) (ap (λ (a : Told). a.stopped) its.is)
+        calm-by (unfit_image w.table c.node_name q (opened_sight open_image.header)) (ap (λ (a : Told). a.stopped) its.is)
         (calm-inside w.table c.node_name q (opened_sight open_image.header))
     by-inside q file e f begun device is taken free name_is None (inl long) =
         calm-by (file_stop file.filename begun.size) (ap (λ (a : Told). a.stopped) long.is ∙ sym long.long) (calm-long file.filename _)
@@ -212,8 +212,8 @@ module _ (w v : Face) (c : Adding) (first_same : v.first_faults ≡ w.first_faul
         here = cause-is look.Image why.why (ap (λ (a : Told). a.stopped) why.is)
 
         by_stop : ((n : ℕ) × (why.on.cause ≡ stop.Io n) × (unopened begun.number why.on.cause ≡ refusal.Io (Dev begun.number) n))
-            ⊎ (is_failed (unopened begun.number why.on.cause) ≡ false) → IsCaused w v cmd cause
-        by_stop (inr quiet) = calm cause (ap is_failed (sym here ∙ why.on.is) ∙ quiet)
+            ⊎ (is_io_refusal (unopened begun.number why.on.cause) ≡ false) → IsCaused w v cmd cause
+        by_stop (inr quiet) = calm cause (ap is_io_refusal (sym here ∙ why.on.is) ∙ quiet)
         by_stop (inl io) =
             let on = subst (IsUnopenedOn (of_node 0 begun) (of_node 0 device)) io.1 why.on.on in
             let inside = closed file.filename free in
@@ -237,7 +237,7 @@ module _ (w v : Face) (c : Adding) (first_same : v.first_faults ≡ w.first_faul
         same = ap (λ (y : Site). y.store.faults) put ∙ ap (λ (o : Option Taken). (back_if c.driver o now.store).faults) none
 
         by_why : IsAbsent (store_of w) now.store at.filename vain.why ⊎ HasOpeningFailed (store_of w) now.store at.filename vain.why → IsCaused w v cmd cause
-        by_why (inl absent) = calm cause (ap is_failed (sym here ∙ absent.is))
+        by_why (inl absent) = calm cause (ap is_io_refusal (sym here ∙ absent.is))
         by_why (inr failed) = subst (IsCaused w v cmd) here (store-failed now.store at.filename vain.why failed same)
 
     by-store : (at : Opens)
@@ -274,15 +274,15 @@ module _ (w v : Face) (c : Adding) (first_same : v.first_faults ≡ w.first_faul
             here = cause-is look.Image (unopened badly.device.number badly.cause) (ap (λ (a : Told). a.stopped) badly.is)
 
             by_stop : ((n : ℕ) × (badly.cause ≡ stop.Io n) × (unopened badly.device.number badly.cause ≡ refusal.Io (Dev badly.device.number) n))
-                ⊎ (is_failed (unopened badly.device.number badly.cause) ≡ false) → IsCaused w v cmd cause
-            by_stop (inr quiet) = calm cause (ap is_failed (sym here) ∙ quiet)
+                ⊎ (is_io_refusal (unopened badly.device.number badly.cause) ≡ false) → IsCaused w v cmd cause
+            by_stop (inr quiet) = calm cause (ap is_io_refusal (sym here) ∙ quiet)
             by_stop (inl io) =
                 subst (IsCaused w v cmd) (sym io.2 ∙ here)
                 (node-failed q name e f told now.nodes same_nodes badly opened looks.called.risen io.0 io.1)
 
         by_image : (found : Option Known) → LooksUnder w.table c q name w.nodes now.nodes found told → IsCaused w v cmd cause
         by_image (Some open_image) well =
-            calm-by (image_stop w.table c.node_name q (opened_sight open_image.header)) (ap (λ (a : Told). a.stopped) well.is)
+            calm-by (unfit_image w.table c.node_name q (opened_sight open_image.header)) (ap (λ (a : Told). a.stopped) well.is)
             (calm-inside w.table c.node_name q (opened_sight open_image.header))
         by_image None (inl past) = no-stop (ap (λ (a : Told). a.stopped) past.is)
         by_image None (inr badly) = by_badly badly
@@ -322,7 +322,7 @@ module _ (w v : Face) (c : Adding) (first_same : v.first_faults ≡ w.first_faul
     by-driver added.Unknown e looks = no-stop (ap (λ (a : Told). a.stopped) looks.is)
 
   pub causes : (now : Site) (out : Option Taken) (image : Option Known) (told : Told) → AreIn w.table w.opened → HasLooked w.table c (site_of w) now out image told
-      → site_of v ≡ site (back_if c.driver out now.store) now.nodes → (cause : Refusal) → refusal_of w.table told cmd ≡ Some cause → IsCaused w v cmd cause
+      → site_of v ≡ site (back_if c.driver out now.store) now.nodes → (cause : Refusal) → refusal_to w.table told cmd ≡ Some cause → IsCaused w v cmd cause
   causes now out image told closed looked put cause is = elim (refused-of w.table told c cause is) [
     | inl quiet ↦ calm cause quiet
     | inr its ↦ by-driver told now out image closed put cause its.0 its.1 its.2 c.driver refl looked

@@ -12,10 +12,10 @@ use Rattle.qmp_codec.specs.declared.nodes.Added.TheVariants as added
 use Rattle.qmp_codec.specs.declared.nodes.FileRef.{FileRef}
 use Rattle.qmp_codec.specs.declared.nodes.FileRef.TheVariants as file_ref
 use Rattle.qmp_rules.specs.Asks.{if_there}
-use Rattle.qmp_rules.specs.Looks.{ImageSight, image_stop, raw_stop, stop_at, told_as, too_long}
+use Rattle.qmp_rules.specs.Looks.{ImageSight, unfit_image, raw_stop, stop_at, told_record, too_long}
 use Rattle.qmp_asks.specs.NodeAsks.{backing_name}
 use Rattle.qmp_rules.specs.Refusals.{refused}
-use Rattle.qmp_rules.specs.Table.{Table, node_named}
+use Rattle.qmp_rules.specs.Table.{RunTable, node_named}
 use Rattle.qmp_asks.specs.Values.{begins_within, ends_within, part_fits}
 use Rattle.qmp_rules.specs.declared.refusal.Refusal.TheVariants as refusal
 use Rattle.qmp_rules.specs.declared.rows.NodeRecord.{NodeRecord}
@@ -30,7 +30,7 @@ use Rattle.blk_nodes.specs.Nodes.{Nodes}
 
 -- ---- refusals of files
 
-by-files : (length size : Option ℕ) (stopped : Option Stopped) (told : Told) → told ≡ told_as length size stopped → StopsByFiles stopped
+by-files : (length size : Option ℕ) (stopped : Option Stopped) (told : Told) → told ≡ told_record length size stopped → StopsByFiles stopped
     → (told.dirty ≡ []) × StopsByFiles told.stopped
 by-files length size stopped told is by = (ap (λ (a : Told). a.dirty) is, subst (λ (a : Told). StopsByFiles a.stopped) (sym is) by)
 
@@ -69,7 +69,7 @@ files-image : (name : List ℕ) (cause : Option ImageStop) (later : Option Stopp
 files-image name (Some cause) later by = tt
 files-image name None later by = by
 
-files-inside : (t : Table) (name : List ℕ) (c : AddQcow2 (List ℕ)) (sight : ImageSight) → StopsByFiles (image_stop t name c sight)
+files-inside : (t : RunTable) (name : List ℕ) (c : AddQcow2 (List ℕ)) (sight : ImageSight) → StopsByFiles (unfit_image t name c sight)
 files-inside t name c sight =
     files-image name sight.stop _
     (files-backing name (sight.names_backing && is_none c.backing) _
@@ -88,7 +88,7 @@ files-unopened number stop.NoMemory = tt
 
 -- ---- what is told
 
-module _ (t : Table) (node filename : List ℕ) (first now : Taken) (told : Told) where
+module _ (t : RunTable) (node filename : List ℕ) (first now : Taken) (told : Told) where
   clean-inside : (c : AddQcow2 (List ℕ)) (image : Option Known) → TellsInside t node filename c first now image told → (told.dirty ≡ []) × StopsByFiles told.stopped
   clean-inside c (Some image) is = by-files _ _ _ told is.is (files-inside t node c (opened_sight image.header))
   clean-inside c None (inl long) =
@@ -102,7 +102,7 @@ module _ (t : Table) (node filename : List ℕ) (first now : Taken) (told : Told
   clean-tells (added.CopyOnRead own) image is = by-files _ _ _ told is.is tt
   clean-tells added.Unknown image is = by-files _ _ _ told is.is tt
 
-module _ (t : Table) (c : Adding) (told : Told) where
+module _ (t : RunTable) (c : Adding) (told : Told) where
   clean-out : (at : Opens) (old now : StoreInRun) (out : Option Taken) (image : Option Known) → Looks t c at old now out image told
       → (told.dirty ≡ []) × StopsByFiles told.stopped
   clean-out at old now out image (inl away) = by-files None None None told away.0.is tt

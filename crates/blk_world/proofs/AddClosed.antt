@@ -6,15 +6,15 @@ use Rattle.std.proofs.lemmas.Bool.{eqb-true, false≢true, or_parts}
 use Rattle.blk_base.specs.Files.{is_out, is_out_as}
 use Rattle.blk_base.specs.declared.file.Opened.{Opened}
 use Rattle.blk_graph.proofs.Members.{Contains-cases, Contains-nil, find-Some}
-use Rattle.blk_nodes.specs.Nodes.{DeviceState, Nodes}
+use Rattle.blk_nodes.specs.Nodes.{DeviceSeen, Nodes}
 use Rattle.qmp_rules.specs.Asks.{is_lost, stands_for}
 use Rattle.qmp_rules.specs.Looks.{is_unopened}
-use Rattle.qmp_rules.specs.Table.{Table, file_state, node_at}
+use Rattle.qmp_rules.specs.Table.{RunTable, file_state, node_by_id}
 use Rattle.qmp_rules.specs.declared.rows.NodeRecord.{NodeRecord}
 use Rattle.flat_machine.specs.State.{filename_of}
 use Rattle.flat_machine.proofs.Finds.{bytes_eq-same, same-bytes_eq}
 use Rattle.world_parts.specs.Coherent.{AreOut}
-use Rattle.world_parts.specs.Face.{Face, device_numbered, held, held_by, told_bytes}
+use Rattle.world_parts.specs.Face.{WorldSeen, device_numbered, held, held_in_file, told_bytes}
 
 -- an opening of that name that isn't back
 record IsOpening (name : List ℕ) (opened : List Opened) : Type 0 where
@@ -67,16 +67,16 @@ some-of None some = absurd (false≢true some)
 some-of (Some a) some = (a, refl)
 
 -- the node that holds a device stands for the file
-stands-by : (t : Table) (node : ℕ) (name : List ℕ) → filename_of t node ≡ Some name → list_any (stands_for name) t.nodes ≡ true
-stands-by t node name is = by_row (node_at t node) refl is
+stands-by : (t : RunTable) (node : ℕ) (name : List ℕ) → filename_of t node ≡ Some name → list_any (stands_for name) t.nodes ≡ true
+stands-by t node name is = by_row (node_by_id t node) refl is
   where
-    by_row : (found : Option NodeRecord) → node_at t node ≡ found → option_and_then (λ (row : NodeRecord). row.filename) found ≡ Some name
+    by_row : (found : Option NodeRecord) → node_by_id t node ≡ found → option_and_then (λ (row : NodeRecord). row.filename) found ≡ Some name
         → list_any (stands_for name) t.nodes ≡ true
     by_row None e named = absurd (cc named)
     by_row (Some row) e named =
         stands-any name t.nodes row (find-Some (λ (r : NodeRecord). r.id == node) t.nodes row e).0 (rw named (bytes_eq-same name))
 
-pub closed-in : (t : Table) (nodes : Nodes) (opened : List Opened) (name : List ℕ) → AreOut t nodes opened → is_unopened t name ≡ false
+pub closed-in : (t : RunTable) (nodes : Nodes) (opened : List Opened) (name : List ℕ) → AreOut t nodes opened → is_unopened t name ≡ false
     → is_out name opened ≡ false
 closed-in t nodes opened name out closed = by_out (is_out name opened) refl
   where
@@ -85,7 +85,7 @@ closed-in t nodes opened name out closed = by_out (is_out name opened) refl
     by_out true e =
         let opening = opening-of name opened e in
         let held = some-of (device_numbered nodes.devices opening.n) (out.all opening.n opening.opening opening.there opening.out) in
-        let found = find-Some (λ (d : DeviceState). d.number.0 == opening.n) nodes.devices held.0 held.1 in
+        let found = find-Some (λ (d : DeviceSeen). d.number.0 == opening.n) nodes.devices held.0 held.1 in
         let is = out.each held.0 found.0 in
         let at : held.0.number.0 ≡ opening.n = eqb-true held.0.number.0 opening.n found.1 in
         let there : slice_get opened opening.n ≡ Some is.opening = subst (λ (k : ℕ). slice_get opened k ≡ Some is.opening) at is.there in
@@ -107,10 +107,10 @@ pub find-closed : (name : List ℕ) (rows : List NodeRecord) → list_any (stand
 find-closed name [] none = refl
 find-closed name (x ∷ rows) none = find-head name x rows (stands_for name x) none (λ later. find-closed name rows later)
 
-pub closed-rows : (t : Table) (name : List ℕ) → is_unopened t name ≡ false → find (stands_for name) t.nodes ≡ None
+pub closed-rows : (t : RunTable) (name : List ℕ) → is_unopened t name ≡ false → find (stands_for name) t.nodes ≡ None
 closed-rows t name closed =
     find-closed name t.nodes (or_parts (list_any (stands_for name) t.nodes) (is_lost false (file_state t name)) closed).0
 
-pub closed-held : (w : Face) (name : List ℕ) → is_unopened w.table name ≡ false → held w name ≡ told_bytes w.files name
+pub closed-held : (w : WorldSeen) (name : List ℕ) → is_unopened w.table name ≡ false → held w name ≡ told_bytes w.files name
 closed-held w name closed =
-    ap (λ (f : Option NodeRecord). held_by w name (option_map (λ (r : NodeRecord). r.id) f)) (closed-rows w.table name closed)
+    ap (λ (f : Option NodeRecord). held_in_file w name (option_map (λ (r : NodeRecord). r.id) f)) (closed-rows w.table name closed)

@@ -11,12 +11,12 @@ use Rattle.qmp_codec.specs.declared.nodes.Added.{Added}
 use Rattle.qmp_codec.specs.declared.nodes.Added.TheVariants as added
 use Rattle.qmp_codec.specs.declared.nodes.FileRef.{FileRef}
 use Rattle.qmp_codec.specs.declared.nodes.FileRef.TheVariants as file_ref
-use Rattle.qmp_rules.specs.Answers.{command_edits, refusal_of}
+use Rattle.qmp_rules.specs.Answers.{command_edits, refusal_to}
 use Rattle.qmp_rules.specs.Changes.{all_changed}
 use Rattle.qmp_rules.specs.Edits.{added_edits, edits_of, qcow2_edits, raw_edits}
 use Rattle.qmp_rules.specs.Looks.{file_stop, raw_stop}
 use Rattle.qmp_asks.specs.NodeAsks.{backing_name, is_read_only}
-use Rattle.qmp_rules.specs.Table.{Table}
+use Rattle.qmp_rules.specs.Table.{RunTable}
 use Rattle.qmp_asks.specs.declared.look.Look.TheVariants as look
 use Rattle.qmp_rules.specs.declared.told.Told.{Told}
 use Rattle.flat_machine.proofs.TableRests.{command_rests}
@@ -35,7 +35,7 @@ use Rattle.world_parts.proofs.AddSeen.{AsFile, AsImage, AsPart}
 use Rattle.blk_world.proofs.AddWhole.{fresh-of, whole-file, whole-filter, whole-image, whole-part}
 use Rattle.world_commands.proofs.CountLemmas.{out-same, same-risen}
 
-module _ (t : Table) (told : Told) (c : Adding) (none : refusal_of t told (command.BlockdevAdd c) ≡ None) (old now new : Site) (out : Option Taken)
+module _ (t : RunTable) (told : Told) (c : Adding) (none : refusal_to t told (command.BlockdevAdd c) ≡ None) (old now new : Site) (out : Option Taken)
     (image : Option Known) (p : Progress) (was : IsCoherent t old.nodes old.store.opened p) (joined : IsJoined now.nodes) where
   start-same : now.nodes ≡ old.nodes → Middle t now.nodes old.store.opened p
   start-same same = subst (λ (n : Nodes). Middle t n old.store.opened p) (sym same) (middle-of t old.nodes old.store.opened p was)

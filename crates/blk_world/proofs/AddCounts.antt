@@ -15,7 +15,7 @@ use Rattle.q2_image.specs.Opening.{fault_in_image}
 use Rattle.q2_image.specs.declared.stop.ImageStop.{ImageStop}
 use Rattle.q2_image.specs.declared.stop.ImageStop.TheVariants as stop
 use Rattle.blk_nodes.specs.Joined.{IsJoined}
-use Rattle.blk_nodes.specs.Nodes.{DeviceState, Nodes, device_in}
+use Rattle.blk_nodes.specs.Nodes.{DeviceSeen, Nodes, device_in}
 use Rattle.blk_nodes.specs.Overlays.{KeptBy}
 use Rattle.blk_nodes.specs.Reading.{HaveRisen, OnlyAt, StoppedAt}
 use Rattle.qmp_codec.specs.Commands.{Cmd}
@@ -27,9 +27,9 @@ use Rattle.qmp_codec.specs.declared.nodes.Added.TheVariants as added
 use Rattle.qmp_codec.specs.declared.nodes.FileRef.{FileRef}
 use Rattle.qmp_codec.specs.declared.nodes.FileRef.TheVariants as file_ref
 use Rattle.qmp_codec.specs.declared.nodes.InlineFile.{InlineFile}
-use Rattle.qmp_rules.specs.Answers.{refusal_of}
-use Rattle.qmp_rules.specs.Looks.{file_stop, image_stop, is_unopened, raw_stop}
-use Rattle.qmp_rules.specs.Table.{Table}
+use Rattle.qmp_rules.specs.Answers.{refusal_to}
+use Rattle.qmp_rules.specs.Looks.{file_stop, unfit_image, is_unopened, raw_stop}
+use Rattle.qmp_rules.specs.Table.{RunTable}
 use Rattle.qmp_rules.specs.declared.refusal.Refusal.{Refusal}
 use Rattle.qmp_rules.specs.declared.refusal.Refusal.TheVariants as refusal
 use Rattle.qmp_asks.specs.declared.look.Look.TheVariants as look
@@ -37,10 +37,10 @@ use Rattle.qmp_rules.specs.declared.told.Stopped.{Stopped}
 use Rattle.qmp_rules.specs.declared.told.Told.{Told}
 use Rattle.flat_machine.specs.Licence.{fault_at}
 use Rattle.world_parts.specs.Adding.{Adding, HasOpeningFailed, IsAbsent, IsBackIfOut, IsLookReached, IsTakenOut, Looks, LooksAtFile, LooksBadly, LooksInVain, LooksUnder, Opens, Taken, TellsAddition, TellsInside, TellsRefusal, look_in_vain, of_node, opened_sight, opening_of, opens, put_back, unopened}
-use Rattle.world_commands.specs.Carrying.{HasFailed as HasFailedIn, fault_named, is_failed}
+use Rattle.world_commands.specs.Carrying.{HasFailed as HasFailedIn, fault_named, is_io_refusal}
 use Rattle.world_parts.specs.Coherent.{AreOut, IsWholeWorld}
 use Rattle.world_commands.specs.Counting.{HidesNoFault, RunsOn}
-use Rattle.world_parts.specs.Face.{Face, count_of_opening, counts_from, device_numbered}
+use Rattle.world_parts.specs.Face.{WorldSeen, count_of_opening, counts_from, device_numbered}
 use Rattle.world_parts.specs.Joining.{HasAdded}
 use Rattle.world_parts.specs.Looking.{AreIn, HasLooked, LooksAtImage, LooksAtPart, LooksBy, LooksNowhere, Site, StoreIsBack, site}
 use Rattle.world_parts.specs.Staging.{IsNotAdded, back_if, opened_name, site_of, store_of}
@@ -72,7 +72,7 @@ caused-or before now (stop.Refcount cluster) caused = inr caused
 caused-or before now stop.HeaderFull caused = inr caused
 caused-or before now stop.NoMemory caused = inr caused
 
-kept-or : (old new : List DeviceState) (cause : ImageStop) → KeptBy cause old new → ((n : ℕ) × (cause ≡ stop.Io n)) ⊎ (new ≡ old)
+kept-or : (old new : List DeviceSeen) (cause : ImageStop) → KeptBy cause old new → ((n : ℕ) × (cause ≡ stop.Io n)) ⊎ (new ≡ old)
 kept-or old new (stop.Io n) kept = inl (n, refl)
 kept-or old new (stop.Header why) kept = inr kept
 kept-or old new (stop.Offset offset) kept = inr kept
@@ -97,7 +97,7 @@ pub record IsOutCalmly (name : List ℕ) (old now : Site) (out : Option Taken) :
 abbrev pub IsLookedCalmly : List ℕ → Site → Site → Option Taken → Type 0
 IsLookedCalmly name old now out = ((out ≡ None) × (now ≡ old)) ⊎ IsOutCalmly name old now out
 
-module _ (w : Face) (c : Adding) (told : Told) (now : Site) (out : Option Taken) where
+module _ (w : WorldSeen) (c : Adding) (told : Told) (now : Site) (out : Option Taken) where
   abbrev cmd : Cmd
   cmd = command.BlockdevAdd c
 
@@ -110,8 +110,8 @@ module _ (w : Face) (c : Adding) (told : Told) (now : Site) (out : Option Taken)
   pub record HasFailedSo : Type 0 where
     pub from : FaultFrom
     pub count : ℕ
-    pub refuses : refusal_of w.table told cmd ≡ Some (refusal.Io from count)
-    pub hides : (v : Face) → site_of v ≡ site (back_if c.driver out now.store) now.nodes → HidesNoFault w v (Some (fault_at from count))
+    pub refuses : refusal_to w.table told cmd ≡ Some (refusal.Io from count)
+    pub hides : (v : WorldSeen) → site_of v ≡ site (back_if c.driver out now.store) now.nodes → HidesNoFault w v (Some (fault_at from count))
 
   abbrev pub IsLookedOver : Type 0
   IsLookedOver = IsCalmAll ⊎ HasFailedSo
@@ -119,7 +119,7 @@ module _ (w : Face) (c : Adding) (told : Told) (now : Site) (out : Option Taken)
 same-site : (old now : Site) → now.store ≡ old.store → now.nodes ≡ old.nodes → now ≡ old
 same-site old now store nodes = ap (λ (s : StoreInRun). site s now.nodes) store ∙ ap (site old.store) nodes
 
-module _ (w : Face) (whole : IsWholeWorld w) (joined : IsJoined w.nodes) (c : Adding) (told : Told) (now : Site) (out : Option Taken)
+module _ (w : WorldSeen) (whole : IsWholeWorld w) (joined : IsJoined w.nodes) (c : Adding) (told : Told) (now : Site) (out : Option Taken)
     (closed : AreIn w.table w.opened) where
   abbrev cmd' : Cmd
   cmd' = command.BlockdevAdd c
@@ -170,7 +170,7 @@ module _ (w : Face) (whole : IsWholeWorld w) (joined : IsJoined w.nodes) (c : Ad
         by_why : IsAbsent (store_of w) now.store at.filename vain.why ⊎ HasOpeningFailed (store_of w) now.store at.filename vain.why
             → IsLookedOver w c told now out
         by_why (inl absent) =
-            calm-as (Some (record { look = look_in_vain at.what vain.why; refusal = vain.why })) stops (ap is_failed absent.is)
+            calm-as (Some (record { look = look_in_vain at.what vain.why; refusal = vain.why })) stops (ap is_io_refusal absent.is)
             (inl (none, same-site (site_of w) now absent.kept nodes))
         by_why (inr failed) = store-failed vain.why failed none stops reached
 
@@ -206,11 +206,11 @@ module _ (w : Face) (whole : IsWholeWorld w) (joined : IsJoined w.nodes) (c : Ad
                 (ap (λ (d : DevNo). d.0) taken.number);
           })
 
-      refused-calmly : device.faults ≡ first.faults → (is_failed (unopened first.number refused.on.cause) ≡ false) → IsLookedOver w c told now out
+      refused-calmly : device.faults ≡ first.faults → (is_io_refusal (unopened first.number refused.on.cause) ≡ false) → IsLookedOver w c told now out
       refused-calmly same quiet =
           let same_device : device ≡ first =
           refused.on.kept ∙ ap (λ (n : ℕ). let x : Taken = record first { faults = n } in x) same in
-          calm-as (Some (record { look = look.Image; refusal = refused.why })) stops-image (ap is_failed refused.on.is ∙ quiet)
+          calm-as (Some (record { look = look.Image; refusal = refused.why })) stops-image (ap is_io_refusal refused.on.is ∙ quiet)
           (out-as first (is ∙ ap (λ (d : Taken). Some d) same_device) taken free)
 
       refused-over : IsLookedOver w c told now out
@@ -218,7 +218,7 @@ module _ (w : Face) (whole : IsWholeWorld w) (joined : IsJoined w.nodes) (c : Ad
         where
           by_stop : ((n : ℕ) × (refused.on.cause ≡ stop.Io n)) ⊎ (device.faults ≡ first.faults)
               → ((n : ℕ) × (refused.on.cause ≡ stop.Io n) × (unopened first.number refused.on.cause ≡ refusal.Io (Dev first.number) n))
-              ⊎ (is_failed (unopened first.number refused.on.cause) ≡ false) → IsLookedOver w c told now out
+              ⊎ (is_io_refusal (unopened first.number refused.on.cause) ≡ false) → IsLookedOver w c told now out
           by_stop (inl io) quiet = io-failed io.0 io.1
           by_stop (inr same) (inl io) = io-failed io.0 io.1
           by_stop (inr same) (inr quiet) = refused-calmly same quiet
@@ -240,7 +240,7 @@ module _ (w : Face) (whole : IsWholeWorld w) (joined : IsJoined w.nodes) (c : Ad
       where
         by_image : (found : Option Known) → TellsInside w.table c.node_name at.filename q first device found told → IsLookedOver w c told now out
         by_image (Some open_image) its =
-            calm-as (image_stop w.table c.node_name q (opened_sight open_image.header)) (ap (λ (a : Told). a.stopped) its.is)
+            calm-as (unfit_image w.table c.node_name q (opened_sight open_image.header)) (ap (λ (a : Told). a.stopped) its.is)
             (calm-inside w.table c.node_name q (opened_sight open_image.header))
             (out-as first (is ∙ ap (λ (d : Taken). Some d) its.on.kept) taken free)
         by_image None (inl long) =
@@ -280,7 +280,7 @@ module _ (w : Face) (whole : IsWholeWorld w) (joined : IsJoined w.nodes) (c : Ad
             after = badly.stopped.after;
             held = badly.stopped.held;
             left = badly.stopped.left;
-            stopped = record { named = ap (λ (d : DeviceState). d.number) (sym held-is); rose = caused.0; now = caused.1 };
+            stopped = record { named = ap (λ (d : DeviceSeen). d.number) (sym held-is); rose = caused.0; now = caused.1 };
             only = badly.stopped.only;
           } in
           inr
@@ -299,7 +299,7 @@ module _ (w : Face) (whole : IsWholeWorld w) (joined : IsJoined w.nodes) (c : Ad
                 (out-same w.table w.nodes now.nodes w.opened same whole.coherent.out) nodes;
           })
         where
-          failed-on : (v : Face) → v.opened ≡ w.opened → v.faults ≡ w.faults
+          failed-on : (v : WorldSeen) → v.opened ≡ w.opened → v.faults ≡ w.faults
               → (at : StoppedAt badly.node w.nodes.devices now.nodes.devices badly.device.number n) → at.after.number ≡ at.before.number
               → AreOut w.table now.nodes w.opened → now.nodes ≡ v.nodes → HidesNoFault w v (Some (fault_at (Dev badly.device.number) n))
           failed-on v opened faults at number out' nodes =
@@ -319,7 +319,7 @@ module _ (w : Face) (whole : IsWholeWorld w) (joined : IsJoined w.nodes) (c : Ad
         where
           by_stop : ((n : ℕ) × (badly.cause ≡ stop.Io n)) ⊎ (now.nodes.devices ≡ w.nodes.devices)
               → ((n : ℕ) × (badly.cause ≡ stop.Io n) × (unopened badly.device.number badly.cause ≡ refusal.Io (Dev badly.device.number) n))
-              ⊎ (is_failed (unopened badly.device.number badly.cause) ≡ false) → IsLookedOver w c told now out
+              ⊎ (is_io_refusal (unopened badly.device.number badly.cause) ≡ false) → IsLookedOver w c told now out
           by_stop (inl io) quiet = node-failed io.0 io.1
           by_stop (inr same) (inl io) = node-failed io.0 io.1
           by_stop (inr same) (inr quiet) =
@@ -327,13 +327,13 @@ module _ (w : Face) (whole : IsWholeWorld w) (joined : IsJoined w.nodes) (c : Ad
               (inl (
                 none,
                 same-site (site_of w) now store
-                    (kept ∙ ap (λ (ds : List DeviceState). let m : Nodes = record w.nodes { devices = ds } in m) same),
+                    (kept ∙ ap (λ (ds : List DeviceSeen). let m : Nodes = record w.nodes { devices = ds } in m) same),
               ))
 
     under-over : (image : Option Known) → LooksUnder w.table c q name w.nodes now.nodes image told
         → now.nodes ≡ record w.nodes { devices = now.nodes.devices } → HaveRisen w.nodes.devices now.nodes.devices → IsLookedOver w c told now out
     under-over (Some open_image) well kept risen =
-        calm-as (image_stop w.table c.node_name q (opened_sight open_image.header)) (ap (λ (a : Told). a.stopped) well.is)
+        calm-as (unfit_image w.table c.node_name q (opened_sight open_image.header)) (ap (λ (a : Told). a.stopped) well.is)
         (calm-inside w.table c.node_name q (opened_sight open_image.header)) (inl (none, same-site (site_of w) now store well.kept))
     under-over None (inl past) kept risen = still (ap (λ (a : Told). a.stopped) past.is) none (same-site (site_of w) now store past.kept)
     under-over None (inr badly) kept risen = badly-over badly kept risen
@@ -370,7 +370,7 @@ module _ (w : Face) (whole : IsWholeWorld w) (joined : IsJoined w.nodes) (c : Ad
 
 -- ---- what is left of it
 
-module _ (w v : Face) (now : Site) (driver : Added (List ℕ)) (out : Option Taken) where
+module _ (w v : WorldSeen) (now : Site) (driver : Added (List ℕ)) (out : Option Taken) where
   -- all is back
   pub calm-back : IsLookedCalmly (opened_name driver) (site_of w) now out → site_of v ≡ site (back_if driver out now.store) now.nodes
       → HidesNoFault w v None
@@ -386,7 +386,7 @@ module _ (w v : Face) (now : Site) (driver : Added (List ℕ)) (out : Option Tak
       (ap (λ (m : Nodes). counts_from m.devices 0 w.opened) (ap (λ (x : Site). x.nodes) put ∙ opened.nodes)) opened.first.faults refl refl
 
 -- a device behind others, under another number than theirs
-numbered-last : (ds : List DeviceState) (d : DeviceState) (n : ℕ) → device_numbered ds n ≡ None → d.number.0 ≡ n
+numbered-last : (ds : List DeviceSeen) (d : DeviceSeen) (n : ℕ) → device_numbered ds n ≡ None → d.number.0 ≡ n
     → device_numbered (ds ++ d ∷ []) n ≡ Some d
 numbered-last [] d n none is = rw (eq-eqb d.number.0 n is) refl
 numbered-last (x ∷ ds) d n none is = by_test (x.number.0 == n) none (λ rest. numbered-last ds d n rest is)
@@ -397,19 +397,19 @@ numbered-last (x ∷ ds) d n none is = by_test (x.number.0 == n) none (λ rest. 
     by_test false none rest = rest none
 
 -- no device has the number of the next opening
-next-free : (w : Face) → IsWholeWorld w → device_numbered w.nodes.devices (length w.opened) ≡ None
+next-free : (w : WorldSeen) → IsWholeWorld w → device_numbered w.nodes.devices (length w.opened) ≡ None
 next-free w whole = by_found (device_numbered w.nodes.devices (length w.opened)) refl
   where
-    by_found : (found : Option DeviceState) → device_numbered w.nodes.devices (length w.opened) ≡ found → found ≡ None
+    by_found : (found : Option DeviceSeen) → device_numbered w.nodes.devices (length w.opened) ≡ found → found ≡ None
     by_found None is = refl
     by_found (Some x) is =
-        let at = find-Some (λ (d : DeviceState). d.number.0 == length w.opened) w.nodes.devices x is in
+        let at = find-Some (λ (d : DeviceSeen). d.number.0 == length w.opened) w.nodes.devices x is in
         let number : x.number.0 ≡ length w.opened = eqb-true x.number.0 (length w.opened) at.1 in
         let out = whole.coherent.out.each x at.0 in
         let within = slice_get_within w.opened x.number.0 out.opening out.there in
         absurd (omega (arith, within, number))
 
-module _ (w v : Face) (whole : IsWholeWorld w) (now : Site) (driver : Added (List ℕ)) (out : Option Taken) (t : Table) (c : Adding)
+module _ (w v : WorldSeen) (whole : IsWholeWorld w) (now : Site) (driver : Added (List ℕ)) (out : Option Taken) (t : RunTable) (c : Adding)
     (image : Option Known) where
   -- its nodes are there
   pub calm-added : IsLookedCalmly (opened_name driver) (site_of w) now out → store_of v ≡ now.store → HasAdded t c out image now.nodes v.nodes
@@ -428,10 +428,10 @@ module _ (w v : Face) (whole : IsWholeWorld w) (now : Site) (driver : Added (Lis
       made.devices ∙ ap (λ (n : Nodes). n.devices ++ of_node made.id opened.first ∷ []) opened.nodes in
       let number : opened.first.number.0 ≡ length w.opened = ap (λ (n : DevNo). n.0) opened.taken.number in
       let counts : counts_from v.nodes.devices 0 w.opened ≡ counts_from w.nodes.devices 0 w.opened =
-      ap (λ (ds : List DeviceState). counts_from ds 0 w.opened) devices
+      ap (λ (ds : List DeviceSeen). counts_from ds 0 w.opened) devices
       ∙ counts-more w.nodes.devices (of_node made.id opened.first) 0 w.opened (omega (arith, number)) in
       let found : device_numbered v.nodes.devices (length w.opened) ≡ Some (of_node made.id opened.first) =
-      ap (λ (ds : List DeviceState). device_numbered ds (length w.opened)) devices
+      ap (λ (ds : List DeviceSeen). device_numbered ds (length w.opened)) devices
       ∙ numbered-last w.nodes.devices (of_node made.id opened.first) (length w.opened) (next-free w whole) number in
       let own : count_of_opening v.nodes.devices (length w.opened) (opening_of (opened_name driver) opened.first) ≡ opened.first.faults =
       rw found refl in
@@ -440,17 +440,17 @@ module _ (w v : Face) (whole : IsWholeWorld w) (now : Site) (driver : Added (Lis
 
 -- ---- by the answer
 
-module _ (w v : Face) (whole : IsWholeWorld w) (c : Adding) (told : Told) (now : Site) (out : Option Taken) (image : Option Known)
+module _ (w v : WorldSeen) (whole : IsWholeWorld w) (c : Adding) (told : Told) (now : Site) (out : Option Taken) (image : Option Known)
     (over : IsLookedOver w c told now out) where
   pub hides-refused : site_of v ≡ site (back_if c.driver out now.store) now.nodes → (cause : Refusal)
-      → refusal_of w.table told (command.BlockdevAdd c) ≡ Some cause → HidesNoFault w v (fault_named cause)
+      → refusal_to w.table told (command.BlockdevAdd c) ≡ Some cause → HidesNoFault w v (fault_named cause)
   hides-refused put cause is = by_kind over
     where
       by_kind : IsLookedOver w c told now out → HidesNoFault w v (fault_named cause)
       by_kind (inl calm) =
-          let quiet : is_failed cause ≡ false = elim (refused-of w.table told c cause is) [
+          let quiet : is_io_refusal cause ≡ false = elim (refused-of w.table told c cause is) [
             | inl quiet ↦ quiet
-            | inr its ↦ ap is_failed (sym its.2) ∙ calm-not told told.stopped refl calm.stopped its.0 its.1
+            | inr its ↦ ap is_io_refusal (sym its.2) ∙ calm-not told told.stopped refl calm.stopped its.0 its.1
           ] in
           subst (HidesNoFault w v) (sym (quiet_named cause quiet)) (calm-back w v now c.driver out calm.looked put)
       by_kind (inr failed) =
@@ -459,7 +459,7 @@ module _ (w v : Face) (whole : IsWholeWorld w) (c : Adding) (told : Told) (now :
           subst (λ (r : Refusal). HidesNoFault w v (fault_named r)) one (failed.hides v put)
 
   pub hides-added : store_of v ≡ now.store → HasAdded w.table c out image now.nodes v.nodes
-      → refusal_of w.table told (command.BlockdevAdd c) ≡ None → HidesNoFault w v None
+      → refusal_to w.table told (command.BlockdevAdd c) ≡ None → HidesNoFault w v None
   hides-added store has none = by_kind over
     where
       by_kind : IsLookedOver w c told now out → HidesNoFault w v None
@@ -470,7 +470,7 @@ module _ (w v : Face) (whole : IsWholeWorld w) (c : Adding) (told : Told) (now :
 
 -- ---- want of memory
 
-module _ (w : Face) (whole : IsWholeWorld w) (joined : IsJoined w.nodes) (c : Adding) (x : Site) (u : Table) where
+module _ (w : WorldSeen) (whole : IsWholeWorld w) (joined : IsJoined w.nodes) (c : Adding) (x : Site) (u : RunTable) where
   -- at most one call failed, and the addition made it
   abbrev pub HidesAtMostOne : Type 0
   HidesAtMostOne = (fault : Option FaultAt) × HidesNoFault w (sited w x u) fault

@@ -6,7 +6,7 @@ use Rattle.blk_graph.specs.declared.kind.Kind.{Kind}
 use Rattle.blk_graph.specs.declared.kind.Kind.TheVariants.{Raw, Qcow2}
 use Rattle.blk_graph.proofs.Members.{Contains-cases, Contains-nil, find-Some}
 use Rattle.q2_format.specs.Contents.{image_disk, raw_disk}
-use Rattle.blk_nodes.specs.Contents.{below, bytes_of, disk_of}
+use Rattle.blk_nodes.specs.Contents.{disk_under, bytes_of, disk_of}
 use Rattle.blk_nodes.specs.Joined.{IsJoined}
 use Rattle.blk_nodes.specs.Nodes.{Nodes, row_at}
 use Rattle.blk_nodes.specs.declared.row.Driver.TheVariants as driver
@@ -14,7 +14,7 @@ use Rattle.blk_nodes.specs.declared.row.Row.{Row}
 use Rattle.qmp_rules.specs.Asks.{stands_for}
 use Rattle.qmp_rules.specs.Changes.{changed}
 use Rattle.qmp_rules.specs.Looks.{is_unopened}
-use Rattle.qmp_rules.specs.Table.{Table, node_at}
+use Rattle.qmp_rules.specs.Table.{RunTable, node_by_id}
 use Rattle.qmp_rules.specs.declared.change.Change.TheVariants.{AddFile, AddFilter, AddFormat}
 use Rattle.qmp_rules.specs.declared.rows.NodeRecord.{NodeRecord}
 use Rattle.flat_machine.specs.Agreement.{Contents}
@@ -24,7 +24,7 @@ use Rattle.flat_machine.specs.Wiring.{StandAlone}
 use Rattle.flat_machine.proofs.Finds.{bytes_eq-same, same-bytes_eq}
 use Rattle.flat_machine.proofs.Fresh.{found-new}
 use Rattle.world_parts.specs.Adding.{Taken}
-use Rattle.world_parts.specs.Face.{Face, contents_of, node_over, told_bytes}
+use Rattle.world_parts.specs.Face.{WorldSeen, contents_of, node_over, told_bytes}
 use Rattle.world_parts.specs.Joining.{IsFileAdded, HasOver}
 use Rattle.blk_world.proofs.AddClosed.{closed-rows}
 use Rattle.blk_world.proofs.AddPerformed.{performed-file, performed-filter, performed-image, performed-part}
@@ -37,15 +37,15 @@ no-row nodes id joined absent = by_found (row_at nodes id) refl
     by_found None e = refl
     by_found (Some row) e = absurd (absent (joined.only id (rw e refl)))
 
-module _ (w v : Face) (joined : IsJoined w.nodes) (row : NodeRecord) (files : v.files ≡ w.files) (s : State) where
+module _ (w v : WorldSeen) (joined : IsJoined w.nodes) (row : NodeRecord) (files : v.files ≡ w.files) (s : State) where
   -- over a file for which no node stands
   pub did-file : (filename : List ℕ) (device : Taken) → v.table ≡ changed w.table (AddFile row) → IsFileAdded row.name row.read_only device w.nodes v.nodes row.id
-      → row.size ≡ device.size → row.filename ≡ Some filename → node_at w.table row.id ≡ None → is_unopened w.table filename ≡ false
+      → row.size ≡ device.size → row.filename ≡ Some filename → node_by_id w.table row.id ≡ None → is_unopened w.table filename ≡ false
       → device.content ≡ told_bytes w.files filename → Performed s (AddFile row) (contents_of w) (contents_of v)
   unfolding changed
   did-file filename device table has size named fresh closed content =
       performed-file w v joined row (record { driver = driver.File; size = device.size; is_read_only = row.read_only }) filename device
-      (ap (λ (t : Table). t.nodes) table) named fresh (no-row w.nodes row.id joined has.lowest.free) (closed-rows w.table filename closed)
+      (ap (λ (t : RunTable). t.nodes) table) named fresh (no-row w.nodes row.id joined has.lowest.free) (closed-rows w.table filename closed)
       (ap (λ (n : Nodes). n.rows) has.is) (ap (λ (n : Nodes). n.devices) has.is) files content s size has.disks has.disk
 
   module _ (own : Row) (child : ℕ) (bytes : List ℕ) (none : row.filename ≡ None) where
@@ -54,17 +54,17 @@ module _ (w v : Face) (joined : IsJoined w.nodes) (row : NodeRecord) (files : v.
         → bytes ≡ raw_disk row.offset row.size (disk_of w.nodes child) → Performed s (AddFormat row child None) (contents_of w) (contents_of v)
     unfolding changed
     did-part table has kind is =
-        performed-part w v joined row own (over-added w.table v.table row child none (ap (λ (t : Table). t.nodes) table))
+        performed-part w v joined row own (over-added w.table v.table row child none (ap (λ (t : RunTable). t.nodes) table))
         (ap (λ (n : Nodes). n.rows) has.is) (ap (λ (n : Nodes). n.devices) has.is) files has.disks s child kind (has.disk ∙ is)
 
     -- over an image
     pub did-image : (backing : Option ℕ) (filename : List ℕ) → v.table ≡ changed w.table (AddFormat row child backing)
         → HasOver row.name own child backing bytes w.nodes v.nodes row.id → row.kind ≡ Qcow2 → s.table ≡ w.table
         → filename_of w.table child ≡ Some filename → node_over w.table filename ≡ Some child
-        → bytes ≡ image_disk (bytes_of w.nodes child) (below (disk_of w.nodes) backing) → Performed s (AddFormat row child backing) (contents_of w) (contents_of v)
+        → bytes ≡ image_disk (bytes_of w.nodes child) (disk_under (disk_of w.nodes) backing) → Performed s (AddFormat row child backing) (contents_of w) (contents_of v)
     unfolding changed
     did-image backing filename table has kind same named alone is =
-        performed-image w v joined row own (over-added w.table v.table row child none (ap (λ (t : Table). t.nodes) table))
+        performed-image w v joined row own (over-added w.table v.table row child none (ap (λ (t : RunTable). t.nodes) table))
         (ap (λ (n : Nodes). n.rows) has.is) (ap (λ (n : Nodes). n.devices) has.is) files has.disks s child backing filename kind same named alone (has.disk ∙ is)
 
     -- that copies what it reads
@@ -72,13 +72,13 @@ module _ (w v : Face) (joined : IsJoined w.nodes) (row : NodeRecord) (files : v.
         → bytes ≡ disk_of w.nodes child → Performed s (AddFilter row child) (contents_of w) (contents_of v)
     unfolding changed
     did-filter table has is =
-        performed-filter w v joined row own (over-filtered w.table v.table row none (ap (λ (t : Table). t.nodes) table))
+        performed-filter w v joined row own (over-filtered w.table v.table row none (ap (λ (t : RunTable). t.nodes) table))
         (ap (λ (n : Nodes). n.rows) has.is) (ap (λ (n : Nodes). n.devices) has.is) files has.disks s child (has.disk ∙ is)
 
 -- ---- which `file` node it is
 
 -- the node that was just added stands for its file
-pub over-new : (t : Table) (row : NodeRecord) (filename : List ℕ) → row.filename ≡ Some filename → is_unopened t filename ≡ false
+pub over-new : (t : RunTable) (row : NodeRecord) (filename : List ℕ) → row.filename ≡ Some filename → is_unopened t filename ≡ false
     → node_over (changed t (AddFile row)) filename ≡ Some row.id
 unfolding changed
 over-new t row filename named closed =
@@ -86,7 +86,7 @@ over-new t row filename named closed =
     ap (option_map (λ (r : NodeRecord). r.id)) (found-new (stands_for filename) t.nodes row (closed-rows t filename closed) stands)
 
 -- one node stands for a file
-pub over-one : (t : Table) (row : NodeRecord) (filename : List ℕ) → StandAlone t → Contains t.nodes row → row.filename ≡ Some filename
+pub over-one : (t : RunTable) (row : NodeRecord) (filename : List ℕ) → StandAlone t → Contains t.nodes row → row.filename ≡ Some filename
     → node_over t filename ≡ Some row.id
 over-one t row filename alone there named = by_found (find (stands_for filename) t.nodes) refl
   where

@@ -7,9 +7,9 @@ use Rattle.blk_base.specs.declared.file.File.{File}
 use Rattle.blk_nodes.specs.Joined.{IsJoined}
 use Rattle.qmp_codec.specs.Commands.{Cmd}
 use Rattle.qmp_codec.specs.declared.command.Command.TheVariants as command
-use Rattle.qmp_rules.specs.Answers.{Answer, answer, refusal_of}
+use Rattle.qmp_rules.specs.Answers.{Answer, answer, refusal_to}
 use Rattle.qmp_rules.specs.Changes.{all_changed}
-use Rattle.qmp_rules.specs.Table.{Table}
+use Rattle.qmp_rules.specs.Table.{RunTable}
 use Rattle.qmp_rules.specs.declared.refusal.Refusal.{Refusal}
 use Rattle.qmp_rules.specs.declared.told.Told.{Told}
 use Rattle.flat_machine.specs.Performing.{AllPerformed}
@@ -19,7 +19,7 @@ use Rattle.world_parts.specs.Adding.{Adding}
 use Rattle.world_commands.specs.Carrying.{IsCarriedAs, IsCaused, fault_told}
 use Rattle.world_parts.specs.Coherent.{DevicesTell, IsCoherent}
 use Rattle.world_commands.specs.Comes.{ShowsState}
-use Rattle.world_parts.specs.Face.{Face, contents_of}
+use Rattle.world_parts.specs.Face.{WorldSeen, contents_of}
 use Rattle.world_commands.specs.Counting.{HidesNoFault}
 use Rattle.world_commands.specs.Leaving.{clean_told}
 use Rattle.world_parts.specs.Looking.{AreIn, HasLooked, Site}
@@ -41,18 +41,18 @@ use Rattle.world_commands.proofs.BitmapsLeft.{left-dirty}
 use Rattle.world_commands.proofs.Placed.{answer-is}
 
 -- why the failed calls of an addition failed, that none is hidden, and that what was told is what files hold
-pub record IsAccounted (w v : Face) (c : Adding) (told : Told) : Type 0 where
-  pub causes : (cause : Refusal) → refusal_of w.table told (command.BlockdevAdd c) ≡ Some cause → IsCaused w v (command.BlockdevAdd c) cause
-  pub hides : HidesNoFault w v (fault_told (refusal_of w.table told (command.BlockdevAdd c)))
+pub record IsAccounted (w v : WorldSeen) (c : Adding) (told : Told) : Type 0 where
+  pub causes : (cause : Refusal) → refusal_to w.table told (command.BlockdevAdd c) ≡ Some cause → IsCaused w v (command.BlockdevAdd c) cause
+  pub hides : HidesNoFault w v (fault_told (refusal_to w.table told (command.BlockdevAdd c)))
   pub seen : is_some w.files ≡ true → (o : Opening) (s : State) → ShowsState o s w → IsSeenHeld s w c told
 
 pub some-files : (f : Option (List File)) → is_some f ≡ true → (files : List File) × (f ≡ Some files)
 some-files None bad = absurd (let e : false ≡ true = bad in cc e)
 some-files (Some files) some = (files, refl)
 
-module _ (w : Face) (coherent : IsCoherent w.table w.nodes w.opened w.progress) (tell : DevicesTell w.files w.nodes.devices) (joined : IsJoined w.nodes)
-    (bitmaps : AreBitmapsOf w.table.bitmaps w.bitmaps) (given : List ℕ) (c : Adding) (x : Site) (u : Table) (text : List ℕ) where
-  abbrev v : Face
+module _ (w : WorldSeen) (coherent : IsCoherent w.table w.nodes w.opened w.progress) (tell : DevicesTell w.files w.nodes.devices) (joined : IsJoined w.nodes)
+    (bitmaps : AreBitmapsOf w.table.bitmaps w.bitmaps) (given : List ℕ) (c : Adding) (x : Site) (u : RunTable) (text : List ℕ) where
+  abbrev v : WorldSeen
   v = sited w x u
 
   abbrev cmd : Cmd
@@ -98,7 +98,7 @@ module _ (w : Face) (coherent : IsCoherent w.table w.nodes w.opened w.progress) 
           opens = opens-back w.table c (site_of w) is.between is.out is.image is.told is.looked x.store (ap (λ (y : Site). y.store) ends.is) (so is);
           site = record { between = is.between; out = is.out; image = is.image; looked = looked-clean is; ends = ends.is };
           cause = account.causes ends.staged.cause ends.staged.is;
-          coherent = λ was. subst (λ (t : Table). IsCoherent t x.nodes x.store.opened w.progress) (sym ends.table) both.0;
+          coherent = λ was. subst (λ (t : RunTable). IsCoherent t x.nodes x.store.opened w.progress) (sym ends.table) both.0;
           shows = λ told o s shows.
               carried-in o s w v c is.told shows (account.seen told o s shows)
               (subst (λ (a : Answer). AllPerformed s a.changes (contents_of w) (contents_of v)) (sym answered) quiet);
@@ -135,7 +135,7 @@ module _ (w : Face) (coherent : IsCoherent w.table w.nodes w.opened w.progress) 
           site = record { between = is.between; out = is.out; image = is.image; looked = looked-clean is; ends = (ends.store, ends.added) };
           cause = λ dev called passes. passes;
           coherent = λ was.
-              subst (λ (t : Table). IsCoherent t x.nodes x.store.opened w.progress) (sym ends.table)
+              subst (λ (t : RunTable). IsCoherent t x.nodes x.store.opened w.progress) (sym ends.table)
               (whole w.table is.told c ends.accepted.none (site_of w) is.between x is.out is.image w.progress coherent is.joined is.looked ends.added ends.store);
           shows = λ told o s shows.
               let files = some-files w.files told in
@@ -171,9 +171,9 @@ module _ (w : Face) (coherent : IsCoherent w.table w.nodes w.opened w.progress) 
           → IsCoherent u x.nodes x.store.opened w.progress × DevicesTell x.store.files x.nodes.devices
       by_end (inl refused) =
           let both = back-both w coherent tell is.between c.driver is.out x (so is) refused.is in
-          (subst (λ (t : Table). IsCoherent t x.nodes x.store.opened w.progress) (sym refused.table) both.0, both.1)
+          (subst (λ (t : RunTable). IsCoherent t x.nodes x.store.opened w.progress) (sym refused.table) both.0, both.1)
       by_end (inr added) = (
-        subst (λ (t : Table). IsCoherent t x.nodes x.store.opened w.progress) (sym added.table)
+        subst (λ (t : RunTable). IsCoherent t x.nodes x.store.opened w.progress) (sym added.table)
             (whole w.table is.told c added.accepted.none (site_of w) is.between x is.out is.image w.progress coherent is.joined is.looked added.added added.store),
         added-tell w coherent tell is.between c.driver is.out x w.table c is.image (so is) added.store added.added,
       )

@@ -10,15 +10,15 @@ use Rattle.q2_image.specs.declared.stop.ImageStop.TheVariants as stop
 use Rattle.qmp_codec.specs.declared.command.Command.TheVariants as command
 use Rattle.qmp_codec.specs.declared.nodes.AddQcow2.{AddQcow2}
 use Rattle.qmp_codec.specs.declared.nodes.AddRaw.{AddRaw}
-use Rattle.qmp_rules.specs.Answers.{conflict_after, conflict_in, conflict_refusal, is_joined, out_of_turn, refusal_of, untold}
+use Rattle.qmp_rules.specs.Answers.{conflict_after, conflict_in, conflict_refusal, is_joined, out_of_turn, refusal_to, told_none}
 use Rattle.qmp_asks.specs.Asking.{Asking, place, same_look}
-use Rattle.qmp_rules.specs.Asks.{first, holds, if_there, told_at}
+use Rattle.qmp_rules.specs.Asks.{first_unmet_ask, holds, if_there, told_at}
 use Rattle.qmp_rules.specs.Changes.{all_changed}
-use Rattle.qmp_rules.specs.Edits.{edits_of, ids}
-use Rattle.qmp_rules.specs.Looks.{ImageSight, image_stop, raw_stop, stop_at, too_long}
+use Rattle.qmp_rules.specs.Edits.{edits_of, node_ids}
+use Rattle.qmp_rules.specs.Looks.{ImageSight, unfit_image, raw_stop, stop_at, too_long}
 use Rattle.qmp_asks.specs.NodeAsks.{add_asks, backing_name}
 use Rattle.qmp_rules.specs.Refusals.{place_of, refused}
-use Rattle.qmp_rules.specs.Table.{Table, node_named}
+use Rattle.qmp_rules.specs.Table.{RunTable, node_named}
 use Rattle.qmp_asks.specs.Values.{begins_within, ends_within, part_fits}
 use Rattle.qmp_asks.specs.declared.ask.Ask.TheVariants as ask
 use Rattle.qmp_rules.specs.declared.change.Change.{Change}
@@ -31,7 +31,7 @@ use Rattle.qmp_rules.specs.declared.told.Stopped.{Stopped}
 use Rattle.qmp_rules.specs.declared.told.Told.{Told}
 use Rattle.qmp_rules.proofs.PlaceLemmas.{has_place}
 use Rattle.world_parts.specs.Adding.{Adding, unopened}
-use Rattle.world_commands.specs.Carrying.{is_failed}
+use Rattle.world_commands.specs.Carrying.{is_io_refusal}
 use Rattle.world_parts.proofs.AddRefused.{refusal-is}
 use Rattle.world_commands.proofs.CarryNames.{either-of}
 
@@ -39,9 +39,9 @@ use Rattle.world_commands.proofs.CarryNames.{either-of}
 
 -- it names none, or the files told it
 abbrev pub IsOfCall : Told → Refusal → Type 0
-IsOfCall told cause = (is_failed cause ≡ false) ⊎ ((stopped : Stopped) × (told.stopped ≡ Some stopped) × (stopped.refusal ≡ cause))
+IsOfCall told cause = (is_io_refusal cause ≡ false) ⊎ ((stopped : Stopped) × (told.stopped ≡ Some stopped) × (stopped.refusal ≡ cause))
 
-placed-quiet : (cause : Refusal) (p : ℕ) → place_of cause ≡ Some p → is_failed cause ≡ false
+placed-quiet : (cause : Refusal) (p : ℕ) → place_of cause ≡ Some p → is_io_refusal cause ≡ false
 placed-quiet (refusal.Io source count) p placed = absurd cc
 placed-quiet (refusal.NoSpace dev) p placed = absurd cc
 placed-quiet _ p placed = refl
@@ -54,37 +54,37 @@ told-by told what cause (Some stopped) e is = by_test (same_look what stopped.lo
     by_test false h = absurd (let bad : ⊥ = cc h in bad)
     by_test true h = let same : stopped.refusal ≡ cause = cc h in inr (stopped, e, same)
 
-one-of : (t : Table) (told : Told) (a : Asking) (cause : Refusal) → holds t told a ≡ Some cause → IsOfCall told cause
+one-of : (t : RunTable) (told : Told) (a : Asking) (cause : Refusal) → holds t told a ≡ Some cause → IsOfCall told cause
 unfolding holds
 one-of t told (ask.Files what) cause here = told-by told what cause told.stopped refl here
 one-of t told a cause here = inl (placed-quiet cause (place a) (has_place t told a tt cause here))
 
-asked-of : (t : Table) (told : Told) (asks : List Asking) (cause : Refusal) → first t told asks ≡ Some cause → IsOfCall told cause
+asked-of : (t : RunTable) (told : Told) (asks : List Asking) (cause : Refusal) → first_unmet_ask t told asks ≡ Some cause → IsOfCall told cause
 asked-of t told [] cause is = absurd (let bad : ⊥ = cc is in bad)
-asked-of t told (a ∷ asks) cause is = elim (either-of (holds t told a) (first t told asks) cause is) [
+asked-of t told (a ∷ asks) cause is = elim (either-of (holds t told a) (first_unmet_ask t told asks) cause is) [
   | inl here ↦ one-of t told a cause here
   | inr later ↦ asked-of t told asks cause later
 ]
 
-turn-of : (b : Bool) (cause : Refusal) → out_of_turn false b ≡ Some cause → is_failed cause ≡ false
+turn-of : (b : Bool) (cause : Refusal) → out_of_turn false b ≡ Some cause → is_io_refusal cause ≡ false
 turn-of true cause is = absurd (let bad : ⊥ = cc is in bad)
 turn-of false cause is = let same : refusal.Negotiation false ≡ cause = cc is in rw (← same) refl
 
-conflict-of : (t : Table) (on : Bool) (changes : List Change) (cause : Refusal) → conflict_after on t changes ≡ Some cause → is_failed cause ≡ false
+conflict-of : (t : RunTable) (on : Bool) (changes : List Change) (cause : Refusal) → conflict_after on t changes ≡ Some cause → is_io_refusal cause ≡ false
 unfolding conflict_in
 conflict-of t false changes cause is = absurd (let bad : ⊥ = cc is in bad)
-conflict-of t true changes cause is = at (first_conflict (ids (all_changed t changes)) (all_changed t changes).edges) is
+conflict-of t true changes cause is = at (first_conflict (node_ids (all_changed t changes)) (all_changed t changes).edges) is
   where
-    at : (pair : Option Conflict) → option_map (conflict_refusal (all_changed t changes)) pair ≡ Some cause → is_failed cause ≡ false
+    at : (pair : Option Conflict) → option_map (conflict_refusal (all_changed t changes)) pair ≡ Some cause → is_io_refusal cause ≡ false
     at None h = absurd (let bad : ⊥ = cc h in bad)
     at (Some pair) h = let same : conflict_refusal (all_changed t changes) pair ≡ cause = cc h in rw (← same) refl
 
-pub refused-of : (t : Table) (told : Told) (c : Adding) (cause : Refusal) → refusal_of t told (command.BlockdevAdd c) ≡ Some cause → IsOfCall told cause
+pub refused-of : (t : RunTable) (told : Told) (c : Adding) (cause : Refusal) → refusal_to t told (command.BlockdevAdd c) ≡ Some cause → IsOfCall told cause
 refused-of t told c cause is = elim (either-of (out_of_turn false t.negotiated) _ cause (sym (refusal-is t told c) ∙ is)) [
   | inl turn ↦ inl (turn-of t.negotiated cause turn)
-  | inr rest ↦ elim (either-of (first t told (add_asks c)) _ cause rest) [
+  | inr rest ↦ elim (either-of (first_unmet_ask t told (add_asks c)) _ cause rest) [
     | inl asked ↦ asked-of t told (add_asks c) cause asked
-    | inr behind ↦ inl (conflict-of t (is_joined c.driver) (edits_of t untold (command.BlockdevAdd c)) cause behind)
+    | inr behind ↦ inl (conflict-of t (is_joined c.driver) (edits_of t told_none (command.BlockdevAdd c)) cause behind)
   ]
 ]
 
@@ -92,7 +92,7 @@ refused-of t told c cause is = elim (either-of (out_of_turn false t.negotiated) 
 
 abbrev pub IsCalm : Option Stopped → Type 0
 IsCalm None = Unit {0}
-IsCalm (Some stopped) = is_failed stopped.refusal ≡ false
+IsCalm (Some stopped) = is_io_refusal stopped.refusal ≡ false
 
 pub calm-long : (name : List ℕ) (b : Bool) → IsCalm (stop_at look.File (too_long name b) None)
 calm-long name true = refl
@@ -127,22 +127,22 @@ calm-image : (cause : Option ImageStop) (later : Option Stopped) → IsCalm late
 calm-image (Some cause) later calm = refl
 calm-image None later calm = calm
 
-pub calm-inside : (t : Table) (name : List ℕ) (c : AddQcow2 (List ℕ)) (sight : ImageSight) → IsCalm (image_stop t name c sight)
+pub calm-inside : (t : RunTable) (name : List ℕ) (c : AddQcow2 (List ℕ)) (sight : ImageSight) → IsCalm (unfit_image t name c sight)
 calm-inside t name c sight =
     calm-image sight.stop _
     (calm-backing name (sight.names_backing && is_none c.backing) _
     (calm-size name sight.size (option_and_then (node_named t) (backing_name c.backing))))
 
 -- a stop of them is none of a failed call
-pub calm-not : (told : Told) (found : Option Stopped) → told.stopped ≡ found → IsCalm found → (stopped : Stopped) → told.stopped ≡ Some stopped → is_failed stopped.refusal ≡ false
+pub calm-not : (told : Told) (found : Option Stopped) → told.stopped ≡ found → IsCalm found → (stopped : Stopped) → told.stopped ≡ Some stopped → is_io_refusal stopped.refusal ≡ false
 calm-not told None e calm stopped is = absurd (let bad : None ≡ Some stopped = sym e ∙ is in cc bad)
 calm-not told (Some other) e calm stopped is =
     let both : Some other ≡ Some stopped = sym e ∙ is in
     let same : other ≡ stopped = cc both in
-    ap (λ (s : Stopped). is_failed s.refusal) (sym same) ∙ calm
+    ap (λ (s : Stopped). is_io_refusal s.refusal) (sym same) ∙ calm
 
 -- of an image: a read failed, or it is refused
-pub unopened-of : (number : DevNo) (cause : ImageStop) → ((n : ℕ) × (cause ≡ stop.Io n) × (unopened number cause ≡ refusal.Io (Dev number) n)) ⊎ (is_failed (unopened number cause) ≡ false)
+pub unopened-of : (number : DevNo) (cause : ImageStop) → ((n : ℕ) × (cause ≡ stop.Io n) × (unopened number cause ≡ refusal.Io (Dev number) n)) ⊎ (is_io_refusal (unopened number cause) ≡ false)
 unopened-of number (stop.Io n) = inl (n, refl, refl)
 unopened-of number (stop.Header why) = inr refl
 unopened-of number (stop.Offset offset) = inr refl

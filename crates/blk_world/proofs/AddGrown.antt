@@ -11,12 +11,12 @@ use Rattle.blk_graph.specs.Edits.{child_of}
 use Rattle.blk_graph.proofs.ChildLemmas.{child-edge}
 use Rattle.qmp_rules.specs.declared.rows.Device.{Device}
 use Rattle.qmp_rules.specs.declared.rows.NodeRecord.{NodeRecord}
-use Rattle.qmp_rules.specs.Table.{Table, child, device_at, node_at}
+use Rattle.qmp_rules.specs.Table.{RunTable, child, device_by_number, node_by_id}
 use Rattle.qmp_rules.specs.Chains.{disk_from, disk_node, filter_role, filtered}
 use Rattle.blk_history.specs.Disk.{span_of}
 use Rattle.blk_history.specs.Fold.{With}
 use Rattle.flat_machine.specs.Agreement.{HasDisk}
-use Rattle.flat_machine.specs.State.{Guest as GuestRow, disk_of_guest, drive_of, filename_of, size_of}
+use Rattle.flat_machine.specs.State.{Guest as GuestRow, disk_of_guest, drive_of, filename_of, size_by_id}
 use Rattle.world_parts.specs.Coherent.{AreOnDisks, AreWithin, HaveDrives}
 
 -- what stays of a row that was there
@@ -26,23 +26,23 @@ pub record StaysRow (old new : NodeRecord) : Type 0 where
   pub filename : new.filename ≡ old.filename
 
 -- nodes but the new one are as before, and but for one without parents each is as settled as before
-pub record Grows (t t' : Table) (new but : ℕ) (change : NodeRecord → NodeRecord) : Type 0 where
-  pub rows : (id : ℕ) → id ≢ new → node_at t' id ≡ option_map change (node_at t id)
+pub record Grows (t t' : RunTable) (new but : ℕ) (change : NodeRecord → NodeRecord) : Type 0 where
+  pub rows : (id : ℕ) → id ≢ new → node_by_id t' id ≡ option_map change (node_by_id t id)
   pub stays : (row : NodeRecord) → StaysRow row (change row)
-  pub settled : (id : ℕ) (row : NodeRecord) → node_at t id ≡ Some row → id ≢ but → (change row).is_settled ≡ row.is_settled
+  pub settled : (id : ℕ) (row : NodeRecord) → node_by_id t id ≡ Some row → id ≢ but → (change row).is_settled ≡ row.is_settled
   pub children : (parent : Parent) (role : Role) → parent ≢ Node new → child_of parent role t'.edges ≡ child_of parent role t.edges
   pub away : (edge : Edge) → Contains t.edges edge → edge.child ≢ new
   pub lone : (edge : Edge) → Contains t.edges edge → edge.child ≢ but
   pub devices : t'.devices ≡ t.devices
 
 -- one step through filters
-step-none : (t : Table) (more id : ℕ) → filtered t id ≡ None → disk_from (suc more) t id ≡ id
+step-none : (t : RunTable) (more id : ℕ) → filtered t id ≡ None → disk_from (suc more) t id ≡ id
 step-none t more id e = rw (e, disk_from) refl
 
-step-some : (t : Table) (more id below : ℕ) → filtered t id ≡ Some below → disk_from (suc more) t id ≡ disk_from more t below
+step-some : (t : RunTable) (more id below : ℕ) → filtered t id ≡ Some below → disk_from (suc more) t id ≡ disk_from more t below
 step-some t more id below e = rw (e, disk_from) refl
 
-module _ (t t' : Table) (new but : ℕ) (change : NodeRecord → NodeRecord) (grows : Grows t t' new but change) where
+module _ (t t' : RunTable) (new but : ℕ) (change : NodeRecord → NodeRecord) (grows : Grows t t' new but change) where
   other-node : (id : ℕ) → id ≢ new → Node id ≢ Node new
   other-node id other = λ same. other (let is : id ≡ new = cc same in is)
 
@@ -53,9 +53,9 @@ module _ (t t' : Table) (new but : ℕ) (change : NodeRecord → NodeRecord) (gr
 
   filtered-same : (id : ℕ) → id ≢ new → filtered t' id ≡ filtered t id
   filtered-same id other =
-      let roles : option_and_then (λ (row : NodeRecord). filter_role row.kind) (node_at t' id) ≡ option_and_then (λ (row : NodeRecord). filter_role row.kind) (node_at t id) =
-      ap (option_and_then (λ (row : NodeRecord). filter_role row.kind)) (grows.rows id other) ∙ role_by (node_at t id) in
-      ap (option_and_then (child t' id)) roles ∙ by_role (option_and_then (λ (row : NodeRecord). filter_role row.kind) (node_at t id))
+      let roles : option_and_then (λ (row : NodeRecord). filter_role row.kind) (node_by_id t' id) ≡ option_and_then (λ (row : NodeRecord). filter_role row.kind) (node_by_id t id) =
+      ap (option_and_then (λ (row : NodeRecord). filter_role row.kind)) (grows.rows id other) ∙ role_by (node_by_id t id) in
+      ap (option_and_then (child t' id)) roles ∙ by_role (option_and_then (λ (row : NodeRecord). filter_role row.kind) (node_by_id t id))
     where
       by_role : (role : Option Role) → option_and_then (child t' id) role ≡ option_and_then (child t id) role
       by_role None = refl
@@ -63,7 +63,7 @@ module _ (t t' : Table) (new but : ℕ) (change : NodeRecord → NodeRecord) (gr
 
   -- an edge leads to a filter's child
   below-led : (id below : ℕ) → filtered t id ≡ Some below → (edge : Edge) × Contains t.edges edge × (edge.child ≡ below)
-  below-led id below is = by_role (option_and_then (λ (row : NodeRecord). filter_role row.kind) (node_at t id)) is
+  below-led id below is = by_role (option_and_then (λ (row : NodeRecord). filter_role row.kind) (node_by_id t id)) is
     where
       by_role : (role : Option Role) → option_and_then (child t id) role ≡ Some below → (edge : Edge) × Contains t.edges edge × (edge.child ≡ below)
       by_role None none = absurd (cc none)
@@ -115,8 +115,8 @@ module _ (t t' : Table) (new but : ℕ) (change : NodeRecord → NodeRecord) (gr
   pub drive-same : (g : ℕ) → drive_of t' g ≡ drive_of t g
   drive-same g = grows.children (Guest g) Drive (guest-other g)
 
-  pub device-same : (g : ℕ) → device_at t' g ≡ device_at t g
-  device-same g = ap (λ (devices : List Device). device_at (record t { devices = devices }) g) grows.devices
+  pub device-same : (g : ℕ) → device_by_number t' g ≡ device_by_number t g
+  device-same g = ap (λ (devices : List Device). device_by_number (record t { devices = devices }) g) grows.devices
 
   pub drives-grown : HaveDrives t → HaveDrives t'
   drives-grown drives g there =
@@ -145,24 +145,24 @@ module _ (t t' : Table) (new but : ℕ) (change : NodeRecord → NodeRecord) (gr
   disks-grown on_disks g node on' =
       let on : drive_of t g ≡ Some node = sym (drive-same g) ∙ on' in
       let at : disk_node t' node ≡ disk_node t node = disk-same node (drive-other g node on) in
-      rw (at, grows.rows (disk_node t node) (disk-other g node on)) (by_row (disk_node t node) (disk-settled g node on) (node_at t (disk_node t node)) refl (on_disks g node on))
+      rw (at, grows.rows (disk_node t node) (disk-other g node on)) (by_row (disk_node t node) (disk-settled g node on) (node_by_id t (disk_node t node)) refl (on_disks g node on))
     where
-      by_row : (id : ℕ) → id ≢ but → (found : Option NodeRecord) → node_at t id ≡ found → With found HasDisk → With (option_map change found) HasDisk
+      by_row : (id : ℕ) → id ≢ but → (found : Option NodeRecord) → node_by_id t id ≡ found → With found HasDisk → With (option_map change found) HasDisk
       by_row id other None e disk = absurd disk
       by_row id other (Some row) e disk = record {
         settled = grows.settled id row e other ∙ disk.settled;
         own = ap filter_role (grows.stays row).kind ∙ disk.own;
       }
 
-  size-same : (id : ℕ) → id ≢ new → size_of t' id ≡ size_of t id
-  size-same id other = ap (λ (found : Option NodeRecord). unwrap_or (option_map (λ (row : NodeRecord). row.size) found) 0) (grows.rows id other) ∙ by_row (node_at t id)
+  size-same : (id : ℕ) → id ≢ new → size_by_id t' id ≡ size_by_id t id
+  size-same id other = ap (λ (found : Option NodeRecord). unwrap_or (option_map (λ (row : NodeRecord). row.size) found) 0) (grows.rows id other) ∙ by_row (node_by_id t id)
     where
       by_row : (found : Option NodeRecord) → unwrap_or (option_map (λ (row : NodeRecord). row.size) (option_map change found)) 0 ≡ unwrap_or (option_map (λ (row : NodeRecord). row.size) found) 0
       by_row None = refl
       by_row (Some row) = (grows.stays row).size
 
   pub filename-same : (id : ℕ) → id ≢ new → filename_of t' id ≡ filename_of t id
-  filename-same id other = ap (option_and_then (λ (row : NodeRecord). row.filename)) (grows.rows id other) ∙ by_row (node_at t id)
+  filename-same id other = ap (option_and_then (λ (row : NodeRecord). row.filename)) (grows.rows id other) ∙ by_row (node_by_id t id)
     where
       by_row : (found : Option NodeRecord) → option_and_then (λ (row : NodeRecord). row.filename) (option_map change found) ≡ option_and_then (λ (row : NodeRecord). row.filename) found
       by_row None = refl
@@ -171,8 +171,8 @@ module _ (t t' : Table) (new but : ℕ) (change : NodeRecord → NodeRecord) (gr
   pub within-grown : (guests : List GuestRow) → AreWithin t guests → AreWithin t' guests
   within-grown guests within g f flies = by_drive (drive_of t g) refl (within g f flies)
     where
-      by_drive : (found : Option ℕ) → drive_of t g ≡ found → With (option_map (disk_node t) found) (λ node. end_of (span_of f.op) ≤ size_of t node)
-          → With (disk_of_guest t' g) (λ node. end_of (span_of f.op) ≤ size_of t' node)
+      by_drive : (found : Option ℕ) → drive_of t g ≡ found → With (option_map (disk_node t) found) (λ node. end_of (span_of f.op) ≤ size_by_id t node)
+          → With (disk_of_guest t' g) (λ node. end_of (span_of f.op) ≤ size_by_id t' node)
       by_drive None e is = absurd is
       by_drive (Some node) e is =
           let on : drive_of t' g ≡ Some node = drive-same g ∙ e in

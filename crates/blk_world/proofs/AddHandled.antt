@@ -5,11 +5,11 @@ use Rattle.blk_base.specs.declared.fault.FaultAt.{FaultAt}
 use Rattle.blk_nodes.specs.Joined.{IsJoined}
 use Rattle.qmp_codec.specs.Commands.{Cmd}
 use Rattle.qmp_codec.specs.declared.command.Command.TheVariants as command
-use Rattle.qmp_rules.specs.Table.{Table}
+use Rattle.qmp_rules.specs.Table.{RunTable}
 use Rattle.flat_machine.specs.Bitmaps.{AreBitmapsOf}
 use Rattle.world_commands.specs.Carrying.{HasFailed, IsCarriedAs, IsPutBackBy}
 use Rattle.world_parts.specs.Coherent.{IsWholeWorld}
-use Rattle.world_parts.specs.Face.{Face}
+use Rattle.world_parts.specs.Face.{WorldSeen}
 use Rattle.world_parts.specs.Looking.{Site}
 use Rattle.world_parts.specs.Staging.{CanLook, IsAdditionBy, IsNotAddedBy, is_addition, site_of}
 use Rattle.blk_world.proofs.AddAccount.{accounted, runs-so}
@@ -20,14 +20,14 @@ use Rattle.blk_world.proofs.AddEnds.{carried-as, carried-both}
 use Rattle.blk_world.proofs.AddPut.{put-back, put-both, put-fault, put-runs, put-so}
 use Rattle.world_commands.proofs.BitmapsLeft.{left-listed}
 
-pub can-look : (w : Face) → IsWholeWorld w → CanLook w.table (site_of w)
+pub can-look : (w : WorldSeen) → IsWholeWorld w → CanLook w.table (site_of w)
 can-look w whole = record {
   alike = whole.coherent.alike;
   rests = whole.coherent.table;
   closed = λ name unopened. closed-in w.table w.nodes w.opened name whole.coherent.out unopened;
 }
 
-module _ (w : Face) (whole : IsWholeWorld w) (joined : IsJoined w.nodes) (given : List ℕ) (x : Site) (u : Table) where
+module _ (w : WorldSeen) (whole : IsWholeWorld w) (joined : IsJoined w.nodes) (given : List ℕ) (x : Site) (u : RunTable) where
   carried-by : (text : List ℕ) (c : Cmd) → is_addition c ≡ true → IsAdditionBy w.table given c (site_of w) x u text
       → IsCarriedAs w (sited w x u) given c text
   carried-by text (command.BlockdevAdd c) sure is =
@@ -67,7 +67,7 @@ module _ (w : Face) (whole : IsWholeWorld w) (joined : IsJoined w.nodes) (given 
           coherent = back.coherent whole.coherent;
           tell = both.1;
           counted = omega (arith, store, counted);
-          bitmaps = subst (λ (t : Table). AreBitmapsOf t.bitmaps w.bitmaps) (sym table) whole.bitmaps;
+          bitmaps = subst (λ (t : RunTable). AreBitmapsOf t.bitmaps w.bitmaps) (sym table) whole.bitmaps;
         },
       )
   put-by c sure is table = absurd (let bad : ⊥ = cc sure in bad)

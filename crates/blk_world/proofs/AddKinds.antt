@@ -9,7 +9,7 @@ use Rattle.qmp_codec.specs.declared.nodes.Added.{Added}
 use Rattle.qmp_codec.specs.declared.nodes.Added.TheVariants as added
 use Rattle.qmp_codec.specs.declared.nodes.FileRef.{FileRef}
 use Rattle.qmp_codec.specs.declared.nodes.FileRef.TheVariants as file_ref
-use Rattle.qmp_rules.specs.Table.{Table}
+use Rattle.qmp_rules.specs.Table.{RunTable}
 use Rattle.qmp_asks.specs.declared.look.Look.TheVariants as look
 use Rattle.qmp_rules.specs.declared.told.Told.{Told}
 use Rattle.world_parts.specs.Adding.{Adding, HasOpeningFailed, IsAbsent, IsTakenOut, Looks, Opens, Taken, TellsAddition, TellsInside, of_node}
@@ -41,7 +41,7 @@ IsLookedSo name old now out = IsCalled old now out ⊎ IsOpenedFor name old now 
 
 -- ---- a device that was looked at
 
-pub read-inside : (t : Table) (node filename : List ℕ) (c : AddQcow2 (List ℕ)) (first now : Taken) (image : Option Known) (told : Told)
+pub read-inside : (t : RunTable) (node filename : List ℕ) (c : AddQcow2 (List ℕ)) (first now : Taken) (image : Option Known) (told : Told)
     → TellsInside t node filename c first now image told → IsSameButFaults first now
 read-inside t node filename c first now (Some image) told is =
     subst (IsSameButFaults first) (sym is.on.kept) (record { same = refl; faults = omega arith })
@@ -49,7 +49,7 @@ read-inside t node filename c first now None told (inl long) =
     subst (IsSameButFaults first) (sym long.kept) (record { same = refl; faults = omega arith })
 read-inside t node filename c first now None told (inr why) = record { same = why.on.kept; faults = why.on.faults }
 
-pub read-tells : (t : Table) (node filename : List ℕ) (driver : Added (List ℕ)) (first now : Taken) (image : Option Known) (told : Told)
+pub read-tells : (t : RunTable) (node filename : List ℕ) (driver : Added (List ℕ)) (first now : Taken) (image : Option Known) (told : Told)
     → TellsAddition t node filename driver first now image told → IsSameButFaults first now
 read-tells t node filename (added.File own) first now image told is = subst (IsSameButFaults first) (sym is.kept) (record { same = refl; faults = omega arith })
 read-tells t node filename (added.Raw raw) first now image told is = subst (IsSameButFaults first) (sym is.kept) (record { same = refl; faults = omega arith })
@@ -59,7 +59,7 @@ read-tells t node filename added.Unknown first now image told is = subst (IsSame
 
 -- ---- looks
 
-module _ (t : Table) (c : Adding) (old now : Site) (out : Option Taken) (image : Option Known) (told : Told) (closed : AreIn t old.store.opened) where
+module _ (t : RunTable) (c : Adding) (old now : Site) (out : Option Taken) (image : Option Known) (told : Told) (closed : AreIn t old.store.opened) where
   still : now ≡ old → out ≡ None → (name : List ℕ) → IsLookedSo name old now out
   still same none name =
       inl
@@ -139,7 +139,7 @@ pub record HasDevice (nodes new : Nodes) (device : Taken) : Type 0 where
   pub id : ℕ
   pub devices : new.devices ≡ nodes.devices ++ of_node id device ∷ []
 
-module _ (t : Table) (c : Adding) (image : Option Known) (nodes new : Nodes) where
+module _ (t : RunTable) (c : Adding) (image : Option Known) (nodes new : Nodes) where
   device-part : (raw : AddRaw (List ℕ)) (file : FileRef (List ℕ)) (device : Taken) → HasAddedPart t c raw file (Some device) nodes new → HasDevice nodes new device
   device-part raw (file_ref.Name name) device has = absurd has
   device-part raw (file_ref.Inline file) device has = record {

@@ -28,10 +28,10 @@ use Rattle.qmp_asks.specs.declared.look.Look.{Look}
 use Rattle.qmp_asks.specs.declared.look.Look.TheVariants as look
 use Rattle.qmp_rules.specs.declared.told.Stopped.{Stopped}
 use Rattle.qmp_rules.specs.declared.told.Told.{Told}
-use Rattle.qmp_rules.specs.Table.{Table, node_named}
+use Rattle.qmp_rules.specs.Table.{RunTable, node_named}
 use Rattle.qmp_rules.specs.Refusals.{refused}
 use Rattle.qmp_rules.specs.Asks.{if_there}
-use Rattle.qmp_rules.specs.Looks.{ImageSight, file_stop, first_stop, image_stop, is_unopened, raw_stop, stop_at, told_as, too_long}
+use Rattle.qmp_rules.specs.Looks.{ImageSight, file_stop, first_stop, unfit_image, is_unopened, raw_stop, stop_at, told_record, too_long}
 use Rattle.qmp_asks.specs.NodeAsks.{add_asks, backing_name}
 use Rattle.qmp_asks.specs.Values.{begins_within, ends_within, part_fits}
 use Rattle.qmp_rules.specs.Answers as rules
@@ -107,7 +107,7 @@ behind-sizes name None true sizes = omega arith
 behind-sizes name None false (Some size) = omega arith
 behind-sizes name None false None = tt
 
-abbrev sizes_of : Table → List ℕ → AddQcow2 (List ℕ) → ℕ → Option Refusal
+abbrev sizes_of : RunTable → List ℕ → AddQcow2 (List ℕ) → ℕ → Option Refusal
 sizes_of t name added size =
     if_there (λ row. refused (not (row.size == size)) (refusal.SizeDiffers name row.name)) (option_and_then (node_named t) (backing_name added.backing))
 
@@ -116,12 +116,12 @@ there-row : (size : ℕ) (name : List ℕ) (found : Option NodeRecord)
 there-row size name None = tt
 there-row size name (Some row) = there-if (not (row.size == size)) (refusal.SizeDiffers name row.name) (λ c. refl)
 
-pub there-inside : (t : Table) (name : List ℕ) (added : AddQcow2 (List ℕ)) (sight : ImageSight) → AreThere (image_stop t name added sight)
+pub there-inside : (t : RunTable) (name : List ℕ) (added : AddQcow2 (List ℕ)) (sight : ImageSight) → AreThere (unfit_image t name added sight)
 there-inside t name added sight =
     there-sizes name sight.stop (sight.names_backing && is_none added.backing) (sizes_of t name added sight.size)
     (there-row sight.size name (option_and_then (node_named t) (backing_name added.backing)))
 
-pub behind-inside : (t : Table) (name : List ℕ) (added : AddQcow2 (List ℕ)) (sight : ImageSight) → IsBehind (image_stop t name added sight)
+pub behind-inside : (t : RunTable) (name : List ℕ) (added : AddQcow2 (List ℕ)) (sight : ImageSight) → IsBehind (unfit_image t name added sight)
 behind-inside t name added sight =
     behind-sizes name sight.stop (sight.names_backing && is_none added.backing) (sizes_of t name added sight.size)
 
@@ -223,15 +223,15 @@ pub sight-open : (bytes : List ℕ) (header : Header) → image_refusal bytes �
 unfolding sight_by
 sight-open bytes header sound is = ap (λ (why : Option Unsound). sight_by why (header_of bytes)) sound ∙ ap (sight_by None) is
 
-told-open : (t : Table) (node filename : List ℕ) (image : AddQcow2 (List ℕ)) (bytes : List ℕ) (header : Header) (size : ℕ) → size ≡ length bytes
+told-open : (t : RunTable) (node filename : List ℕ) (image : AddQcow2 (List ℕ)) (bytes : List ℕ) (header : Header) (size : ℕ) → size ≡ length bytes
     → file_stop filename (length bytes) ≡ None → header_of bytes ≡ header → image_sight (Bytes bytes) ≡ opened_sight header
-    → told_as (Some (length bytes)) (Some (header_of bytes).size) (first_stop (file_stop filename (length bytes)) (image_stop t node image (image_sight (Bytes bytes))))
-    ≡ told_as (Some size) (Some header.size) (image_stop t node image (opened_sight header))
+    → told_record (Some (length bytes)) (Some (header_of bytes).size) (first_stop (file_stop filename (length bytes)) (unfit_image t node image (image_sight (Bytes bytes))))
+    ≡ told_record (Some size) (Some header.size) (unfit_image t node image (opened_sight header))
 told-open t node filename image bytes header size long fits is sight =
-    ap (λ (f : Option Stopped). told_as (Some (length bytes)) (Some (header_of bytes).size) (first_stop f (image_stop t node image (image_sight (Bytes bytes))))) fits
-    ∙ ap (λ (s : ImageSight). told_as (Some (length bytes)) (Some (header_of bytes).size) (image_stop t node image s)) sight
-    ∙ ap (λ (h : Header). told_as (Some (length bytes)) (Some h.size) (image_stop t node image (opened_sight header))) is
-    ∙ ap (λ (n : ℕ). told_as (Some n) (Some header.size) (image_stop t node image (opened_sight header))) (sym long)
+    ap (λ (f : Option Stopped). told_record (Some (length bytes)) (Some (header_of bytes).size) (first_stop f (unfit_image t node image (image_sight (Bytes bytes))))) fits
+    ∙ ap (λ (s : ImageSight). told_record (Some (length bytes)) (Some (header_of bytes).size) (unfit_image t node image s)) sight
+    ∙ ap (λ (h : Header). told_record (Some (length bytes)) (Some h.size) (unfit_image t node image (opened_sight header))) is
+    ∙ ap (λ (n : ℕ). told_record (Some n) (Some header.size) (unfit_image t node image (opened_sight header))) (sym long)
 
 -- ---- looks
 
@@ -258,7 +258,7 @@ module _ (opening : List ℕ → Option (List ℕ)) (s : State) (held : Contents
       (there-part at.filename raw (length bytes))
   expects-there bytes known free (AsImage image file e f name what) =
       subst (λ (t : Told). AreThere t.stopped) (sym (expects-image s c at.filename bytes free known image file e f name))
-      (there-first (file_stop at.filename (length bytes)) (image_stop s.table c.node_name image (image_sight (Bytes bytes)))
+      (there-first (file_stop at.filename (length bytes)) (unfit_image s.table c.node_name image (image_sight (Bytes bytes)))
       (there-file at.filename (length bytes)) (there-inside s.table c.node_name image (image_sight (Bytes bytes))))
 
   -- which stands at that look or behind it
@@ -272,7 +272,7 @@ module _ (opening : List ℕ → Option (List ℕ)) (s : State) (held : Contents
   expects-from bytes known free (AsImage image file e f name what) =
       subst (λ (l : Look). IsFrom (order_of l) (expects s c).stopped) (sym what)
       (subst (λ (t : Told). IsFrom 2 t.stopped) (sym (expects-image s c at.filename bytes free known image file e f name))
-      (from-first (file_stop at.filename (length bytes)) (image_stop s.table c.node_name image (image_sight (Bytes bytes)))
+      (from-first (file_stop at.filename (length bytes)) (unfit_image s.table c.node_name image (image_sight (Bytes bytes)))
       (from-file at.filename (length bytes)) (behind-inside s.table c.node_name image (image_sight (Bytes bytes)))))
 
   in-vain : (told : Told) → is_unopened s.table at.filename ≡ false → LooksInVain at old new told → IsSeenAs s c told
@@ -283,8 +283,8 @@ module _ (opening : List ℕ → Option (List ℕ)) (s : State) (held : Contents
           let lacks : file_at at.filename files ≡ None = rw told-files at absent.lacks in
           let none : held.held at.filename ≡ None = own free ∙ ap (option_map (λ (f : File). f.bytes)) lacks in
           let known : content_in s.files at.filename ≡ None = known-absent opening s held agrees stands at.filename free none in
-          let is : told ≡ told_as None None (Some (record { look = look.File; refusal = refusal.File at.filename Absent })) =
-          looks.is ∙ ap (λ (r : Refusal). told_as None None (Some (record { look = look_in_vain at.what r; refusal = r }))) absent.is in
+          let is : told ≡ told_record None None (Some (record { look = look.File; refusal = refusal.File at.filename Absent })) =
+          looks.is ∙ ap (λ (r : Refusal). told_record None None (Some (record { look = look_in_vain at.what r; refusal = r }))) absent.is in
           seen-whole s c told (expects-absent s c at opener free known ∙ sym is)
       by_cause (inr failed) =
           let there : HasFile at.filename (λ _. Unit {0}) files = rw told-files at failed.there in
@@ -309,8 +309,8 @@ module _ (opening : List ℕ → Option (List ℕ)) (s : State) (held : Contents
 
     module _ (image : AddQcow2 (List ℕ)) (file : InlineFile (List ℕ)) (e : c.driver ≡ added.Qcow2 image) (f : image.file ≡ file_ref.Inline file)
         (name : file.filename ≡ at.filename) where
-      expected : expects s c ≡ told_as (Some (length holds.bytes)) (Some (header_of holds.bytes).size)
-          (first_stop (file_stop at.filename (length holds.bytes)) (image_stop s.table c.node_name image (image_sight (Bytes holds.bytes))))
+      expected : expects s c ≡ told_record (Some (length holds.bytes)) (Some (header_of holds.bytes).size)
+          (first_stop (file_stop at.filename (length holds.bytes)) (unfit_image s.table c.node_name image (image_sight (Bytes holds.bytes))))
       expected = expects-image s c at.filename holds.bytes free known image file e f name
 
       inside-image : (now : Taken) (open_image : Known) (told : Told) → TellsAddedImage s.table c.node_name at.filename image first now open_image told
@@ -343,7 +343,7 @@ module _ (opening : List ℕ → Option (List ℕ)) (s : State) (held : Contents
           fits : file_stop at.filename (length holds.bytes) ≡ None
           fits = rw (sym holds.size) tells.fits
 
-          expects-stops : (expects s c).stopped ≡ image_stop s.table c.node_name image (image_sight (Bytes holds.bytes))
+          expects-stops : (expects s c).stopped ≡ unfit_image s.table c.node_name image (image_sight (Bytes holds.bytes))
           expects-stops = ap (λ (t : Told). t.stopped) expected ∙ rw fits refl
 
           has : has_look look.Image (add_asks c) ≡ true
@@ -357,7 +357,7 @@ module _ (opening : List ℕ → Option (List ℕ)) (s : State) (held : Contents
                 call = rw (e, f, name, free) refl;
                 failure = rw why tt;
                 reached = subst (IsReached (command.BlockdevAdd c) look.Image) (sym expects-stops)
-                    (reach-image c (image_stop s.table c.node_name image (image_sight (Bytes holds.bytes)))
+                    (reach-image c (unfit_image s.table c.node_name image (image_sight (Bytes holds.bytes)))
                     (there-inside s.table c.node_name image (image_sight (Bytes holds.bytes))) (behind-inside s.table c.node_name image (image_sight (Bytes holds.bytes))));
               }))
           by_io (inr other) =
@@ -392,7 +392,7 @@ module _ (opening : List ℕ → Option (List ℕ)) (s : State) (held : Contents
   pub seen-looks : (out : Option Taken) (image : Option Known) (told : Told) → Looks s.table c at old new out image told → IsSeenAs s c told
   seen-looks out image told (inl looks) = by_away looks.0.away
     where
-      by_away : (rules.refusal_of s.table (probe at.what) (command.BlockdevAdd c) ≢ Some refusal.Aborted) ⊎ (is_unopened s.table at.filename ≡ true) → IsSeenAs s c told
+      by_away : (rules.refusal_to s.table (probe at.what) (command.BlockdevAdd c) ≢ Some refusal.Aborted) ⊎ (is_unopened s.table at.filename ≡ true) → IsSeenAs s c told
       by_away (inl not) = seen-unreached s c told at.what (looks-as c at opener) (has-at c at opener) not
       by_away (inr closed) = seen-whole s c told (expects-closed s c at opener closed ∙ sym looks.0.is)
   seen-looks None image told (inr looks) = in-vain told looks.1 looks.0

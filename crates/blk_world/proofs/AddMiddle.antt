@@ -7,8 +7,8 @@ use Rattle.blk_base.specs.declared.file.Opened.{Opened}
 use Rattle.blk_graph.specs.declared.edge.Edge.{Edge}
 use Rattle.blk_graph.specs.declared.edge.Parent.TheVariants.{Guest}
 use Rattle.blk_history.specs.Fold.{With}
-use Rattle.blk_nodes.specs.Nodes.{DeviceState, Nodes}
-use Rattle.qmp_rules.specs.Table.{Table, device_at, node_at}
+use Rattle.blk_nodes.specs.Nodes.{DeviceSeen, Nodes}
+use Rattle.qmp_rules.specs.Table.{RunTable, device_by_number, node_by_id}
 use Rattle.qmp_rules.specs.declared.rows.Device.{Device}
 use Rattle.qmp_rules.specs.declared.rows.NodeRecord.{NodeRecord}
 use Rattle.flat_machine.specs.Legal.{IsForbidden}
@@ -22,7 +22,7 @@ use Rattle.blk_world.proofs.AddGrown.{Grows, device-same, disks-grown, drive-oth
 use Rattle.world_commands.proofs.AddOut.{all-out, each-out, get-cases, once-out, order-out}
 use Rattle.world_parts.proofs.DeletedLists.{out_there}
 
-pub record Middle (t : Table) (nodes : Nodes) (opened : List Opened) (p : Progress) : Type 0 where
+pub record Middle (t : RunTable) (nodes : Nodes) (opened : List Opened) (p : Progress) : Type 0 where
   pub drives : HaveDrives t
   pub disks : AreOnDisks t
   pub alike : AreNodesOf t nodes
@@ -34,7 +34,7 @@ pub record Middle (t : Table) (nodes : Nodes) (opened : List Opened) (p : Progre
   pub jobs : t.jobs ≡ []
   pub out : AreOut t nodes opened
 
-pub middle-of : (t : Table) (nodes : Nodes) (opened : List Opened) (p : Progress) → IsCoherent t nodes opened p → Middle t nodes opened p
+pub middle-of : (t : RunTable) (nodes : Nodes) (opened : List Opened) (p : Progress) → IsCoherent t nodes opened p → Middle t nodes opened p
 middle-of t nodes opened p is = record {
   drives = is.drives;
   disks = is.disks;
@@ -48,7 +48,7 @@ middle-of t nodes opened p is = record {
   out = is.out;
 }
 
-pub coherent-of : (t : Table) (nodes : Nodes) (opened : List Opened) (p : Progress) → TableAtRest t → Middle t nodes opened p → IsCoherent t nodes opened p
+pub coherent-of : (t : RunTable) (nodes : Nodes) (opened : List Opened) (p : Progress) → TableAtRest t → Middle t nodes opened p → IsCoherent t nodes opened p
 coherent-of t nodes opened p rest is = record {
   table = rest;
   drives = is.drives;
@@ -65,20 +65,20 @@ coherent-of t nodes opened p rest is = record {
 
 -- ---- a table that has grown by one node
 
-pub record HasMore (t t' : Table) (change : NodeRecord → NodeRecord) : Type 0 where
+pub record HasMore (t t' : RunTable) (change : NodeRecord → NodeRecord) : Type 0 where
   pub access : (row : NodeRecord) → (change row).read_only ≡ row.read_only
   pub guests : t'.guests ≡ t.guests
   pub jobs : t'.jobs ≡ t.jobs
   pub edges : (edge : Edge) (g : ℕ) → Contains t'.edges edge → edge.parent ≡ Guest g → Contains t.edges edge
 
-module _ (t t' : Table) (new but : ℕ) (change : NodeRecord → NodeRecord) (grows : Grows t t' new but change) (more : HasMore t t' change)
+module _ (t t' : RunTable) (new but : ℕ) (change : NodeRecord → NodeRecord) (grows : Grows t t' new but change) (more : HasMore t t' change)
     (nodes now : Nodes) (opened opened' : List Opened) (p : Progress) (was : Middle t nodes opened p) (alike : AreNodesOf t' now) (out : AreOut t' now opened') where
   still-writable : AreOnWritable t'
   still-writable g node device there writes on =
       let on_t : drive_of t g ≡ Some node = sym (drive-same t t' new but change grows g) ∙ on in
-      let there_t : device_at t g ≡ Some device = sym (device-same t t' new but change grows g) ∙ there in
+      let there_t : device_by_number t g ≡ Some device = sym (device-same t t' new but change grows g) ∙ there in
       let other : node ≢ new = drive-other t t' new but change grows g node on_t in
-      rw (grows.rows node other) (by_row (node_at t node) (was.writable g node device there_t writes on_t))
+      rw (grows.rows node other) (by_row (node_by_id t node) (was.writable g node device there_t writes on_t))
     where
       by_row : (found : Option NodeRecord) → With found (λ row. row.read_only ≡ false) → With (option_map change found) (λ row. row.read_only ≡ false)
       by_row None is = absurd is
@@ -118,10 +118,10 @@ names-more opened new names inside a b o p at_a at_b out_o out_p same = by_place
     by_places (inr one) (inr other) = one.0 ∙ sym other.0
 
 -- devices that stay are out under the same names
-pub out-over : (t t' : Table) (nodes now : Nodes) (opened : List Opened) → now.devices ≡ nodes.devices
-    → ((held : DeviceState) → Contains nodes.devices held → filename_of t' held.node ≡ filename_of t held.node) → AreOut t nodes opened → AreOut t' now opened
+pub out-over : (t t' : RunTable) (nodes now : Nodes) (opened : List Opened) → now.devices ≡ nodes.devices
+    → ((held : DeviceSeen) → Contains nodes.devices held → filename_of t' held.node ≡ filename_of t held.node) → AreOut t nodes opened → AreOut t' now opened
 out-over t t' nodes now opened same named was =
-    subst (λ (devices : List DeviceState). AreOut t' (record now { devices = devices }) opened) (sym same)
+    subst (λ (devices : List DeviceSeen). AreOut t' (record now { devices = devices }) opened) (sym same)
     (record {
       each = λ held there.
           let is = was.each held there in
@@ -133,12 +133,12 @@ out-over t t' nodes now opened same named was =
     })
 
 -- one more device is out
-pub out-more : (t t' : Table) (nodes now : Nodes) (opened : List Opened) (id : ℕ) (filename : List ℕ) (device : Taken) (out : AreOut t nodes opened)
+pub out-more : (t t' : RunTable) (nodes now : Nodes) (opened : List Opened) (id : ℕ) (filename : List ℕ) (device : Taken) (out : AreOut t nodes opened)
     → device.number ≡ record { 0 = length opened }
-    → ((held : DeviceState) → Contains nodes.devices held → filename_of t' held.node ≡ filename_of t held.node) → filename_of t' id ≡ Some filename
+    → ((held : DeviceSeen) → Contains nodes.devices held → filename_of t' held.node ≡ filename_of t held.node) → filename_of t' id ≡ Some filename
     → is_out filename opened ≡ false → now.devices ≡ nodes.devices ++ of_node id device ∷ [] → AreOut t' now (opened ++ opening_of filename device ∷ [])
 out-more t t' nodes now opened id filename device out number named own inside devices =
-    subst (λ (l : List DeviceState). AreOut t' (record now { devices = l }) (opened ++ opening_of filename device ∷ [])) (sym devices)
+    subst (λ (l : List DeviceSeen). AreOut t' (record now { devices = l }) (opened ++ opening_of filename device ∷ [])) (sym devices)
     (record {
       each = each-out t t' nodes opened out id filename device number named own;
       once = once-out t t' nodes opened out id filename device number named own;

@@ -10,7 +10,7 @@ use Rattle.qmp_codec.specs.declared.nodes.Added.{Added}
 use Rattle.qmp_codec.specs.declared.nodes.Added.TheVariants as added
 use Rattle.qmp_codec.specs.declared.nodes.FileRef.{FileRef}
 use Rattle.qmp_codec.specs.declared.nodes.FileRef.TheVariants as file_ref
-use Rattle.qmp_rules.specs.Table.{Table}
+use Rattle.qmp_rules.specs.Table.{RunTable}
 use Rattle.qmp_asks.specs.declared.look.Look.TheVariants as look
 use Rattle.qmp_rules.specs.declared.told.Told.{Told}
 use Rattle.world_parts.specs.Adding.{Adding, Opens, Taken, opening_of, opens, opens_by}
@@ -23,7 +23,7 @@ use Rattle.world_commands.proofs.AddRuns.{back-is, closed-opening}
 
 -- ---- where a device is out, a file was opened
 
-module _ (t : Table) (c : Adding) (old now : Site) (out : Option Taken) (image : Option Known) (told : Told) (device : Taken) (is : out ≡ Some device) where
+module _ (t : RunTable) (c : Adding) (old now : Site) (out : Option Taken) (image : Option Known) (told : Told) (device : Taken) (is : out ≡ Some device) where
   abbrev Opening : Added (List ℕ) → Type 0
   Opening driver = (at : Opens) × (opens driver ≡ Some at)
 
@@ -64,7 +64,7 @@ one-opened driver at is old new last =
 
 -- ---- refused or carried out
 
-module _ (t : Table) (c : Adding) (old now : Site) (out : Option Taken) (image : Option Known) (told : Told) (looked : HasLooked t c old now out image told) where
+module _ (t : RunTable) (c : Adding) (old now : Site) (out : Option Taken) (image : Option Known) (told : Told) (looked : HasLooked t c old now out image told) where
   opened-so : (device : Taken) → out ≡ Some device → (new : List Opened) (opening : Opened) → opening.name ≡ opened_name c.driver
       → new ≡ old.store.opened ++ opening ∷ [] → OpensFor (command.BlockdevAdd c) old.store.opened new
   opened-so device is new opening name last =

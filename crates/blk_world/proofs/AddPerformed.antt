@@ -8,12 +8,12 @@ use Rattle.q2_format.specs.Contents.{file_disk, raw_disk, image_disk}
 use Rattle.blk_graph.specs.Graph.{HasNode}
 use Rattle.blk_graph.specs.declared.kind.Kind.{Kind}
 use Rattle.blk_graph.specs.declared.kind.Kind.TheVariants.{Raw, Qcow2}
-use Rattle.blk_nodes.specs.Contents.{below, bytes_by, bytes_of, disk_in, disk_of, told}
+use Rattle.blk_nodes.specs.Contents.{disk_under, bytes_by, bytes_of, disk_down, disk_of, told}
 use Rattle.blk_nodes.specs.Joined.{IsJoined}
-use Rattle.blk_nodes.specs.Nodes.{DeviceState, Nodes, device_in, row_at}
+use Rattle.blk_nodes.specs.Nodes.{DeviceSeen, Nodes, device_in, row_at}
 use Rattle.blk_nodes.specs.declared.row.Row.{Row}
 use Rattle.qmp_rules.specs.Asks.{stands_for}
-use Rattle.qmp_rules.specs.Table.{Table, node_at}
+use Rattle.qmp_rules.specs.Table.{RunTable, node_by_id}
 use Rattle.qmp_rules.specs.declared.change.Change.TheVariants.{AddFile, AddFilter, AddFormat}
 use Rattle.qmp_rules.specs.declared.rows.NodeRecord.{NodeRecord}
 use Rattle.flat_machine.specs.Changed.{filename_or}
@@ -22,12 +22,12 @@ use Rattle.flat_machine.specs.State.{State, filename_of}
 use Rattle.flat_machine.proofs.Finds.{same-bytes_eq}
 use Rattle.flat_machine.proofs.Fresh.{found-longer, found-new}
 use Rattle.world_parts.specs.Adding.{Taken, of_node}
-use Rattle.world_parts.specs.Face.{Face, contents_of, held, held_by, node_over, told_bytes}
+use Rattle.world_parts.specs.Face.{WorldSeen, contents_of, held, held_in_file, node_over, told_bytes}
 
 -- ---- nodes
 
-no-disk : (turns : ℕ) (nodes : Nodes) (node : ℕ) → row_at nodes node ≡ None → disk_in (suc turns) nodes node ≡ []
-no-disk turns nodes node none = rw (none, disk_in) refl
+no-disk : (turns : ℕ) (nodes : Nodes) (node : ℕ) → row_at nodes node ≡ None → disk_down (suc turns) nodes node ≡ []
+no-disk turns nodes node none = rw (none, disk_down) refl
 
 pub disk-none : (nodes : Nodes) (node : ℕ) → row_at nodes node ≡ None → disk_of nodes node ≡ []
 unfolding disk_of
@@ -48,7 +48,7 @@ reads-same nodes after id row joined rows disks node other = by_row (row_at node
 
 -- ---- files
 
-device-behind : (devices : List DeviceState) (new : DeviceState) (node : ℕ) → node ≢ new.node
+device-behind : (devices : List DeviceSeen) (new : DeviceSeen) (node : ℕ) → node ≢ new.node
     → device_in (devices ++ new ∷ []) node ≡ device_in devices node
 device-behind [] new node other = rw (ne_eqb new.node node (λ same. other (sym same))) refl
 device-behind (d ∷ devices) new node other = by_test (d.node == node) (device-behind devices new node other)
@@ -81,9 +81,9 @@ has-id p (x ∷ rows) row id found none =
 
 -- ---- a `file` node
 
-module _ (w v : Face) (joined : IsJoined w.nodes) (record' : NodeRecord) (row : Row) (filename : List ℕ) (device : Taken)
+module _ (w v : WorldSeen) (joined : IsJoined w.nodes) (record' : NodeRecord) (row : Row) (filename : List ℕ) (device : Taken)
     (rows : v.table.nodes ≡ w.table.nodes ++ record' ∷ []) (named : record'.filename ≡ Some filename)
-    (fresh : node_at w.table record'.id ≡ None) (absent : row_at w.nodes record'.id ≡ None)
+    (fresh : node_by_id w.table record'.id ≡ None) (absent : row_at w.nodes record'.id ≡ None)
     (closed : find (stands_for filename) w.table.nodes ≡ None)
     (after : v.nodes.rows ≡ set w.nodes.rows record'.id (Some row))
     (devices : v.nodes.devices ≡ w.nodes.devices ++ of_node record'.id device ∷ []) (files : v.files ≡ w.files)
@@ -91,7 +91,7 @@ module _ (w v : Face) (joined : IsJoined w.nodes) (record' : NodeRecord) (row : 
   no_device : device_in w.nodes.devices record'.id ≡ None
   no_device = by_found (device_in w.nodes.devices record'.id) refl
     where
-      by_found : (found : Option DeviceState) → device_in w.nodes.devices record'.id ≡ found → found ≡ None
+      by_found : (found : Option DeviceSeen) → device_in w.nodes.devices record'.id ≡ found → found ≡ None
       by_found None e = refl
       by_found (Some d) e =
           let is_file = joined.devices record'.id (subst IsSome (sym e) refl) in
@@ -100,10 +100,10 @@ module _ (w v : Face) (joined : IsJoined w.nodes) (record' : NodeRecord) (row : 
 
   own_device : device_in v.nodes.devices record'.id ≡ Some (of_node record'.id device)
   own_device =
-      ap (λ (l : List DeviceState). device_in l record'.id) devices
+      ap (λ (l : List DeviceSeen). device_in l record'.id) devices
       ∙ device-new w.nodes.devices no_device
     where
-      device-new : (l : List DeviceState) → device_in l record'.id ≡ None
+      device-new : (l : List DeviceSeen) → device_in l record'.id ≡ None
           → device_in (l ++ of_node record'.id device ∷ []) record'.id ≡ Some (of_node record'.id device)
       device-new [] none = rw (eq-eqb record'.id record'.id refl) refl
       device-new (d ∷ l) none = by_test (d.node == record'.id) none (device-new l)
@@ -138,15 +138,15 @@ module _ (w v : Face) (joined : IsJoined w.nodes) (record' : NodeRecord) (row : 
   pub held-filed : (name : List ℕ) → held v name ≡ held w name
   held-filed name = by_over (find (stands_for name) w.table.nodes) refl
     where
-      over_is : (face : Face) (found : Option NodeRecord) → find (stands_for name) face.table.nodes ≡ found
-          → held face name ≡ held_by face name (option_map (λ row. row.id) found)
-      over_is face found e = ap (λ (f : Option NodeRecord). held_by face name (option_map (λ (r : NodeRecord). r.id) f)) e
+      over_is : (face : WorldSeen) (found : Option NodeRecord) → find (stands_for name) face.table.nodes ≡ found
+          → held face name ≡ held_in_file face name (option_map (λ row. row.id) found)
+      over_is face found e = ap (λ (f : Option NodeRecord). held_in_file face name (option_map (λ (r : NodeRecord). r.id) f)) e
 
       by_stands : (b : Bool) → stands_for name record' ≡ b → find (stands_for name) w.table.nodes ≡ None → held v name ≡ held w name
       by_stands true is none =
           let same : filename ≡ name = same-bytes_eq filename name (rw named at is) in
           over_is v (Some record') (over-new name none is)
-          ∙ ap (option_and_then (λ (d : DeviceState). d.content)) own_device ∙ content ∙ ap (told_bytes w.files) same
+          ∙ ap (option_and_then (λ (d : DeviceSeen). d.content)) own_device ∙ content ∙ ap (told_bytes w.files) same
           ∙ sym (over_is w None none)
       by_stands false not none =
           over_is v None (over-none name none not) ∙ ap (λ (f : Option (List File)). told_bytes f name) files ∙ sym (over_is w None none)
@@ -156,12 +156,12 @@ module _ (w v : Face) (joined : IsJoined w.nodes) (record' : NodeRecord) (row : 
       by_over (Some found) e =
           let other : found.id ≢ record'.id = has-id (stands_for name) w.table.nodes found record'.id e fresh in
           over_is v (Some found) (over-found name found e)
-          ∙ ap (option_and_then (λ (d : DeviceState). d.content))
-          (ap (λ (l : List DeviceState). device_in l found.id) devices ∙ device-behind w.nodes.devices (of_node record'.id device) found.id other)
+          ∙ ap (option_and_then (λ (d : DeviceSeen). d.content))
+          (ap (λ (l : List DeviceSeen). device_in l found.id) devices ∙ device-behind w.nodes.devices (of_node record'.id device) found.id other)
           ∙ sym (over_is w (Some found) e)
 
   held-own : held w filename ≡ told_bytes w.files filename
-  held-own = ap (λ (f : Option NodeRecord). held_by w filename (option_map (λ (r : NodeRecord). r.id) f)) closed
+  held-own = ap (λ (f : Option NodeRecord). held_in_file w filename (option_map (λ (r : NodeRecord). r.id) f)) closed
 
   pub performed-file : (s : State) → record'.size ≡ row.size
       → ((other : ℕ) → HasNode w.nodes.graph other → disk_of v.nodes other ≡ disk_of w.nodes other)
@@ -182,16 +182,16 @@ module _ (w v : Face) (joined : IsJoined w.nodes) (record' : NodeRecord) (row : 
 
 -- ---- a node over others
 
-module _ (w v : Face) (joined : IsJoined w.nodes) (record' : NodeRecord) (row : Row)
+module _ (w v : WorldSeen) (joined : IsJoined w.nodes) (record' : NodeRecord) (row : Row)
     (over : (name : List ℕ) → node_over v.table name ≡ node_over w.table name)
     (after : v.nodes.rows ≡ set w.nodes.rows record'.id (Some row)) (devices : v.nodes.devices ≡ w.nodes.devices) (files : v.files ≡ w.files)
     (disks : (other : ℕ) → HasNode w.nodes.graph other → disk_of v.nodes other ≡ disk_of w.nodes other) where
   held-over : (name : List ℕ) → held v name ≡ held w name
-  held-over name = ap (held_by v name) (over name) ∙ by_node (node_over w.table name)
+  held-over name = ap (held_in_file v name) (over name) ∙ by_node (node_over w.table name)
     where
-      by_node : (found : Option ℕ) → held_by v name found ≡ held_by w name found
+      by_node : (found : Option ℕ) → held_in_file v name found ≡ held_in_file w name found
       by_node None = ap (λ (f : Option (List File)). told_bytes f name) files
-      by_node (Some node) = ap (λ (l : List DeviceState). option_and_then (λ (d : DeviceState). d.content) (device_in l node)) devices
+      by_node (Some node) = ap (λ (l : List DeviceSeen). option_and_then (λ (d : DeviceSeen). d.content) (device_in l node)) devices
 
   puts : (bytes : List ℕ) → disk_of v.nodes record'.id ≡ bytes → Puts record'.id bytes (contents_of w) (contents_of v)
   puts bytes disk = record {
@@ -213,20 +213,20 @@ module _ (w v : Face) (joined : IsJoined w.nodes) (record' : NodeRecord) (row : 
 
   pub performed-image : (s : State) (file : ℕ) (backing : Option ℕ) (filename : List ℕ) → record'.kind ≡ Qcow2
       → s.table ≡ w.table → filename_of w.table file ≡ Some filename → node_over w.table filename ≡ Some file
-      → disk_of v.nodes record'.id ≡ image_disk (bytes_of w.nodes file) (below (disk_of w.nodes) backing)
+      → disk_of v.nodes record'.id ≡ image_disk (bytes_of w.nodes file) (disk_under (disk_of w.nodes) backing)
       → Performed s (AddFormat record' file backing) (contents_of w) (contents_of v)
   performed-image s file backing filename kind table named alone disk =
       let bytes : held_bytes (contents_of w) (unwrap_or (filename_of s.table file) []) ≡ bytes_of w.nodes file =
-      ap (λ (t : Table). held_bytes (contents_of w) (unwrap_or (filename_of t file) [])) table
+      ap (λ (t : RunTable). held_bytes (contents_of w) (unwrap_or (filename_of t file) [])) table
       ∙ ap (λ (f : Option (List ℕ)). held_bytes (contents_of w) (unwrap_or f [])) named
-      ∙ ap (λ (f : Option ℕ). unwrap_or (held_by w filename f) []) alone ∙ content-is (device_in w.nodes.devices file) in
-      let reads : backing_reads (contents_of w) backing ≡ below (disk_of w.nodes) backing = backing-is backing in
+      ∙ ap (λ (f : Option ℕ). unwrap_or (held_in_file w filename f) []) alone ∙ content-is (device_in w.nodes.devices file) in
+      let reads : backing_reads (contents_of w) backing ≡ disk_under (disk_of w.nodes) backing = backing-is backing in
       subst (λ (k : Kind). Puts record'.id (format_as s (contents_of w) record' file backing k) (contents_of w) (contents_of v)) (sym kind)
       (puts (image_disk (held_bytes (contents_of w) (unwrap_or (filename_of s.table file) [])) (backing_reads (contents_of w) backing))
-      (disk ∙ ap (λ (b : List ℕ). image_disk b (below (disk_of w.nodes) backing)) (sym bytes)
+      (disk ∙ ap (λ (b : List ℕ). image_disk b (disk_under (disk_of w.nodes) backing)) (sym bytes)
       ∙ ap (image_disk (held_bytes (contents_of w) (unwrap_or (filename_of s.table file) []))) (sym reads)))
     where
-      content-is : (found : Option DeviceState) → unwrap_or (option_and_then (λ (d : DeviceState). d.content) found) [] ≡ bytes_by found
+      content-is : (found : Option DeviceSeen) → unwrap_or (option_and_then (λ (d : DeviceSeen). d.content) found) [] ≡ bytes_by found
       content-is None = refl
       content-is (Some d) = by_content d.content
         where
@@ -234,6 +234,6 @@ module _ (w v : Face) (joined : IsJoined w.nodes) (record' : NodeRecord) (row : 
           by_content None = refl
           by_content (Some b) = refl
 
-      backing-is : (found : Option ℕ) → backing_reads (contents_of w) found ≡ below (disk_of w.nodes) found
+      backing-is : (found : Option ℕ) → backing_reads (contents_of w) found ≡ disk_under (disk_of w.nodes) found
       backing-is None = refl
       backing-is (Some node) = refl

@@ -5,12 +5,12 @@ use Rattle.blk_base.specs.declared.fault.FaultAt.{FaultAt}
 use Rattle.blk_base.specs.declared.file.File.{File}
 use Rattle.blk_base.specs.declared.file.Opened.{Opened}
 use Rattle.qmp_codec.specs.declared.nodes.Added.{Added}
-use Rattle.qmp_rules.specs.Table.{Table}
+use Rattle.qmp_rules.specs.Table.{RunTable}
 use Rattle.world_parts.specs.Adding.{Adding, IsBackIfOut, Opens, Taken, opens}
 use Rattle.world_commands.specs.Carrying.{IsPutBack}
 use Rattle.world_parts.specs.Coherent.{DevicesTell, IsCoherent}
 use Rattle.world_commands.specs.Counting.{HidesNoFault, LeavesNoneOut, RunsOn}
-use Rattle.world_parts.specs.Face.{Face}
+use Rattle.world_parts.specs.Face.{WorldSeen}
 use Rattle.world_parts.specs.Looking.{HasCalled, IsLookedBack, Site, StoreIsBack, site}
 use Rattle.world_parts.specs.Staging.{IsNotAdded, back_if, opened_name, site_of, store_of}
 use Rattle.world_parts.specs.Stores.{StoreInRun}
@@ -35,11 +35,11 @@ pub record IsOverAgain (old new : StoreInRun) : Type 0 where
   pub back : opening.returned ≡ Some count
   pub is : new ≡ record old { opened = old.opened ++ opening ∷ [] }
 
-pub record IsPutSo (w : Face) (x : Site) : Type 0 where
+pub record IsPutSo (w : WorldSeen) (x : Site) : Type 0 where
   pub store : IsCounted (store_of w) x.store ⊎ IsOverAgain (store_of w) x.store
   pub called : HasCalled w.nodes x.nodes
 
-module _ (w : Face) (coherent : IsCoherent w.table w.nodes w.opened w.progress) (tell : DevicesTell w.files w.nodes.devices) (x : Site) where
+module _ (w : WorldSeen) (coherent : IsCoherent w.table w.nodes w.opened w.progress) (tell : DevicesTell w.files w.nodes.devices) (x : Site) where
   -- ---- what it leaves
 
   module _ (put : IsPutSo w x) where
@@ -69,7 +69,7 @@ module _ (w : Face) (coherent : IsCoherent w.table w.nodes w.opened w.progress) 
             (coherent-put w.table x.nodes x.nodes w.opened (w.opened ++ over.opening ∷ []) w.progress still still.alike
             (out-closed w.table x.nodes w.opened over.opening over.count over.back still.out))
 
-    pub put-runs : (u : Table) → RunsOn w (sited w x u)
+    pub put-runs : (u : RunTable) → RunsOn w (sited w x u)
     put-runs u = by_store put.store
       where
         by_store : IsCounted (store_of w) x.store ⊎ IsOverAgain (store_of w) x.store → RunsOn w (sited w x u)
@@ -91,7 +91,7 @@ module _ (w : Face) (coherent : IsCoherent w.table w.nodes w.opened w.progress) 
         by_store (inr over) =
             inr (record { opening = over.opening; is = ap (λ (s : StoreInRun). s.opened) over.is; back = ap (λ (r : Option ℕ). is_some r) over.back })
 
-    pub put-back : (u : Table) → u ≡ w.table → (fault : Option FaultAt) → HidesNoFault w (sited w x u) fault → IsPutBack w (sited w x u)
+    pub put-back : (u : RunTable) → u ≡ w.table → (fault : Option FaultAt) → HidesNoFault w (sited w x u) fault → IsPutBack w (sited w x u)
     put-back u table fault hides = record {
       table = table;
       progress = refl;
@@ -103,11 +103,11 @@ module _ (w : Face) (coherent : IsCoherent w.table w.nodes w.opened w.progress) 
       opens = none-out;
       fault = fault;
       hides = hides;
-      coherent = λ was. subst (λ (t : Table). IsCoherent t x.nodes x.store.opened w.progress) (sym table) put-both.0;
+      coherent = λ was. subst (λ (t : RunTable). IsCoherent t x.nodes x.store.opened w.progress) (sym table) put-both.0;
     }
 
     -- its fault is that one
-    pub put-fault : (u : Table) (table : u ≡ w.table) (fault : Option FaultAt) (hides : HidesNoFault w (sited w x u) fault)
+    pub put-fault : (u : RunTable) (table : u ≡ w.table) (fault : Option FaultAt) (hides : HidesNoFault w (sited w x u) fault)
         → (put-back u table fault hides).fault ≡ fault
     unfolding put-back
     put-fault u table fault hides = refl

@@ -2,17 +2,17 @@
 use Rattle.std.proofs.Common.{◌≡◌, ℕ, ◌==◌, Bool, true, false, cond, List, [], ◌∷◌, ◌++◌, inl, inr, refl, sym, ◌∙◌, ap, subst, Option, Some, None}
 use Rattle.std.specs.Prelude.{find, if◌then◌else◌, option_and_then, option_map}
 use Rattle.blk_base.specs.declared.file.File.{File}
-use Rattle.blk_nodes.specs.Nodes.{DeviceState, device_in}
+use Rattle.blk_nodes.specs.Nodes.{DeviceSeen, device_in}
 use Rattle.blk_nodes.specs.Reading.{HaveRisen}
 use Rattle.qmp_codec.specs.declared.nodes.Added.{Added}
 use Rattle.qmp_rules.specs.Asks.{stands_for}
 use Rattle.qmp_rules.specs.Changes.{node_changed, unsettled, with_unsettled}
-use Rattle.qmp_rules.specs.Table.{Table}
+use Rattle.qmp_rules.specs.Table.{RunTable}
 use Rattle.qmp_rules.specs.declared.rows.NodeRecord.{NodeRecord}
 use Rattle.flat_machine.specs.Performing.{IsQuiet}
 use Rattle.flat_machine.proofs.Finds.{find-map}
 use Rattle.world_parts.specs.Adding.{Taken}
-use Rattle.world_parts.specs.Face.{Face, contents_of, held_by, node_over, told_bytes}
+use Rattle.world_parts.specs.Face.{WorldSeen, contents_of, held_in_file, node_over, told_bytes}
 use Rattle.world_parts.specs.Looking.{HasCalled, Site, site}
 use Rattle.world_parts.specs.Staging.{back_if, opened_name, site_of, store_of}
 use Rattle.world_parts.specs.Stores.{StoreInRun}
@@ -22,38 +22,38 @@ use Rattle.world_commands.proofs.AddRuns.{back-is}
 
 -- ---- devices of which counts have risen
 
-content-risen : (old new : List DeviceState) → HaveRisen old new → (node : ℕ)
-    → option_and_then (λ (d : DeviceState). d.content) (device_in new node) ≡ option_and_then (λ (d : DeviceState). d.content) (device_in old node)
+content-risen : (old new : List DeviceSeen) → HaveRisen old new → (node : ℕ)
+    → option_and_then (λ (d : DeviceSeen). d.content) (device_in new node) ≡ option_and_then (λ (d : DeviceSeen). d.content) (device_in old node)
 content-risen [] [] risen node = refl
 content-risen [] (b ∷ new) risen node = absurd risen
 content-risen (a ∷ old) [] risen node = absurd risen
 content-risen (a ∷ old) (b ∷ new) risen node =
-    let same : b.node ≡ a.node = ap (λ (d : DeviceState). d.node) risen.0.same in
-    let content : b.content ≡ a.content = ap (λ (d : DeviceState). d.content) risen.0.same in
-    subst (λ (n : ℕ). option_and_then (λ (d : DeviceState). d.content) (if n == node then Some b else device_in new node)
-    ≡ option_and_then (λ (d : DeviceState). d.content) (device_in (a ∷ old) node)) (sym same) (by_test (a.node == node) content (content-risen old new risen.1 node))
+    let same : b.node ≡ a.node = ap (λ (d : DeviceSeen). d.node) risen.0.same in
+    let content : b.content ≡ a.content = ap (λ (d : DeviceSeen). d.content) risen.0.same in
+    subst (λ (n : ℕ). option_and_then (λ (d : DeviceSeen). d.content) (if n == node then Some b else device_in new node)
+    ≡ option_and_then (λ (d : DeviceSeen). d.content) (device_in (a ∷ old) node)) (sym same) (by_test (a.node == node) content (content-risen old new risen.1 node))
   where
     by_test : (t : Bool) → b.content ≡ a.content
-        → option_and_then (λ (d : DeviceState). d.content) (device_in new node) ≡ option_and_then (λ (d : DeviceState). d.content) (device_in old node)
-        → option_and_then (λ (d : DeviceState). d.content) (if t then Some b else device_in new node)
-        ≡ option_and_then (λ (d : DeviceState). d.content) (if t then Some a else device_in old node)
+        → option_and_then (λ (d : DeviceSeen). d.content) (device_in new node) ≡ option_and_then (λ (d : DeviceSeen). d.content) (device_in old node)
+        → option_and_then (λ (d : DeviceSeen). d.content) (if t then Some b else device_in new node)
+        ≡ option_and_then (λ (d : DeviceSeen). d.content) (if t then Some a else device_in old node)
     by_test true content rest = content
     by_test false content rest = rest
 
-pub quiet-called : (w v : Face) → v.files ≡ w.files → v.table ≡ w.table → HasCalled w.nodes v.nodes → IsQuiet (contents_of w) (contents_of v)
+pub quiet-called : (w v : WorldSeen) → v.files ≡ w.files → v.table ≡ w.table → HasCalled w.nodes v.nodes → IsQuiet (contents_of w) (contents_of v)
 quiet-called w v files table called = record {
   nodes = λ node other. called.disks node;
   files = λ name other.
-      ap (λ (t : Table). held_by v name (node_over t name)) table ∙ by_node name (node_over w.table name);
+      ap (λ (t : RunTable). held_in_file v name (node_over t name)) table ∙ by_node name (node_over w.table name);
 }
   where
-    by_node : (name : List ℕ) (found : Option ℕ) → held_by v name found ≡ held_by w name found
+    by_node : (name : List ℕ) (found : Option ℕ) → held_in_file v name found ≡ held_in_file w name found
     by_node name None = ap (λ (f : Option (List File)). told_bytes f name) files
     by_node name (Some node) = content-risen w.nodes.devices v.nodes.devices called.risen node
 
 -- ---- by what the looks left
 
-module _ (w v : Face) (now : Site) (driver : Added (List ℕ)) (out : Option Taken) (table : v.table ≡ w.table) where
+module _ (w v : WorldSeen) (now : Site) (driver : Added (List ℕ)) (out : Option Taken) (table : v.table ≡ w.table) where
   pub quiet-back : IsLookedSo (opened_name driver) (site_of w) now out → site_of v ≡ site (back_if driver out now.store) now.nodes
       → IsQuiet (contents_of w) (contents_of v)
   quiet-back (inl called) is =
@@ -95,7 +95,7 @@ over-last name (row ∷ rows) new none = by_test (stands_for name row) (over-las
     by_test false rest = rest
 
 -- a node that stands for no file changes nothing of it
-pub over-added : (t t' : Table) (new : NodeRecord) (file : ℕ) → new.filename ≡ None → t'.nodes ≡ with_unsettled file t.nodes ++ new ∷ []
+pub over-added : (t t' : RunTable) (new : NodeRecord) (file : ℕ) → new.filename ≡ None → t'.nodes ≡ with_unsettled file t.nodes ++ new ∷ []
     → (name : List ℕ) → node_over t' name ≡ node_over t name
 over-added t t' new file none nodes name =
     ap (λ (rows : List NodeRecord). option_map (λ (r : NodeRecord). r.id) (find (stands_for name) rows)) nodes
@@ -103,7 +103,7 @@ over-added t t' new file none nodes name =
     ∙ ap (option_map (λ (r : NodeRecord). r.id)) (find-map (stands_for name) (node_changed file unsettled) (λ r. stands-unsettled file name r) t.nodes)
     ∙ id-unsettled file (find (stands_for name) t.nodes)
 
-pub over-filtered : (t t' : Table) (new : NodeRecord) → new.filename ≡ None → t'.nodes ≡ t.nodes ++ new ∷ [] → (name : List ℕ) → node_over t' name ≡ node_over t name
+pub over-filtered : (t t' : RunTable) (new : NodeRecord) → new.filename ≡ None → t'.nodes ≡ t.nodes ++ new ∷ [] → (name : List ℕ) → node_over t' name ≡ node_over t name
 over-filtered t t' new none nodes name =
     ap (λ (rows : List NodeRecord). option_map (λ (r : NodeRecord). r.id) (find (stands_for name) rows)) nodes
     ∙ ap (option_map (λ (r : NodeRecord). r.id)) (over-last name t.nodes new none)

@@ -4,14 +4,14 @@ use Rattle.std.specs.Prelude.{is_some, slice_get}
 use Rattle.blk_base.specs.declared.fault.DevNo.{DevNo}
 use Rattle.blk_base.specs.declared.file.Opened.{Opened}
 use Rattle.blk_history.specs.Fold.{With}
-use Rattle.blk_nodes.specs.Nodes.{AreTold, DeviceState, Nodes}
+use Rattle.blk_nodes.specs.Nodes.{AreTold, DeviceSeen, Nodes}
 use Rattle.q2_image.specs.Image.{Known}
 use Rattle.qmp_codec.specs.declared.nodes.Added.{Added}
-use Rattle.qmp_rules.specs.Table.{Table}
+use Rattle.qmp_rules.specs.Table.{RunTable}
 use Rattle.world_parts.specs.Adding.{Adding, Taken, of_node, opening_of}
 use Rattle.world_parts.specs.Coherent.{DevicesTell}
 use Rattle.world_commands.specs.Counting.{AreSameDevices, HaveNotFallen, IsLater, RunsOn}
-use Rattle.world_parts.specs.Face.{Face, counts_from, counts_now}
+use Rattle.world_parts.specs.Face.{WorldSeen, counts_from, counts_now}
 use Rattle.world_parts.specs.Joining.{HasAdded}
 use Rattle.world_parts.specs.Looking.{Site, site}
 use Rattle.world_parts.specs.Staging.{back_if, opened_name, site_of, store_of}
@@ -22,7 +22,7 @@ use Rattle.world_commands.proofs.CountLemmas.{goes-on, not-fallen, same-risen, w
 
 -- ---- no opening more
 
-pub runs-still : (w v : Face) → is_some v.files ≡ is_some w.files → v.room ≡ w.room → v.first_faults ≡ w.first_faults → v.earlier ≡ w.earlier → w.faults ≤ v.faults
+pub runs-still : (w v : WorldSeen) → is_some v.files ≡ is_some w.files → v.room ≡ w.room → v.first_faults ≡ w.first_faults → v.earlier ≡ w.earlier → w.faults ≤ v.faults
     → v.opened ≡ w.opened → AreSameDevices w.nodes.devices v.nodes.devices → RunsOn w v
 runs-still w v told room first earlier store opened same = record {
   told = told;
@@ -40,7 +40,7 @@ runs-still w v told room first earlier store opened same = record {
 
 -- ---- by what the looks left
 
-module _ (w v : Face) (first : v.first_faults ≡ w.first_faults) (now : Site) (driver : Added (List ℕ)) (out : Option Taken) where
+module _ (w v : WorldSeen) (first : v.first_faults ≡ w.first_faults) (now : Site) (driver : Added (List ℕ)) (out : Option Taken) where
   files-of : {s : StoreInRun} → store_of v ≡ s → v.files ≡ s.files
   files-of is = ap (λ (x : StoreInRun). x.files) is
 
@@ -62,11 +62,11 @@ module _ (w v : Face) (first : v.first_faults ≡ w.first_faults) (now : Site) (
       let devices : v.nodes.devices ≡ w.nodes.devices = ap (λ (x : Site). x.nodes.devices) is ∙ ap (λ (n : Nodes). n.devices) opened.nodes in
       runs-opened w v (ap (λ (x : StoreInRun). is_some x.files) store) (ap (λ (x : StoreInRun). x.room) store) first (ap (λ (x : StoreInRun). x.earlier) store)
       (omega (arith, faults)) _ (ap (λ (x : StoreInRun). x.opened) store)
-      (subst (λ (ds : List DeviceState). HaveNotFallen (counts_from w.nodes.devices 0 w.opened) (counts_from ds 0 w.opened)) (sym devices)
+      (subst (λ (ds : List DeviceSeen). HaveNotFallen (counts_from w.nodes.devices 0 w.opened) (counts_from ds 0 w.opened)) (sym devices)
       (not-fallen-itself (counts_from w.nodes.devices 0 w.opened)))
 
   -- its node is there
-  pub runs-added : (t : Table) (c : Adding) (image : Option Known) → IsLookedSo (opened_name driver) (site_of w) now out → store_of v ≡ now.store
+  pub runs-added : (t : RunTable) (c : Adding) (image : Option Known) → IsLookedSo (opened_name driver) (site_of w) now out → store_of v ≡ now.store
       → HasAdded t c out image now.nodes v.nodes → RunsOn w v
   runs-added t c image (inl called) same has =
       let store : store_of v ≡ record (store_of w) { faults = now.store.faults } = same ∙ called.store in
@@ -86,7 +86,7 @@ module _ (w v : Face) (first : v.first_faults ≡ w.first_faults) (now : Site) (
       let number : opened.device.number.0 ≡ length w.opened =
       ap (λ (d : Taken). d.number.0) opened.read.same ∙ ap (λ (n : DevNo). n.0) opened.taken.number in
       let counts : counts_from v.nodes.devices 0 w.opened ≡ counts_from w.nodes.devices 0 w.opened =
-      ap (λ (ds : List DeviceState). counts_from ds 0 w.opened) devices
+      ap (λ (ds : List DeviceSeen). counts_from ds 0 w.opened) devices
       ∙ counts-more w.nodes.devices (of_node made.id opened.device) 0 w.opened (omega (arith, number)) in
       runs-opened w v (ap (λ (x : StoreInRun). is_some x.files) store) (ap (λ (x : StoreInRun). x.room) store) first (ap (λ (x : StoreInRun). x.earlier) store)
       (omega (arith, faults)) (opening_of (opened_name driver) opened.first) (ap (λ (x : StoreInRun). x.opened) store)
@@ -94,5 +94,5 @@ module _ (w v : Face) (first : v.first_faults ≡ w.first_faults) (now : Site) (
 
   -- ---- devices tell where the store does
 
-  tell-risen : DevicesTell w.files w.nodes.devices → is_some v.files ≡ is_some w.files → (ds : List DeviceState) → ds ≡ w.nodes.devices → DevicesTell v.files ds
+  tell-risen : DevicesTell w.files w.nodes.devices → is_some v.files ≡ is_some w.files → (ds : List DeviceSeen) → ds ≡ w.nodes.devices → DevicesTell v.files ds
   tell-risen tell files ds same told = subst AreTold (sym same) (tell (sym files ∙ told))

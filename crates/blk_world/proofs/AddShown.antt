@@ -5,10 +5,10 @@ use Rattle.blk_graph.specs.declared.kind.Kind.TheVariants as kinds
 use Rattle.blk_graph.proofs.Members.{find-Some}
 use Rattle.q2_image.specs.Image.{Known}
 use Rattle.q2_format.specs.Contents.{image_disk, raw_disk}
-use Rattle.blk_nodes.specs.Adding.{raw_row as part_row}
-use Rattle.blk_nodes.specs.Contents.{below, bytes_of, disk_of}
+use Rattle.blk_nodes.specs.Adding.{raw_row}
+use Rattle.blk_nodes.specs.Contents.{disk_under, bytes_of, disk_of}
 use Rattle.blk_nodes.specs.Joined.{IsJoined}
-use Rattle.blk_nodes.specs.Nodes.{Nodes, size_of as node_size}
+use Rattle.blk_nodes.specs.Nodes.{Nodes, node_size}
 use Rattle.blk_nodes.specs.Overlays.{backing_node, copying_row, qcow2_row}
 use Rattle.blk_nodes.specs.declared.row.Row.{Row}
 use Rattle.qmp_codec.specs.declared.command.Command.TheVariants as command
@@ -18,11 +18,11 @@ use Rattle.qmp_codec.specs.declared.nodes.Added.TheVariants as added
 use Rattle.qmp_codec.specs.declared.nodes.FileRef.{FileRef}
 use Rattle.qmp_codec.specs.declared.nodes.FileRef.TheVariants as file_ref
 use Rattle.qmp_codec.specs.declared.nodes.InlineFile.{InlineFile}
-use Rattle.qmp_rules.specs.Answers.{refusal_of}
+use Rattle.qmp_rules.specs.Answers.{refusal_to}
 use Rattle.qmp_rules.specs.Changes.{all_changed, changed}
-use Rattle.qmp_rules.specs.Edits.{file_row, format_row, free_id, image_row, inline_row, length_told, next_free_id, qcow2_edits, raw_edits, raw_row}
+use Rattle.qmp_rules.specs.Edits.{file_row, format_row, free_id, image_row, inline_row, length_told, next_free_id, qcow2_edits, raw_edits, raw_record}
 use Rattle.qmp_asks.specs.NodeAsks.{backing_name, is_read_only}
-use Rattle.qmp_rules.specs.Table.{Table, id_named, node_named}
+use Rattle.qmp_rules.specs.Table.{RunTable, id_named, node_named}
 use Rattle.qmp_asks.specs.Values.{part_size}
 use Rattle.qmp_asks.specs.declared.ask.Drivers.TheVariants as drivers
 use Rattle.qmp_rules.specs.declared.change.Change.TheVariants.{AddFile, AddFilter, AddFormat}
@@ -37,7 +37,7 @@ use Rattle.flat_machine.proofs.Accepted.{free_fresh, is_protocol}
 use Rattle.flat_machine.proofs.Asked.{room-left, takes-driver}
 use Rattle.world_parts.specs.Adding.{Adding, Taken}
 use Rattle.world_parts.specs.Coherent.{AreOut}
-use Rattle.world_parts.specs.Face.{Face, contents_of, told_bytes}
+use Rattle.world_parts.specs.Face.{WorldSeen, contents_of, told_bytes}
 use Rattle.world_parts.specs.Joining.{HasAddedImage, HasAddedPart, IsFileAdded, HasInline, HasOver, backing_for, part_in}
 use Rattle.world_parts.specs.Stores.{StoreInRun}
 use Rattle.world_parts.proofs.AddAsked.{rest-asked, unopened-not}
@@ -51,7 +51,7 @@ use Rattle.blk_world.proofs.AddWhole.{FreshFor, IsFresh, id-is, next1}
 use Rattle.world_commands.proofs.CarryPlain.{quiet-self}
 
 -- what is told of the bytes of the device that was opened
-abbrev pub HoldsFor : Face → FileRef (List ℕ) → Option Taken → Type 0
+abbrev pub HoldsFor : WorldSeen → FileRef (List ℕ) → Option Taken → Type 0
 HoldsFor w (file_ref.Inline file) (Some device) = device.content ≡ told_bytes w.files file.filename
 HoldsFor w file out = Unit {0}
 
@@ -59,14 +59,14 @@ some-name : (found : Option (List ℕ)) → IsSome found → (name : List ℕ) �
 some-name None some = absurd (let bad : false ≡ true = some in cc bad)
 some-name (Some name) some = (name, refl)
 
-module _ (w v : Face) (told : Told) (c : Adding) (none : refusal_of w.table told (command.BlockdevAdd c) ≡ None) (old now : StoreInRun)
+module _ (w v : WorldSeen) (told : Told) (c : Adding) (none : refusal_to w.table told (command.BlockdevAdd c) ≡ None) (old now : StoreInRun)
     (out_before : AreOut w.table w.nodes old.opened) (was : Middle w.table w.nodes old.opened w.progress) (rest_at : TableAtRest w.table) (joined : IsJoined w.nodes)
     (files : v.files ≡ w.files) (s : State) (table_is : s.table ≡ w.table) where
-  abbrev t : Table
+  abbrev t : RunTable
   t = w.table
 
   -- the world behind the first of two nodes
-  abbrev middle : Table → Nodes → Face
+  abbrev middle : RunTable → Nodes → WorldSeen
   middle table nodes = record w { table = table; nodes = nodes }
 
   pub shown-file : (filename : List ℕ) → c.driver ≡ added.File filename → (device : Taken) → IsFresh old now filename device told
@@ -95,8 +95,8 @@ module _ (w v : Face) (told : Told) (c : Adding) (none : refusal_of w.table told
       let rest = rw (e, f) at (rest-asked t told c none) in
       let room : length t.nodes + 1 ≤ 64 = room-left t told 1 rest.1.1.0 in
       let row = has.row in
-      let new_row : NodeRecord = raw_row (free_id t) c.node_name row.size (is_read_only c.options) raw in
-      let own : Row = part_row (part_in raw row.size) (is_read_only c.options) in
+      let new_row : NodeRecord = raw_record (free_id t) c.node_name row.size (is_read_only c.options) raw in
+      let own : Row = raw_row (part_in raw row.size) (is_read_only c.options) in
       let bytes : List ℕ = raw_disk (part_in raw row.size).start (part_in raw row.size).len (disk_of w.nodes row.id) in
       let has' = subst (HasOver c.node_name own row.id None bytes w.nodes v.nodes)
       (id-is t told c none old now w.nodes w.nodes v.nodes w.progress was out_before rest_at.stands.apart joined room has.node has.next.lowest) has.next in
@@ -113,12 +113,12 @@ module _ (w v : Face) (told : Told) (c : Adding) (none : refusal_of w.table told
       let room : length t.nodes + 2 ≤ 64 = room-left t told 2 rest.1.1.1.0 in
       let closed = unopened-not t told c none (record { filename = file.filename; what = look.Begin }) (AsPart raw file e f refl refl) in
       let row1 : NodeRecord = inline_row t told c.node_name file in
-      let m : Face = middle (changed t (AddFile row1)) has.between in
+      let m : WorldSeen = middle (changed t (AddFile row1)) has.between in
       let size : length_told told ≡ device.size = ap (λ (n : Option ℕ). unwrap_or n 0) fresh.length_is in
       let under = id-is t told c none old now w.nodes w.nodes has.between w.progress was out_before rest_at.stands.apart joined (omega (arith, room)) has.under has.first.lowest in
       let first' = subst (HasInline c file device w.nodes has.between) under has.first in
-      let new_row : NodeRecord = raw_row (next_free_id t) c.node_name (length_told told) (is_read_only c.options) raw in
-      let own : Row = part_row (part_in raw device.size) (is_read_only c.options) in
+      let new_row : NodeRecord = raw_record (next_free_id t) c.node_name (length_told told) (is_read_only c.options) raw in
+      let own : Row = raw_row (part_in raw device.size) (is_read_only c.options) in
       let bytes : List ℕ = raw_disk (part_in raw device.size).start (part_in raw device.size).len (disk_of has.between has.under) in
       let next = has.next in
       let bytes_are : bytes ≡ raw_disk new_row.offset new_row.size (disk_of has.between (free_id t)) =
@@ -153,12 +153,12 @@ module _ (w v : Face) (told : Told) (c : Adding) (none : refusal_of w.table told
       let over : Option ℕ = option_and_then (id_named t) (backing_name qcow2.backing) in
       let new_row : NodeRecord = image_row (free_id t) told c.node_name (is_read_only c.options) in
       let own : Row = qcow2_row image (is_read_only c.options) in
-      let bytes : List ℕ = image_disk (bytes_of w.nodes row.id) (below (disk_of w.nodes) (backing_node (backing_for t qcow2.backing))) in
+      let bytes : List ℕ = image_disk (bytes_of w.nodes row.id) (disk_under (disk_of w.nodes) (backing_node (backing_for t qcow2.backing))) in
       let next' = subst (λ (b : Option ℕ). HasOver c.node_name own row.id b bytes w.nodes v.nodes has.node) (backing-same t qcow2.backing) has.next in
       let has' = subst (HasOver c.node_name own row.id over bytes w.nodes v.nodes)
       (id-is t told c none old now w.nodes w.nodes v.nodes w.progress was out_before rest_at.stands.apart joined room has.node has.next.lowest) next' in
-      let bytes_are : bytes ≡ image_disk (bytes_of w.nodes row.id) (below (disk_of w.nodes) over) =
-      ap (λ (b : Option ℕ). image_disk (bytes_of w.nodes row.id) (below (disk_of w.nodes) b)) (backing-same t qcow2.backing) in
+      let bytes_are : bytes ≡ image_disk (bytes_of w.nodes row.id) (disk_under (disk_of w.nodes) over) =
+      ap (λ (b : Option ℕ). image_disk (bytes_of w.nodes row.id) (disk_under (disk_of w.nodes) b)) (backing-same t qcow2.backing) in
       let named : filename_of t row.id ≡ Some file.0 = ap (option_and_then (λ (r : NodeRecord). r.filename)) (rest_at.stands.apart row there) ∙ file.1 in
       let table' : v.table ≡ changed t (AddFormat new_row row.id over) = rw has.found at table in
       rw has.found (
@@ -180,17 +180,17 @@ module _ (w v : Face) (told : Told) (c : Adding) (none : refusal_of w.table told
       let room : length t.nodes + 2 ≤ 64 = room-left t told 2 rest.1.1.1.1.0 in
       let closed = unopened-not t told c none (record { filename = file.filename; what = look.File }) (AsImage qcow2 file e f refl refl) in
       let row1 : NodeRecord = inline_row t told c.node_name file in
-      let m : Face = middle (changed t (AddFile row1)) has.between in
+      let m : WorldSeen = middle (changed t (AddFile row1)) has.between in
       let size : length_told told ≡ device.size = ap (λ (n : Option ℕ). unwrap_or n 0) fresh.length_is in
       let under = id-is t told c none old now w.nodes w.nodes has.between w.progress was out_before rest_at.stands.apart joined (omega (arith, room)) has.under has.first.lowest in
       let first' = subst (HasInline c file device w.nodes has.between) under has.first in
       let over : Option ℕ = option_and_then (id_named t) (backing_name qcow2.backing) in
       let new_row : NodeRecord = image_row (next_free_id t) told c.node_name (is_read_only c.options) in
       let own : Row = qcow2_row image (is_read_only c.options) in
-      let bytes : List ℕ = image_disk (bytes_of has.between has.under) (below (disk_of has.between) (backing_node (backing_for t qcow2.backing))) in
-      let bytes_are : bytes ≡ image_disk (bytes_of has.between (free_id t)) (below (disk_of has.between) over) =
-      ap (λ (n : ℕ). image_disk (bytes_of has.between n) (below (disk_of has.between) (backing_node (backing_for t qcow2.backing)))) under
-      ∙ ap (λ (b : Option ℕ). image_disk (bytes_of has.between (free_id t)) (below (disk_of has.between) b)) (backing-same t qcow2.backing) in
+      let bytes : List ℕ = image_disk (bytes_of has.between has.under) (disk_under (disk_of has.between) (backing_node (backing_for t qcow2.backing))) in
+      let bytes_are : bytes ≡ image_disk (bytes_of has.between (free_id t)) (disk_under (disk_of has.between) over) =
+      ap (λ (n : ℕ). image_disk (bytes_of has.between n) (disk_under (disk_of has.between) (backing_node (backing_for t qcow2.backing)))) under
+      ∙ ap (λ (b : Option ℕ). image_disk (bytes_of has.between (free_id t)) (disk_under (disk_of has.between) b)) (backing-same t qcow2.backing) in
       let next = has.next in
       let next_id =
       next1 t told c none old now w.nodes w.nodes v.nodes w.progress was out_before rest_at.stands.apart joined file device fresh has.between has.under has.first
@@ -204,7 +204,7 @@ module _ (w v : Face) (told : Told) (c : Adding) (none : refusal_of w.table told
         (
           contents_of v,
           did-image m v has.first.joined new_row files (stepped s (AddFile row1)) own (free_id t) bytes refl over file.filename table next3' refl
-              (ap (λ (u : Table). changed u (AddFile row1)) table_is) (filed-filename t row1 file.filename fresh1 refl) (over-new t row1 file.filename refl closed) bytes_are,
+              (ap (λ (u : RunTable). changed u (AddFile row1)) table_is) (filed-filename t row1 file.filename fresh1 refl) (over-new t row1 file.filename refl closed) bytes_are,
           quiet-self (contents_of v),
         ),
       )

@@ -14,12 +14,12 @@ use Rattle.blk_graph.specs.Refreshed.{refreshed}
 use Rattle.blk_graph.specs.declared.kind.NodeKind.{NodeKind}
 use Rattle.blk_graph.proofs.Members.{Contains-cases, Contains-here, Contains-there}
 use Rattle.blk_nodes.specs.Joined.{IsJoined}
-use Rattle.blk_nodes.specs.Nodes.{DeviceState, Nodes}
-use Rattle.blk_nodes.specs.Overlays.{format_edges as node_edges, with_children}
+use Rattle.blk_nodes.specs.Nodes.{DeviceSeen, Nodes}
+use Rattle.blk_nodes.specs.Overlays.{format_edges, with_children}
 use Rattle.blk_nodes.specs.declared.row.Driver.TheVariants as driver
 use Rattle.blk_nodes.specs.declared.row.Row.{Row}
-use Rattle.qmp_rules.specs.Changes.{changed, format_edges, node_changed, unsettled}
-use Rattle.qmp_rules.specs.Table.{Table, kinds_of, node_at}
+use Rattle.qmp_rules.specs.Changes.{changed, with_format_edges, node_changed, unsettled}
+use Rattle.qmp_rules.specs.Table.{RunTable, kinds_of, node_by_id}
 use Rattle.qmp_asks.specs.Values.{most_length}
 use Rattle.qmp_rules.specs.declared.change.Change.TheVariants.{AddFile, AddFilter, AddFormat}
 use Rattle.qmp_rules.specs.declared.rows.NodeRecord.{NodeRecord}
@@ -58,7 +58,7 @@ not-node new e node g is from = λ same.
     let bad : Guest g ≡ Node node = sym from ∙ ap (λ (x : Edge). x.parent) same ∙ is in
     absurd (cc bad)
 
-over-old : (id file : ℕ) (backing : Option ℕ) (edges : List Edge) (e : Edge) (g : ℕ) → Contains (format_edges id file backing edges) e → e.parent ≡ Guest g → Contains edges e
+over-old : (id file : ℕ) (backing : Option ℕ) (edges : List Edge) (e : Edge) (g : ℕ) → Contains (with_format_edges id file backing edges) e → e.parent ≡ Guest g → Contains edges e
 over-old id file None edges e g there from =
     edge-old (node_edge id File file) edges e there (not-node (node_edge id File file) e id g refl from)
 over-old id file (Some over) edges e g there from =
@@ -68,15 +68,15 @@ over-old id file (Some over) edges e g there from =
 
 -- the edges of a node that is drawn
 graph-edges : (nodes now : Nodes) (id : ℕ) (name : List ℕ) (own : Row) (child : ℕ) (backing : Option ℕ) → now ≡ with_children nodes id name own child backing
-    → now.graph.edges ≡ refreshed now.graph.kinds (node_edges id child backing nodes.graph.edges)
+    → now.graph.edges ≡ refreshed now.graph.kinds (format_edges id child backing nodes.graph.edges)
 graph-edges nodes now id name own child backing is =
     ap (λ (n : Nodes). n.graph.edges) is
-    ∙ ap (λ (k : List NodeKind). refreshed k (node_edges id child backing nodes.graph.edges)) (sym (ap (λ (n : Nodes). n.graph.kinds) is))
+    ∙ ap (λ (k : List NodeKind). refreshed k (format_edges id child backing nodes.graph.edges)) (sym (ap (λ (n : Nodes). n.graph.kinds) is))
 
 -- ---- a `file` node
 
-module _ (t : Table) (nodes : Nodes) (opened : List Opened) (p : Progress) (was : Middle t nodes opened p) (joined : IsJoined nodes) (row : NodeRecord)
-    (fresh : node_at t row.id ≡ None) where
+module _ (t : RunTable) (nodes : Nodes) (opened : List Opened) (p : Progress) (was : Middle t nodes opened p) (joined : IsJoined nodes) (row : NodeRecord)
+    (fresh : node_by_id t row.id ≡ None) where
   unsettled-access : (file : ℕ) (r : NodeRecord) → (node_changed file unsettled r).read_only ≡ r.read_only
   unsettled-access file r = by_test (r.id == file)
     where
@@ -105,7 +105,7 @@ module _ (t : Table) (nodes : Nodes) (opened : List Opened) (p : Progress) (was 
       edges = λ edge g there from. guest_edge (kinds_of (changed t (AddFile row)).nodes) t.edges edge g there from;
     }
 
-    file-names : (held : DeviceState) → Contains nodes.devices held → filename_of (changed t (AddFile row)) held.node ≡ filename_of t held.node
+    file-names : (held : DeviceSeen) → Contains nodes.devices held → filename_of (changed t (AddFile row)) held.node ≡ filename_of t held.node
     file-names held there =
         filename-same t (changed t (AddFile row)) row.id row.id (λ r. r) file-grows held.node (held-other t nodes opened row.id was.out fresh held there)
 
@@ -120,14 +120,14 @@ module _ (t : Table) (nodes : Nodes) (opened : List Opened) (p : Progress) (was 
   -- ---- a node over others
 
   module _ (own : Row) (is_row : IsRowOf row own) (child : ℕ) (bytes : List ℕ) (now : Nodes) where
-    over-names : (t' : Table) (but : ℕ) (change : NodeRecord → NodeRecord) → Grows t t' row.id but change
-        → (held : DeviceState) → Contains nodes.devices held → filename_of t' held.node ≡ filename_of t held.node
+    over-names : (t' : RunTable) (but : ℕ) (change : NodeRecord → NodeRecord) → Grows t t' row.id but change
+        → (held : DeviceSeen) → Contains nodes.devices held → filename_of t' held.node ≡ filename_of t held.node
     over-names t' but change grows held there =
         filename-same t t' row.id but change grows held.node (held-other t nodes opened row.id was.out fresh held there)
 
     module _ (backing : Option ℕ) (has : HasOver row.name own child backing bytes nodes now row.id)
         (lone : (edge : Edge) → Contains t.edges edge → edge.child ≢ child) where
-      abbrev formatted : Table
+      abbrev formatted : RunTable
       formatted = changed t (AddFormat row child backing)
 
       format-grows : Grows t formatted row.id child (node_changed child unsettled)
@@ -140,7 +140,7 @@ module _ (t : Table) (nodes : Nodes) (opened : List Opened) (p : Progress) (was 
         guests = refl;
         jobs = refl;
         edges = λ edge g there from.
-            over-old row.id child backing t.edges edge g (guest_edge (kinds_of formatted.nodes) (format_edges row.id child backing t.edges) edge g there from) from;
+            over-old row.id child backing t.edges edge g (guest_edge (kinds_of formatted.nodes) (with_format_edges row.id child backing t.edges) edge g there from) from;
       }
 
       pub format-step : Middle formatted now opened p
@@ -151,7 +151,7 @@ module _ (t : Table) (nodes : Nodes) (opened : List Opened) (p : Progress) (was 
           (out-over t formatted nodes now opened (ap (λ (n : Nodes). n.devices) has.is) (over-names formatted child (node_changed child unsettled) format-grows) was.out)
 
     module _ (has : HasOver row.name own child None bytes nodes now row.id) where
-      abbrev filtered : Table
+      abbrev filtered : RunTable
       filtered = changed t (AddFilter row child)
 
       filter-grows : Grows t filtered row.id row.id (λ r. r)

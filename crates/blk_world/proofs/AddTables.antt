@@ -15,8 +15,8 @@ use Rattle.blk_graph.proofs.Members.{Contains-cases, Contains-nil, find-Some}
 use Rattle.blk_graph.proofs.RefreshLemmas.{child_of-refreshed}
 use Rattle.blk_nodes.specs.Joined.{IsJoined}
 use Rattle.blk_nodes.specs.Nodes.{Nodes}
-use Rattle.qmp_rules.specs.Changes.{changed, format_edges, node_changed, unsettled, with_unsettled}
-use Rattle.qmp_rules.specs.Table.{Table, first_into, kinds_of, node_at}
+use Rattle.qmp_rules.specs.Changes.{changed, with_format_edges, node_changed, unsettled, with_unsettled}
+use Rattle.qmp_rules.specs.Table.{RunTable, first_into, kinds_of, node_by_id}
 use Rattle.qmp_rules.specs.declared.change.Change.TheVariants.{AddFile, AddFilter, AddFormat}
 use Rattle.qmp_rules.specs.declared.rows.NodeRecord.{NodeRecord}
 use Rattle.flat_machine.proofs.Finds.{find-map}
@@ -27,7 +27,7 @@ use Rattle.blk_world.proofs.AddGrown.{Grows, StaysRow}
 -- ---- edges of nodes that are there
 
 -- none leads to a node that isn't there
-pub edges-away : (t : Table) (nodes : Nodes) (new : ℕ) → AreNodesOf t nodes → IsJoined nodes → (HasNode nodes.graph new → ⊥)
+pub edges-away : (t : RunTable) (nodes : Nodes) (new : ℕ) → AreNodesOf t nodes → IsJoined nodes → (HasNode nodes.graph new → ⊥)
     → (edge : Edge) → Contains t.edges edge → edge.child ≢ new
 edges-away t nodes new alike joined absent edge there = λ same.
     let here : Contains nodes.graph.edges edge = subst (λ (l : List Edge). Contains l edge) (sym alike.edges) there in
@@ -55,11 +55,11 @@ same-row (Some row) = refl
 
 -- ---- a `file` node
 
-module _ (t : Table) (nodes : Nodes) (alike : AreNodesOf t nodes) (joined : IsJoined nodes) (row : NodeRecord) (absent : HasNode nodes.graph row.id → ⊥) where
+module _ (t : RunTable) (nodes : Nodes) (alike : AreNodesOf t nodes) (joined : IsJoined nodes) (row : NodeRecord) (absent : HasNode nodes.graph row.id → ⊥) where
   pub grows-filed : Grows t (changed t (AddFile row)) row.id row.id (λ r. r)
   unfolding changed
   grows-filed = record {
-    rows = λ id other. find-behind id t.nodes row other ∙ same-row (node_at t id);
+    rows = λ id other. find-behind id t.nodes row other ∙ same-row (node_by_id t id);
     stays = λ r. record { kind = refl; size = refl; filename = refl };
     settled = λ id r there other. refl;
     children = λ parent role other. child_of-refreshed (kinds_of (t.nodes ++ row ∷ [])) parent role t.edges;
@@ -72,7 +72,7 @@ module _ (t : Table) (nodes : Nodes) (alike : AreNodesOf t nodes) (joined : IsJo
   pub grows-filtered : (child : ℕ) → Grows t (changed t (AddFilter row child)) row.id row.id (λ r. r)
   unfolding changed
   grows-filtered child = record {
-    rows = λ id other. find-behind id t.nodes row other ∙ same-row (node_at t id);
+    rows = λ id other. find-behind id t.nodes row other ∙ same-row (node_by_id t id);
     stays = λ r. record { kind = refl; size = refl; filename = refl };
     settled = λ id r there other. refl;
     children = λ parent role other.
@@ -101,7 +101,7 @@ module _ (t : Table) (nodes : Nodes) (alike : AreNodesOf t nodes) (joined : IsJo
     settled-by r false is other = refl
 
     kept-by : (parent : Parent) (role : Role) (over : Option ℕ) → Node row.id ≢ parent
-        → child_of parent role (format_edges row.id file over t.edges) ≡ child_of parent role t.edges
+        → child_of parent role (with_format_edges row.id file over t.edges) ≡ child_of parent role t.edges
     kept-by parent role None other = child-kept parent role (node_edge row.id File file) t.edges other
     kept-by parent role (Some over) other =
         child-kept parent role (node_edge row.id Backing over) (with_edge (node_edge row.id File file) t.edges) other
@@ -118,7 +118,7 @@ module _ (t : Table) (nodes : Nodes) (alike : AreNodesOf t nodes) (joined : IsJo
           let at : r.id ≡ id = eqb-true r.id id (find-Some (λ (x : NodeRecord). x.id == id) t.nodes r there).1 in
           settled-by r (r.id == file) refl (λ same. other (sym at ∙ same));
       children = λ parent role other.
-          child_of-refreshed (kinds_of (with_unsettled file t.nodes ++ row ∷ [])) parent role (format_edges row.id file backing t.edges)
+          child_of-refreshed (kinds_of (with_unsettled file t.nodes ++ row ∷ [])) parent role (with_format_edges row.id file backing t.edges)
           ∙ kept-by parent role backing (λ same. other (sym same));
       away = edges-away t nodes row.id alike joined absent;
       lone = none;

@@ -32,15 +32,15 @@ use Rattle.qmp_asks.specs.declared.look.Look.{Look}
 use Rattle.qmp_asks.specs.declared.look.Look.TheVariants as look
 use Rattle.qmp_rules.specs.declared.told.Stopped.{Stopped}
 use Rattle.qmp_rules.specs.declared.told.Told.{Told}
-use Rattle.qmp_rules.specs.Answers.{out_of_turn, refusal_of, untold}
+use Rattle.qmp_rules.specs.Answers.{out_of_turn, refusal_to, told_none}
 use Rattle.qmp_asks.specs.Asking.{Asking}
-use Rattle.qmp_rules.specs.Asks.{file_node, first, holds, if_there, is_file, is_lost, lost, name_of_file}
+use Rattle.qmp_rules.specs.Asks.{file_node, first_unmet_ask, holds, if_there, is_file, is_lost, lost, name_of_file}
 use Rattle.qmp_rules.specs.Refusals.{or_else, refused}
 use Rattle.qmp_asks.specs.declared.ask.Ask.TheVariants as ask
 use Rattle.qmp_asks.specs.declared.ask.Drivers.TheVariants as drivers
-use Rattle.qmp_rules.specs.Looks.{FileSight, ImageSight, add_told, image_stop, image_told, is_free_file, told_as}
+use Rattle.qmp_rules.specs.Looks.{FileSight, ImageSight, add_told, unfit_image, image_told, is_free_file, told_record}
 use Rattle.qmp_asks.specs.NodeAsks.{add_asks, added_names, added_values, backing_name, is_added, option_values}
-use Rattle.qmp_rules.specs.Table.{Table, file_state, first_into, node_named}
+use Rattle.qmp_rules.specs.Table.{RunTable, file_state, first_into, node_named}
 use Rattle.blk_history.specs.Fold.{With}
 use Rattle.flat_machine.specs.Agreement.{IsBlank}
 use Rattle.flat_machine.specs.Marking.{dirty_bytes}
@@ -52,12 +52,12 @@ use Rattle.flat_machine.specs.declared.opening.Opening.{Opening}
 use Rattle.flat_machine.proofs.Accepted.{is_protocol}
 use Rattle.flat_machine.proofs.Asked.{NoneHolds, none-behind}
 use Rattle.flat_machine.proofs.Finds.{same-bytes_eq}
-use Rattle.blk_nodes.specs.Nodes.{Nodes, DeviceState, device_in, is_of}
+use Rattle.blk_nodes.specs.Nodes.{Nodes, DeviceSeen, device_in, is_device_of}
 use Rattle.world_parts.specs.Adding.{Adding, IsFreeFile, LooksUnder, opened_sight, probe, unopened}
 use Rattle.world_commands.specs.Carrying.{StopsExactly, as_held, held_known, known_as}
 use Rattle.world_parts.specs.Coherent.{IsCoherent, DevicesTell}
 use Rattle.world_commands.specs.Comes.{ShowsState}
-use Rattle.world_parts.specs.Face.{Face, held, held_by, node_over}
+use Rattle.world_parts.specs.Face.{WorldSeen, held, held_in_file, node_over}
 use Rattle.blk_world.proofs.AddBlank.{header-is, image-large}
 use Rattle.blk_world.proofs.AddDid.{over-one}
 use Rattle.blk_world.proofs.AddExact.{IsSeenHeld, held-none}
@@ -68,7 +68,7 @@ use Rattle.world_parts.proofs.AddTold.{has_look, quiet_part, reached, stop-refus
 
 -- ---- what may be told, by what stops it
 
-module _ (s : State) (w : Face) (c : Adding) where
+module _ (s : State) (w : WorldSeen) (c : Adding) where
   abbrev cmd : Cmd
   cmd = command.BlockdevAdd c
 
@@ -115,7 +115,7 @@ module _ (s : State) (w : Face) (c : Adding) where
       }
 
   -- a refusal stands before the look
-  seen-past : (told : Told) (what : Look) → told.mapped ≡ [] → ((any : Told) → refusal_of s.table any cmd ≡ refusal_of s.table (probe what) cmd) → refusal_of s.table (probe what) cmd ≢ None
+  seen-past : (told : Told) (what : Look) → told.mapped ≡ [] → ((any : Told) → refusal_to s.table any cmd ≡ refusal_to s.table (probe what) cmd) → refusal_to s.table (probe what) cmd ≢ None
       → MayBeTold whole.stopped → IsSeenHeld s w c told
   seen-past told what mapped all some may =
       let mine : Told = record told { length = (expects s c).length; size = (expects s c).size; stopped = whole.stopped } in
@@ -176,7 +176,7 @@ module _ (new : Creation) (len : Option ℕ) (bytes : List ℕ) (blank : IsBlank
 
 -- ---- what is known of a file, by its bytes
 
-held-content : (w : Face) (files : List KnownFile) (file : List ℕ) (content : Content) → content_in files file ≡ Some content
+held-content : (w : WorldSeen) (files : List KnownFile) (file : List ℕ) (content : Content) → content_in files file ≡ Some content
     → content_in (map (held_known w) files) file ≡ Some (known_as content (held w file))
 held-content w [] file content is = absurd (let bad : ⊥ = cc is in bad)
 held-content w (k ∷ files) file content is = by_test (bytes_eq k.name file) refl is (held-content w files file content)
@@ -201,7 +201,7 @@ some-name (Some name) some = (name, refl)
 
 -- ---- a free `file` node
 
-record IsFree (t : Table) (name : List ℕ) (node : ℕ) : Type 0 where
+record IsFree (t : RunTable) (name : List ℕ) (node : ℕ) : Type 0 where
   row : NodeRecord
   named : node_named t name ≡ Some row
   file_row : file_node t name ≡ Some row
@@ -212,7 +212,7 @@ record IsFree (t : Table) (name : List ℕ) (node : ℕ) : Type 0 where
   filename : row.filename ≡ Some file
   alone : (edge : Edge) → Contains t.edges edge → edge.child ≡ row.id → ⊥
 
-free-of : (t : Table) → TableStands t → (name : List ℕ) (node : ℕ) → IsFreeFile t name node → IsFree t name node
+free-of : (t : RunTable) → TableStands t → (name : List ℕ) (node : ℕ) → IsFreeFile t name node → IsFree t name node
 free-of t stands name node is =
     let found = by_found (node_named t name) refl is.named in
     let kind : is.row.kind ≡ kinds.Protocol = is_protocol is.row.kind found.1 in
@@ -249,7 +249,7 @@ free-of t stands name node is =
 
 -- ---- what is seen
 
-module _ (o : Opening) (s : State) (w : Face) (shows : ShowsState o s w) (coherent : IsCoherent w.table w.nodes w.opened w.progress) (tell : DevicesTell w.files w.nodes.devices)
+module _ (o : Opening) (s : State) (w : WorldSeen) (shows : ShowsState o s w) (coherent : IsCoherent w.table w.nodes w.opened w.progress) (tell : DevicesTell w.files w.nodes.devices)
     (files : List File) (told_files : w.files ≡ Some files) (c : Adding) (q : AddQcow2 (List ℕ)) (name : List ℕ) (e : c.driver ≡ added.Qcow2 q) (f : q.file ≡ file_ref.Name name) where
   abbrev sight : State → Option FileSight
   sight st = option_map sight_of (option_and_then (content_in st.files) (file_of_ref st.table (file_ref.Name name)))
@@ -259,29 +259,29 @@ module _ (o : Opening) (s : State) (w : Face) (shows : ShowsState o s w) (cohere
   expects-at st = rw (e, f) refl
 
   abbrev told-of : ImageSight → Told
-  told-of image = told_as None (Some image.size) (image_stop s.table c.node_name q image)
+  told-of image = told_record None (Some image.size) (unfit_image s.table c.node_name q image)
 
   -- where the node has a parent
-  not-free : (st : State) → st.table ≡ s.table → is_free_file s.table name ≡ false → expects st c ≡ untold
+  not-free : (st : State) → st.table ≡ s.table → is_free_file s.table name ≡ false → expects st c ≡ told_none
   not-free st same closed =
-      expects-at st ∙ ap (λ (t : Table). image_told t c.node_name name q (sight st)) same ∙ by_sight (sight st)
+      expects-at st ∙ ap (λ (t : RunTable). image_told t c.node_name name q (sight st)) same ∙ by_sight (sight st)
     where
-      by_sight : (found : Option FileSight) → image_told s.table c.node_name name q found ≡ untold
+      by_sight : (found : Option FileSight) → image_told s.table c.node_name name q found ≡ told_none
       by_sight None = refl
       by_sight (Some x) = rw closed refl
 
-  quiet-stop : MayBeTold s w c (whole s w c).stopped → is_free_file s.table name ≡ false → IsSeenHeld s w c untold
+  quiet-stop : MayBeTold s w c (whole s w c).stopped → is_free_file s.table name ≡ false → IsSeenHeld s w c told_none
   quiet-stop may closed =
       let mine = not-free s refl closed in
       let held_so = not-free (as_held w s) refl closed in
-      seen-told s w c untold refl (ap (λ (t : Told). t.length) (sym mine)) (ap (λ (t : Told). t.size) (sym mine))
+      seen-told s w c told_none refl (ap (λ (t : Told). t.length) (sym mine)) (ap (λ (t : Told). t.size) (sym mine))
       (subst (MayBeTold s w c) (ap (λ (t : Told). t.stopped) held_so) may)
 
   has : has_look look.Image (add_asks c) ≡ true
   has = has-named c q name e f
 
   -- a refusal stands before the look
-  past-look : (told : Told) → told.mapped ≡ [] → refusal_of s.table (probe look.Image) (command.BlockdevAdd c) ≢ Some refusal.Aborted → MayBeTold s w c (whole s w c).stopped → IsSeenHeld s w c told
+  past-look : (told : Told) → told.mapped ≡ [] → refusal_to s.table (probe look.Image) (command.BlockdevAdd c) ≢ Some refusal.Aborted → MayBeTold s w c (whole s w c).stopped → IsSeenHeld s w c told
   past-look told mapped not may =
       seen-past s w c told look.Image mapped (unreached-refused s.table look.Image c (looks-named c q name e f) not)
       (stop-refused s.table (probe look.Image) look.Image refusal.Aborted c refl has) may
@@ -293,10 +293,10 @@ module _ (o : Opening) (s : State) (w : Face) (shows : ShowsState o s w) (cohere
     by-content : (st : State) (content : Content) → st.table ≡ s.table → content_in st.files under.file ≡ Some content → expects st c ≡ told-of (image_sight content)
     by-content st content same known =
         expects-at st
-        ∙ ap (λ (t : Table). image_told t c.node_name name q (option_map sight_of (option_and_then (content_in st.files) (file_of_ref t (file_ref.Name name))))) same
+        ∙ ap (λ (t : RunTable). image_told t c.node_name name q (option_map sight_of (option_and_then (content_in st.files) (file_of_ref t (file_ref.Name name))))) same
         ∙ ap (λ (x : Option (List ℕ)). image_told s.table c.node_name name q (option_map sight_of (option_and_then (content_in st.files) x))) file-at
         ∙ ap (λ (x : Option Content). image_told s.table c.node_name name q (option_map sight_of x)) known
-        ∙ ap (λ (b : Bool). cond b (told-of (image_sight content)) (told_as None None None)) under.free
+        ∙ ap (λ (b : Bool). cond b (told-of (image_sight content)) (told_record None None None)) under.free
 
     -- what files hold, where it is known or not
     record IsMeasured (bytes : List ℕ) : Type 0 where
@@ -350,7 +350,7 @@ module _ (o : Opening) (s : State) (w : Face) (shows : ShowsState o s w) (cohere
         by_stop (inr large) =
             let stops : (whole s w c).stopped ≡ Some (record { look = look.Image; refusal = refusal.Image too_large }) =
             ap (λ (t : Told). t.stopped) held_is
-            ∙ ap (λ (why : Option ImageStop). image_stop s.table c.node_name q (sight_by why (header_of bytes).size (is_some (header_of bytes).name))) large.1 in
+            ∙ ap (λ (why : Option ImageStop). unfit_image s.table c.node_name q (sight_by why (header_of bytes).size (is_some (header_of bytes).name))) large.1 in
             record { whole_is = held_is; size = size_is; length = length_is; may = large-may new (known ∙ ap (λ (n : Option ℕ). Some (Blank new n)) large.0) stops }
 
     measure : (bytes : List ℕ) → held w under.file ≡ Some bytes → IsMeasured bytes ⊎ IsUsed
@@ -391,7 +391,7 @@ module _ (o : Opening) (s : State) (w : Face) (shows : ShowsState o s w) (cohere
             })
 
     -- a used file refuses before the look
-    lost-so : file_state s.table under.file ≡ Some Used → NoneHolds s.table untold (quiet_part (add_asks c)) → ⊥
+    lost-so : file_state s.table under.file ≡ Some Used → NoneHolds s.table told_none (quiet_part (add_asks c)) → ⊥
     unfolding holds
     lost-so used none =
         let front : List Asking =
@@ -400,7 +400,7 @@ module _ (o : Opening) (s : State) (w : Face) (shows : ShowsState o s w) (cohere
         ask.Found (Some name) ∷ ask.Found (backing_name q.backing) ∷ ask.FreshNode (Some c.node_name) ∷ ask.RoomForNodes 1 ∷ ask.Drives (Some name) drivers.File
         ∷ ask.Drives (backing_name q.backing) drivers.FileRawOrQcow2 ∷ ask.KnownUnder name false ∷ [] in
         let cut : quiet_part (add_asks c) ≡ front ++ rest = rw (e, f) refl in
-        let all : NoneHolds s.table untold rest = none-behind s.table untold front rest (subst (NoneHolds s.table untold) cut none) in
+        let all : NoneHolds s.table told_none rest = none-behind s.table told_none front rest (subst (NoneHolds s.table told_none) cut none) in
         let here : if_there (λ row. lost s.table false (name_of_file row)) (file_node s.table name) ≡ None = all.1.1.1.1.1.1.0 in
         let refuses : Some (refusal.FileUsed under.file) ≡ None =
         sym (ap (λ (found : Option NodeRecord). if_there (λ row. lost s.table false (name_of_file row)) found) under.file_row
@@ -408,16 +408,16 @@ module _ (o : Opening) (s : State) (w : Face) (shows : ShowsState o s w) (cohere
         ∙ ap (λ (state : Option FileState). refused (is_lost false state) (refusal.FileUsed under.file)) used) ∙ here in
         cc refuses
 
-    used-past : IsUsed → refusal_of s.table (probe look.Image) (command.BlockdevAdd c) ≢ Some refusal.Aborted
+    used-past : IsUsed → refusal_to s.table (probe look.Image) (command.BlockdevAdd c) ≢ Some refusal.Aborted
     used-past is aborts = by_turn (out_of_turn false s.table.negotiated) refl (sym (refusal-is s.table (probe look.Image) c) ∙ aborts)
       where
-        by_first : (found : Option Refusal) → first s.table (probe look.Image) (add_asks c) ≡ found → or_else found (broken s.table c) ≡ Some refusal.Aborted → ⊥
+        by_first : (found : Option Refusal) → first_unmet_ask s.table (probe look.Image) (add_asks c) ≡ found → or_else found (broken s.table c) ≡ Some refusal.Aborted → ⊥
         by_first None at bad = stop-refuses s.table (probe look.Image) look.Image refusal.Aborted (add_asks c) refl has at
         by_first (Some cause) at same =
-            lost-so is.used (reached s.table look.Image (add_asks c) (looks-named c q name e f) (at ∙ same) untold)
+            lost-so is.used (reached s.table look.Image (add_asks c) (looks-named c q name e f) (at ∙ same) told_none)
 
-        by_turn : (turn : Option Refusal) → out_of_turn false s.table.negotiated ≡ turn → or_else turn (or_else (first s.table (probe look.Image) (add_asks c)) (broken s.table c)) ≡ Some refusal.Aborted → ⊥
-        by_turn None at rest = by_first (first s.table (probe look.Image) (add_asks c)) refl rest
+        by_turn : (turn : Option Refusal) → out_of_turn false s.table.negotiated ≡ turn → or_else turn (or_else (first_unmet_ask s.table (probe look.Image) (add_asks c)) (broken s.table c)) ≡ Some refusal.Aborted → ⊥
+        by_turn None at rest = by_first (first_unmet_ask s.table (probe look.Image) (add_asks c)) refl rest
         by_turn (Some cause) at same = by_negotiated s.table.negotiated at same
           where
             by_negotiated : (b : Bool) → out_of_turn false b ≡ Some cause → Some cause ≡ Some refusal.Aborted → ⊥
@@ -426,21 +426,21 @@ module _ (o : Opening) (s : State) (w : Face) (shows : ShowsState o s w) (cohere
 
     -- ---- its device
 
-    module _ (device : DeviceState) (in_nodes : device_in w.nodes.devices node ≡ Some device) where
+    module _ (device : DeviceSeen) (in_nodes : device_in w.nodes.devices node ≡ Some device) where
       holds-device : held w under.file ≡ device.content
       holds-device =
           let over : node_over s.table under.file ≡ Some under.row.id = over-one s.table under.row under.file shows.stands.stands.table.alone under.there under.filename in
-          let over_w : node_over w.table under.file ≡ Some node = ap (λ (t : Table). node_over t under.file) (sym shows.table.table_is) ∙ over ∙ ap (λ (n : ℕ). Some n) under.id_is in
-          ap (held_by w under.file) over_w ∙ ap (option_and_then (λ (d : DeviceState). d.content)) in_nodes
+          let over_w : node_over w.table under.file ≡ Some node = ap (λ (t : RunTable). node_over t under.file) (sym shows.table.table_is) ∙ over ∙ ap (λ (n : ℕ). Some n) under.id_is in
+          ap (held_in_file w under.file) over_w ∙ ap (option_and_then (λ (d : DeviceSeen). d.content)) in_nodes
 
       bytes-of : (bytes : List ℕ) × (device.content ≡ Some bytes)
       bytes-of =
           some-content device.content
-          (tell (ap is_some told_files) device (find-Some (is_of node) w.nodes.devices device in_nodes).0)
+          (tell (ap is_some told_files) device (find-Some (is_device_of node) w.nodes.devices device in_nodes).0)
 
       -- it was opened
       seen-well : (image : Image) (told : Told) → ((bytes : List ℕ) → device.content ≡ Some bytes → IsImageOf bytes image)
-          → told ≡ told_as None (Some image.header.size) (image_stop s.table c.node_name q (opened_sight image.header)) → IsSeenHeld s w c told
+          → told ≡ told_record None (Some image.header.size) (unfit_image s.table c.node_name q (opened_sight image.header)) → IsSeenHeld s w c told
       seen-well image told known is = elim (measure bytes-of.0 (holds-device ∙ bytes-of.1)) [
         | inl m ↦
             let its = known bytes-of.0 bytes-of.1 in
@@ -453,7 +453,7 @@ module _ (o : Opening) (s : State) (w : Face) (shows : ShowsState o s w) (cohere
 
       -- or refused, or a read of it failed
       seen-badly : (cause : ImageStop) (told : Told) → cause ≢ stop.NoMemory → ((bytes : List ℕ) → device.content ≡ Some bytes → Names (image_refusal bytes) cause)
-          → told ≡ told_as None None (Some (record { look = look.Image; refusal = unopened device.number cause })) → IsSeenHeld s w c told
+          → told ≡ told_record None None (Some (record { look = look.Image; refusal = unopened device.number cause })) → IsSeenHeld s w c told
       seen-badly cause told memory named is = elim (measure bytes-of.0 (holds-device ∙ bytes-of.1)) [
         | inl m ↦ by_io m (is-io cause)
         | inr used ↦ past-look told (ap (λ (t : Told). t.mapped) is) (used-past used) used.may
@@ -493,7 +493,7 @@ module _ (o : Opening) (s : State) (w : Face) (shows : ShowsState o s w) (cohere
               by_found : (found : Option FileSight) → AreThere (image_told s.table c.node_name name q found).stopped × IsBehind (image_told s.table c.node_name name q found).stopped
               by_found None = (tt, tt)
               by_found (Some x) =
-                  subst (λ (b : Bool). AreThere (cond b (told-of x.image) (told_as None None None)).stopped × IsBehind (cond b (told-of x.image) (told_as None None None)).stopped) (sym under.free)
+                  subst (λ (b : Bool). AreThere (cond b (told-of x.image) (told_record None None None)).stopped × IsBehind (cond b (told-of x.image) (told_record None None None)).stopped) (sym under.free)
                   (there-inside s.table c.node_name q x.image, behind-inside s.table c.node_name q x.image)
 
               expects-inside : AreThere (expects s c).stopped × IsBehind (expects s c).stopped
@@ -505,7 +505,7 @@ module _ (o : Opening) (s : State) (w : Face) (shows : ShowsState o s w) (cohere
               stops ∙ ap (λ (r : Refusal). Some (record { look = look.Image; refusal = r })) why in
               let held_stops : (whole s w c).stopped ≡ Some (record { look = look.Image; refusal = refusal.Image cause }) =
               ap (λ (t : Told). t.stopped) m.whole_is
-              ∙ ap (λ (x : Option ImageStop). let i : ImageSight = record { stop = x; size = (header_of bytes-of.0).size; names_backing = is_some (header_of bytes-of.0).name } in image_stop s.table c.node_name q i) found in
+              ∙ ap (λ (x : Option ImageStop). let i : ImageSight = record { stop = x; size = (header_of bytes-of.0).size; names_backing = is_some (header_of bytes-of.0).name } in unfit_image s.table c.node_name q i) found in
               seen-stopped s w c told look.Image (refusal.Image cause) mapped same has (subst (MayBeTold s w c) (held_stops ∙ sym same) m.may)
 
   -- ---- the whole
@@ -517,10 +517,10 @@ module _ (o : Opening) (s : State) (w : Face) (shows : ShowsState o s w) (cohere
 
   -- in any case
   module _ (node : ℕ) (under : IsFree s.table name node) where
-    by-none : (st : State) → st.table ≡ s.table → content_in st.files under.file ≡ None → expects st c ≡ untold
+    by-none : (st : State) → st.table ≡ s.table → content_in st.files under.file ≡ None → expects st c ≡ told_none
     by-none st same none =
         expects-at st
-        ∙ ap (λ (t : Table). image_told t c.node_name name q (option_map sight_of (option_and_then (content_in st.files) (file_of_ref t (file_ref.Name name))))) same
+        ∙ ap (λ (t : RunTable). image_told t c.node_name name q (option_map sight_of (option_and_then (content_in st.files) (file_of_ref t (file_ref.Name name))))) same
         ∙ ap (λ (x : Option (List ℕ)). image_told s.table c.node_name name q (option_map sight_of (option_and_then (content_in st.files) x))) (file-at node under)
         ∙ ap (λ (x : Option Content). image_told s.table c.node_name name q (option_map sight_of x)) none
 
@@ -563,11 +563,11 @@ module _ (o : Opening) (s : State) (w : Face) (shows : ShowsState o s w) (cohere
       let under = free-of s.table shows.stands.stands.table name bad.node bad.free in
       let same : bad.stopped.before ≡ bad.device = cc (sym bad.stopped.held ∙ bad.held) in
       seen-badly bad.node under bad.device bad.held bad.cause told bad.memory
-      (λ bytes content. bad.stopped.on.named bytes (ap (λ (d : DeviceState). d.content) same ∙ content)) bad.is
+      (λ bytes content. bad.stopped.on.named bytes (ap (λ (d : DeviceSeen). d.content) same ∙ content)) bad.is
 
-pub seen-under : (o : Opening) (s : State) (w : Face) → ShowsState o s w → IsCoherent w.table w.nodes w.opened w.progress → DevicesTell w.files w.nodes.devices → (files : List File)
+pub seen-under : (o : Opening) (s : State) (w : WorldSeen) → ShowsState o s w → IsCoherent w.table w.nodes w.opened w.progress → DevicesTell w.files w.nodes.devices → (files : List File)
     → w.files ≡ Some files → (c : Adding) (q : AddQcow2 (List ℕ)) (name : List ℕ) → c.driver ≡ added.Qcow2 q → q.file ≡ file_ref.Name name → (now : Nodes) (image : Option Image)
     (told : Told) → LooksUnder w.table c q name w.nodes now image told → IsSeenHeld s w c told
 seen-under o s w shows coherent tell files told_files c q name e f now image told looks =
     by-look o s w shows coherent tell files told_files c q name e f now image told
-    (subst (λ (t : Table). LooksUnder t c q name w.nodes now image told) (sym shows.table.table_is) looks)
+    (subst (λ (t : RunTable). LooksUnder t c q name w.nodes now image told) (sym shows.table.table_is) looks)

@@ -6,14 +6,14 @@ use Rattle.blk_base.specs.Files.{is_out}
 use Rattle.blk_base.specs.declared.file.Opened.{Opened}
 use Rattle.blk_graph.specs.declared.edge.Edge.{Edge}
 use Rattle.blk_graph.specs.declared.kind.Kind.TheVariants as kinds
-use Rattle.blk_graph.specs.Graph.{ids as ids_in}
+use Rattle.blk_graph.specs.Graph.{ids}
 use Rattle.blk_graph.specs.Ids.{IsLowestFree, lowest_free}
 use Rattle.blk_graph.proofs.Members.{find-Some}
 use Rattle.q2_image.specs.Image.{Known}
-use Rattle.blk_nodes.specs.Adding.{raw_row as part_row}
-use Rattle.blk_nodes.specs.Contents.{below, bytes_of, disk_of}
+use Rattle.blk_nodes.specs.Adding.{raw_row}
+use Rattle.blk_nodes.specs.Contents.{disk_under, bytes_of, disk_of}
 use Rattle.blk_nodes.specs.Joined.{IsJoined}
-use Rattle.blk_nodes.specs.Nodes.{Nodes, size_of as node_size}
+use Rattle.blk_nodes.specs.Nodes.{Nodes, node_size}
 use Rattle.blk_nodes.specs.Overlays.{backing_node, copying_row, qcow2_row}
 use Rattle.blk_nodes.specs.declared.row.Row.{Row}
 use Rattle.q2_format.specs.Contents.{image_disk, raw_disk}
@@ -24,11 +24,11 @@ use Rattle.qmp_codec.specs.declared.nodes.Added.TheVariants as added
 use Rattle.qmp_codec.specs.declared.nodes.FileRef.{FileRef}
 use Rattle.qmp_codec.specs.declared.nodes.FileRef.TheVariants as file_ref
 use Rattle.qmp_codec.specs.declared.nodes.InlineFile.{InlineFile}
-use Rattle.qmp_rules.specs.Answers.{refusal_of}
+use Rattle.qmp_rules.specs.Answers.{refusal_to}
 use Rattle.qmp_rules.specs.Changes.{all_changed, changed}
-use Rattle.qmp_rules.specs.Edits.{file_row, format_row, free_id, image_row, inline_row, length_told, next_free_id, qcow2_edits, raw_edits, raw_row}
+use Rattle.qmp_rules.specs.Edits.{file_row, format_row, free_id, image_row, inline_row, length_told, next_free_id, qcow2_edits, raw_edits, raw_record}
 use Rattle.qmp_asks.specs.NodeAsks.{backing_name, is_read_only}
-use Rattle.qmp_rules.specs.Table.{Table, id_named, kinds_of, node_at, node_named}
+use Rattle.qmp_rules.specs.Table.{RunTable, id_named, kinds_of, node_by_id, node_named}
 use Rattle.qmp_asks.specs.Values.{most_length, part_size}
 use Rattle.qmp_rules.specs.declared.change.Change.TheVariants.{AddFile, AddFilter, AddFormat}
 use Rattle.qmp_rules.specs.declared.rows.NodeRecord.{NodeRecord}
@@ -74,7 +74,7 @@ fresh-of old now filename first device told out same length_is short = record {
 
 -- ---- no edge leads to a node that was just added
 
-pub lone-then : (t : Table) (row : NodeRecord) → ((edge : Edge) → Contains t.edges edge → edge.child ≢ row.id)
+pub lone-then : (t : RunTable) (row : NodeRecord) → ((edge : Edge) → Contains t.edges edge → edge.child ≢ row.id)
     → (edge : Edge) → Contains (changed t (AddFile row)).edges edge → edge.child ≢ row.id
 unfolding changed
 lone-then t row away edge there = λ same.
@@ -83,7 +83,7 @@ lone-then t row away edge there = λ same.
 
 -- ---- by the driver
 
-module _ (t : Table) (told : Told) (c : Adding) (none : refusal_of t told (command.BlockdevAdd c) ≡ None) (old now : StoreInRun)
+module _ (t : RunTable) (told : Told) (c : Adding) (none : refusal_to t told (command.BlockdevAdd c) ≡ None) (old now : StoreInRun)
     (before nodes new : Nodes) (p : Progress) (was : Middle t nodes old.opened p) (out_before : AreOut t before old.opened) (apart : AreApart t)
     (joined : IsJoined nodes) where
   -- what is known of the device of a command, by the file that it names
@@ -92,13 +92,13 @@ module _ (t : Table) (told : Told) (c : Adding) (none : refusal_of t told (comma
   FreshFor file out = now.opened ≡ old.opened
 
   -- the id that the table gives is that of the new node
-  pub id-is : length t.nodes + 1 ≤ 64 → (id : ℕ) → IsLowestFree (ids_in nodes.graph) id → id ≡ free_id t
-  id-is room id lowest = lowest-same (ids_in nodes.graph) id (free_id t) lowest (free-lowest t nodes was.alike joined (omega (arith, room)))
+  pub id-is : length t.nodes + 1 ≤ 64 → (id : ℕ) → IsLowestFree (ids nodes.graph) id → id ≡ free_id t
+  id-is room id lowest = lowest-same (ids nodes.graph) id (free_id t) lowest (free-lowest t nodes was.alike joined (omega (arith, room)))
 
   inside : (at : Opens) → OpensAs c at → is_out at.filename old.opened ≡ false
   inside at opener = closed-in t before old.opened at.filename out_before (unopened-not t told c none at opener)
 
-  by-name : (name : List ℕ) (row : NodeRecord) → node_named t name ≡ Some row → node_at t row.id ≡ Some row
+  by-name : (name : List ℕ) (row : NodeRecord) → node_named t name ≡ Some row → node_by_id t row.id ≡ Some row
   by-name name row found = apart row (find-Some (λ (r : NodeRecord). bytes_eq r.name name) t.nodes row found).0
 
   -- a `file` node alone
@@ -122,7 +122,7 @@ module _ (t : Table) (told : Told) (c : Adding) (none : refusal_of t told (comma
     abbrev row1 : NodeRecord
     row1 = inline_row t told c.node_name file
 
-    abbrev t1 : Table
+    abbrev t1 : RunTable
     t1 = changed t (AddFile row1)
 
     under-is : under ≡ free_id t
@@ -144,13 +144,13 @@ module _ (t : Table) (told : Told) (c : Adding) (none : refusal_of t told (comma
     unfolding changed
     rows1 = refl
 
-    pub next1 : (id : ℕ) → IsLowestFree (ids_in between.graph) id → id ≡ next_free_id t
+    pub next1 : (id : ℕ) → IsLowestFree (ids between.graph) id → id ≡ next_free_id t
     next1 id lowest =
         let more : length t1.nodes ≡ length t.nodes + 1 = ap length rows1 ∙ length-append t.nodes (row1 ∷ []) in
-        lowest-same (ids_in between.graph) id (free_id t1) lowest (free-lowest t1 between whole-inline.alike has.joined (omega (arith, more, room)))
+        lowest-same (ids between.graph) id (free_id t1) lowest (free-lowest t1 between whole-inline.alike has.joined (omega (arith, more, room)))
         ∙ ap lowest_free (ap (map id_of) rows1 ∙ map-append id_of t.nodes (row1 ∷ []))
 
-    pub fresh1 : node_at t1 (next_free_id t) ≡ None
+    pub fresh1 : node_by_id t1 (next_free_id t) ≡ None
     fresh1 = ap (find (λ (r : NodeRecord). r.id == next_free_id t)) rows1 ∙ next_fresh t row1 refl room
 
   pub whole-part : (raw : AddRaw (List ℕ)) (file : FileRef (List ℕ)) → c.driver ≡ added.Raw raw → raw.file ≡ file → (out : Option Taken)
@@ -161,8 +161,8 @@ module _ (t : Table) (told : Told) (c : Adding) (none : refusal_of t told (comma
       let room : length t.nodes + 1 ≤ 64 = room-left t told 1 rest.1.1.0 in
       let row = has.row in
       let lone = lone-node t told name row has.found rest.1.1.1.1.1.1.1.0 in
-      let new_row : NodeRecord = raw_row (free_id t) c.node_name row.size (is_read_only c.options) raw in
-      let own : Row = part_row (part_in raw row.size) (is_read_only c.options) in
+      let new_row : NodeRecord = raw_record (free_id t) c.node_name row.size (is_read_only c.options) raw in
+      let own : Row = raw_row (part_in raw row.size) (is_read_only c.options) in
       let has' = subst (HasOver c.node_name own row.id None (raw_disk (part_in raw row.size).start (part_in raw row.size).len (disk_of nodes row.id)) nodes new)
       (id-is room has.node has.next.lowest) has.next in
       rw has.found
@@ -177,8 +177,8 @@ module _ (t : Table) (told : Told) (c : Adding) (none : refusal_of t told (comma
       let closed = inside (record { filename = file.filename; what = look.Begin }) (AsPart raw file e f refl refl) in
       let first = whole-inline file device fresh has.between has.under has.first room closed in
       let size : length_told told ≡ device.size = ap (λ (n : Option ℕ). unwrap_or n 0) fresh.length_is in
-      let new_row : NodeRecord = raw_row (next_free_id t) c.node_name (length_told told) (is_read_only c.options) raw in
-      let own : Row = part_row (part_in raw device.size) (is_read_only c.options) in
+      let new_row : NodeRecord = raw_record (next_free_id t) c.node_name (length_told told) (is_read_only c.options) raw in
+      let own : Row = raw_row (part_in raw device.size) (is_read_only c.options) in
       let part_is : new_row.size ≡ own.size = ap (part_size raw.offset raw.size) size in
       let next' = subst (HasOver c.node_name own has.under None (raw_disk (part_in raw device.size).start (part_in raw device.size).len (disk_of has.between has.under)) has.between new)
       (next1 file device fresh has.between has.under has.first room closed has.node has.next.lowest) has.next in
@@ -202,9 +202,9 @@ module _ (t : Table) (told : Told) (c : Adding) (none : refusal_of t told (comma
       let own : Row = qcow2_row image (is_read_only c.options) in
       let size : new_row.size ≡ own.size = ap (λ (n : Option ℕ). unwrap_or n 0) (sized image refl) in
       let over : Option ℕ = option_and_then (id_named t) (backing_name qcow2.backing) in
-      let next' = subst (λ (b : Option ℕ). HasOver c.node_name own row.id b (image_disk (bytes_of nodes row.id) (below (disk_of nodes) (backing_node (backing_for t qcow2.backing)))) nodes new has.node)
+      let next' = subst (λ (b : Option ℕ). HasOver c.node_name own row.id b (image_disk (bytes_of nodes row.id) (disk_under (disk_of nodes) (backing_node (backing_for t qcow2.backing)))) nodes new has.node)
       (backing-same t qcow2.backing) has.next in
-      let has' = subst (HasOver c.node_name own row.id over (image_disk (bytes_of nodes row.id) (below (disk_of nodes) (backing_node (backing_for t qcow2.backing)))) nodes new)
+      let has' = subst (HasOver c.node_name own row.id over (image_disk (bytes_of nodes row.id) (disk_under (disk_of nodes) (backing_node (backing_for t qcow2.backing)))) nodes new)
       (id-is room has.node has.next.lowest) next' in
       rw has.found
       (subst (λ (o : List Opened). Middle (changed t (AddFormat new_row row.id over)) new o p) (sym fresh)
@@ -219,7 +219,7 @@ module _ (t : Table) (told : Told) (c : Adding) (none : refusal_of t told (comma
       let own : Row = qcow2_row image (is_read_only c.options) in
       let size : new_row.size ≡ own.size = ap (λ (n : Option ℕ). unwrap_or n 0) (sized image refl) in
       let over : Option ℕ = option_and_then (id_named t) (backing_name qcow2.backing) in
-      let bytes : List ℕ = image_disk (bytes_of has.between has.under) (below (disk_of has.between) (backing_node (backing_for t qcow2.backing))) in
+      let bytes : List ℕ = image_disk (bytes_of has.between has.under) (disk_under (disk_of has.between) (backing_node (backing_for t qcow2.backing))) in
       let next1' = subst (λ (b : Option ℕ). HasOver c.node_name own has.under b bytes has.between new has.node) (backing-same t qcow2.backing) has.next in
       let next2' = subst (HasOver c.node_name own has.under over bytes has.between new)
       (next1 file device fresh has.between has.under has.first room closed has.node has.next.lowest) next1' in

@@ -7,7 +7,7 @@ use Rattle.std.proofs.lemmas.List.Elements.{All-weaker}
 use Rattle.blk_history.specs.declared.event.Event.{Event}
 use Rattle.qmp_codec.specs.Commands.{Cmd}
 use Rattle.qmp_codec.specs.Lines.{Stop}
-use Rattle.qmp_rules.specs.Table.{Table}
+use Rattle.qmp_rules.specs.Table.{RunTable}
 use Rattle.flat_machine.specs.State.{State}
 use Rattle.flat_machine.specs.Machine.{replay}
 use Rattle.flat_machine.specs.Opening.{start}
@@ -20,7 +20,7 @@ use Rattle.flat_machine.proofs.Kept.{changes_keep}
 use Rattle.flat_machine.proofs.ImagesChanged.{all_images_keep}
 use Rattle.flat_machine.proofs.ImagesKept.{sound_same}
 use Rattle.world_parts.specs.Progress.{Progress, ended_in}
-use Rattle.world_parts.specs.Face.{Face, first_counts, counts_now, contents_of, dirty_of, held}
+use Rattle.world_parts.specs.Face.{WorldSeen, first_counts, counts_now, contents_of, dirty_of, held}
 use Rattle.world_commands.specs.Comes.{Comes, ShowsState}
 use Rattle.world_commands.specs.Tabling.{IsTableAfter}
 use Rattle.world_commands.specs.Carrying.{IsPutBack, IsPutBackBy, IsPutBackIn}
@@ -28,7 +28,7 @@ use Rattle.blk_world.proofs.AddQuiet.{quiet-called}
 use Rattle.world_commands.proofs.CountLemmas.{between-on}
 use Rattle.world_commands.proofs.Placed.{put_back, put_back_by, put_back_in}
 
-module _ (w v : Face) (is : IsPutBack w v) (o : Opening) (comes : Comes o w) where
+module _ (w v : WorldSeen) (is : IsPutBack w v) (o : Opening) (comes : Comes o w) where
   still-shows : is_some w.files ≡ true → (s : State) → ShowsState o s w → ShowsState o s v
   still-shows told s shows =
       let now = changes_keep (bytes_named o.files) [] s (contents_of w) (contents_of v) tt (quiet-called w v is.files is.table is.called) shows.contents in
@@ -66,14 +66,14 @@ module _ (w v : Face) (is : IsPutBack w v) (o : Opening) (comes : Comes o w) whe
   pub put_back_comes : Comes o v
   put_back_comes = record {
     history = record {
-      guests_are = ap (λ (t : Table). t.guests) is.table ∙ comes.history.guests_are;
+      guests_are = ap (λ (t : RunTable). t.guests) is.table ∙ comes.history.guests_are;
       licensed = subst (λ (es : List Event). AreLicensed (first_counts v) (counts_now v) es) (sym same-events) still-licensed;
       history = λ told. subst (λ (es : List Event). IsHistoryOf o es) (sym same-events) (comes.history.history (sym is.runs.told ∙ told));
     };
     counted = let was = comes.counted in let first = is.runs.first in let now = is.runs.store in omega arith;
     requests = ap (λ (p : Progress). p.guests) is.progress ∙ comes.requests ∙ ap (guests_after o) (sym same-events);
     table =
-        subst (λ (t : Table). IsTableAfter o.guests v.progress.log.events t (dirty_of v)) (sym is.table)
+        subst (λ (t : RunTable). IsTableAfter o.guests v.progress.log.events t (dirty_of v)) (sym is.table)
         (subst (λ (bitmaps : List Bitmap). IsTableAfter o.guests v.progress.log.events w.table (map dirty_in bitmaps)) (sym is.bitmaps)
         (subst (λ (es : List Event). IsTableAfter o.guests es w.table (dirty_of w)) (sym same-events) comes.table));
     coherent = is.coherent comes.coherent;
@@ -84,35 +84,35 @@ module _ (w v : Face) (is : IsPutBack w v) (o : Opening) (comes : Comes o w) whe
   }
 
 -- an error before anything was called
-pub put_back_on : {T E : Type 0} (r : Result T E) (w : Face) → OnErr r (IsPutBack w w)
+pub put_back_on : {T E : Type 0} (r : Result T E) (w : WorldSeen) → OnErr r (IsPutBack w w)
 put_back_on (Ok value) w = tt
 put_back_on (Err e) w = put_back w
 
-pub unmoved_on : {T E : Type 0} (r : Result T E) (w : Face) → OnErr r (w ≡ w)
+pub unmoved_on : {T E : Type 0} (r : Result T E) (w : WorldSeen) → OnErr r (w ≡ w)
 unmoved_on (Ok value) w = tt
 unmoved_on (Err e) w = refl
 
-pub back_by_on : {T E : Type 0} (r : Result T E) (w : Face) (c : Cmd) → OnErr r (IsPutBackBy w w c)
+pub back_by_on : {T E : Type 0} (r : Result T E) (w : WorldSeen) (c : Cmd) → OnErr r (IsPutBackBy w w c)
 back_by_on (Ok value) w c = tt
 back_by_on (Err e) w c = put_back_by w c
 
-pub back_in_on : {T E : Type 0} (r : Result T E) (w : Face) (line : Result Cmd Stop) → OnErr r (IsPutBackIn w w line)
+pub back_in_on : {T E : Type 0} (r : Result T E) (w : WorldSeen) (line : Result Cmd Stop) → OnErr r (IsPutBackIn w w line)
 back_in_on (Ok value) w line = tt
 back_in_on (Err e) w line = put_back_in w line
 
 -- an error of a command, and of another line
-pub back_of : {T E : Type 0} (r : Result T E) (w v : Face) (c : Cmd) → OnErr r (IsPutBackBy w v c) → OnErr r (IsPutBack w v)
+pub back_of : {T E : Type 0} (r : Result T E) (w v : WorldSeen) (c : Cmd) → OnErr r (IsPutBackBy w v c) → OnErr r (IsPutBack w v)
 back_of (Ok value) w v c is = is
 back_of (Err e) w v c is = is.back
 
-pub back_in : {T E : Type 0} (r : Result T E) (w v : Face) (c : Cmd) (line : Result Cmd Stop) → line ≡ Ok c → OnErr r (IsPutBackBy w v c)
+pub back_in : {T E : Type 0} (r : Result T E) (w v : WorldSeen) (c : Cmd) (line : Result Cmd Stop) → line ≡ Ok c → OnErr r (IsPutBackBy w v c)
     → OnErr r (IsPutBackIn w v line)
 back_in r w v c line read is = subst (λ (l : Result Cmd Stop). OnErr r (IsPutBackIn w v l)) (sym read) is
 
-pub still_back : {T E : Type 0} (r : Result T E) (w v : Face) → OnErr r (v ≡ w) → OnErr r (IsPutBack w v)
+pub still_back : {T E : Type 0} (r : Result T E) (w v : WorldSeen) → OnErr r (v ≡ w) → OnErr r (IsPutBack w v)
 still_back (Ok value) w v same = same
 still_back (Err e) w v same = subst (IsPutBack w) (sym same) (put_back w)
 
-pub still_in : {T E : Type 0} (r : Result T E) (w v : Face) (why : Stop) (line : Result Cmd Stop) → line ≡ Err why → OnErr r (v ≡ w)
+pub still_in : {T E : Type 0} (r : Result T E) (w v : WorldSeen) (why : Stop) (line : Result Cmd Stop) → line ≡ Err why → OnErr r (v ≡ w)
     → OnErr r (IsPutBackIn w v line)
 still_in r w v why line read same = subst (λ (l : Result Cmd Stop). OnErr r (IsPutBackIn w v l)) (sym read) same

@@ -6,7 +6,7 @@ use Rattle.blk_base.specs.declared.fault.FaultAt.{FaultAt}
 use Rattle.blk_base.specs.declared.file.File.{File}
 use Rattle.blk_graph.specs.declared.kind.Kind.TheVariants.{Protocol}
 use Rattle.blk_nodes.specs.Joined.{IsJoined, HasBelow}
-use Rattle.blk_nodes.specs.Nodes.{Nodes, DeviceState, AreTold, row_at, device_in, is_of, kind_of}
+use Rattle.blk_nodes.specs.Nodes.{Nodes, DeviceSeen, AreTold, row_at, device_in, is_device_of, driver_kind}
 use Rattle.blk_graph.proofs.Members.{find-Some}
 use Rattle.blk_history.specs.Fold.{With}
 use Rattle.flat_machine.specs.State.{filename_of}
@@ -14,22 +14,22 @@ use Rattle.blk_nodes.specs.declared.row.Driver.{Driver}
 use Rattle.blk_nodes.specs.declared.row.Driver.TheVariants as drivers
 use Rattle.blk_nodes.specs.declared.row.Row.{Row}
 use Rattle.qmp_rules.specs.declared.rows.NodeRecord.{NodeRecord}
-use Rattle.qmp_rules.specs.Table.{Table, node_at}
-use Rattle.world_commands.specs.Closing.{IsClosed, AreFlushed, AreNodesFlushed, IsFlushedIn}
+use Rattle.qmp_rules.specs.Table.{RunTable, node_by_id}
+use Rattle.world_commands.specs.Closing.{EndsWorld, AreFlushed, AreNodesFlushed, IsFlushedIn}
 use Rattle.world_parts.specs.Coherent.{IsCoherent, AreNodesOf, AreAlike}
-use Rattle.world_parts.specs.Face.{Face, held, told_bytes}
+use Rattle.world_parts.specs.Face.{WorldSeen, held, told_bytes}
 use Rattle.world_parts.specs.Steps.{StoreSeen}
 use Rattle.world_commands.proofs.CloseLemmas.{back-files}
 use Rattle.blk_world.proofs.CloseHeld.{held-is}
 
-is-file : (driver : Driver) → kind_of driver ≡ Protocol → driver ≡ drivers.File
+is-file : (driver : Driver) → driver_kind driver ≡ Protocol → driver ≡ drivers.File
 is-file drivers.File is = refl
 is-file (drivers.Raw part) is = absurd (let bad : ⊥ = cc is in bad)
 is-file (drivers.Qcow2 image) is = absurd (let bad : ⊥ = cc is in bad)
 is-file drivers.CopyOnRead is = absurd (let bad : ⊥ = cc is in bad)
 
 -- a `file` node of the table has its device
-has-device : (t : Table) (nodes : Nodes) → AreNodesOf t nodes → IsJoined nodes → (row : NodeRecord) → node_at t row.id ≡ Some row → row.kind ≡ Protocol
+has-device : (t : RunTable) (nodes : Nodes) → AreNodesOf t nodes → IsJoined nodes → (row : NodeRecord) → node_by_id t row.id ≡ Some row → row.kind ≡ Protocol
     → IsSome (device_in nodes.devices row.id)
 has-device t nodes alike joined row found kind = by_row (row_at nodes row.id) refl (subst (λ r. AreAlike r (row_at nodes row.id)) found (alike.rows row.id))
   where
@@ -43,7 +43,7 @@ told-files : (files : Option (List File)) → is_some files ≡ true → (told :
 told-files None is = absurd (false≢true is)
 told-files (Some told) is = (told, refl)
 
-pub held-then : (w : Face) (store : StoreSeen) (fault : Option FaultAt) → IsClosed w store fault → IsJoined w.nodes → IsCoherent w.table w.nodes w.opened w.progress
+pub held-then : (w : WorldSeen) (store : StoreSeen) (fault : Option FaultAt) → EndsWorld w store fault → IsJoined w.nodes → IsCoherent w.table w.nodes w.opened w.progress
     → is_some w.files ≡ true → AreTold w.nodes.devices → (name : List ℕ) → told_bytes store.files name ≡ held w name
 held-then w store fault closed joined coherent told devices name =
     let files = told-files w.files told in
@@ -58,17 +58,17 @@ held-then w store fault closed joined coherent told devices name =
     by_name row there (Some n) is some = coherent.table.stands.drivers n row (record { there = there; filename = is })
 
 -- the file of each `file` node is that of its device
-pub nodes-flushed : (w : Face) (files : Option (List File)) → IsJoined w.nodes → IsCoherent w.table w.nodes w.opened w.progress → AreFlushed w files → AreNodesFlushed w.table files
-nodes-flushed w files joined coherent flushed node name named = by_row (node_at w.table node) refl
+pub nodes-flushed : (w : WorldSeen) (files : Option (List File)) → IsJoined w.nodes → IsCoherent w.table w.nodes w.opened w.progress → AreFlushed w files → AreNodesFlushed w.table files
+nodes-flushed w files joined coherent flushed node name named = by_row (node_by_id w.table node) refl
   where
-    by_device : (device : Option DeviceState) → device_in w.nodes.devices node ≡ device → IsSome device → With files (λ told. IsFlushedIn told name)
+    by_device : (device : Option DeviceSeen) → device_in w.nodes.devices node ≡ device → IsSome device → With files (λ told. IsFlushedIn told name)
     by_device None none there = absurd (false≢true there)
     by_device (Some device) is there =
-        let at = find-Some (is_of node) w.nodes.devices device is in
+        let at = find-Some (is_device_of node) w.nodes.devices device is in
         let same : device.node ≡ node = eqb-true device.node node at.1 in
         flushed device name at.0 (ap (filename_of w.table) same ∙ named)
 
-    by_row : (found : Option NodeRecord) → node_at w.table node ≡ found → With files (λ told. IsFlushedIn told name)
+    by_row : (found : Option NodeRecord) → node_by_id w.table node ≡ found → With files (λ told. IsFlushedIn told name)
     by_row None none = let bad : None ≡ Some name = sym (ap (option_and_then (λ (r : NodeRecord). r.filename)) none) ∙ named in let no : ⊥ = cc bad in absurd no
     by_row (Some row) found =
         let at = find-Some (λ (r : NodeRecord). r.id == node) w.table.nodes row found in
@@ -76,10 +76,10 @@ nodes-flushed w files joined coherent flushed node name named = by_row (node_at 
         let filename : row.filename ≡ Some name = sym (ap (option_and_then (λ (r : NodeRecord). r.filename)) found) ∙ named in
         let kind = coherent.table.stands.drivers name row (record { there = at.0; filename = filename }) in
         by_device (device_in w.nodes.devices node) refl
-        (subst (λ (n : ℕ). IsSome (device_in w.nodes.devices n)) id (has-device w.table w.nodes coherent.alike joined row (ap (node_at w.table) id ∙ found) kind))
+        (subst (λ (n : ℕ). IsSome (device_in w.nodes.devices n)) id (has-device w.table w.nodes coherent.alike joined row (ap (node_by_id w.table) id ∙ found) kind))
 
 -- they are still told
-pub told-then : (w : Face) (store : StoreSeen) (fault : Option FaultAt) → IsClosed w store fault → IsCoherent w.table w.nodes w.opened w.progress
+pub told-then : (w : WorldSeen) (store : StoreSeen) (fault : Option FaultAt) → EndsWorld w store fault → IsCoherent w.table w.nodes w.opened w.progress
     → is_some w.files ≡ true → AreTold w.nodes.devices → is_some store.files ≡ true
 told-then w store fault closed coherent told devices =
     let files = told-files w.files told in

@@ -6,9 +6,9 @@ use Rattle.qmp_codec.specs.declared.command.Command.TheVariants as command
 use Rattle.qmp_codec.specs.declared.nodes.Snapshot.{Snapshot}
 use Rattle.qmp_rules.specs.declared.refusal.Refusal.{Refusal}
 use Rattle.qmp_rules.specs.declared.told.Told.{Told}
-use Rattle.qmp_rules.specs.Answers.{Answer, answer, refusal_of}
+use Rattle.qmp_rules.specs.Answers.{Answer, answer, refusal_to}
 use Rattle.qmp_rules.specs.Changes.{all_changed}
-use Rattle.qmp_rules.specs.Table.{Table}
+use Rattle.qmp_rules.specs.Table.{RunTable}
 use Rattle.flat_machine.specs.Marks.{AreCalm, Drained, after_later, drained_by}
 use Rattle.flat_machine.specs.Sights.{MayMap}
 use Rattle.flat_machine.specs.State.{State}
@@ -21,7 +21,7 @@ use Rattle.world_commands.specs.Carrying.{IsCarried, IsCarriedAs, IsCarriedOut, 
 use Rattle.world_parts.specs.Coherent.{IsWholeWorld}
 use Rattle.world_commands.specs.Comes.{ShowsState}
 use Rattle.world_commands.specs.Detaching.{Scene, scene}
-use Rattle.world_parts.specs.Face.{Face, seen_state}
+use Rattle.world_parts.specs.Face.{WorldSeen, seen_state}
 use Rattle.world_parts.specs.Handling.{DoneIf}
 use Rattle.world_parts.specs.Saying.{IsSaid}
 use Rattle.world_commands.specs.Snapshots.{HasCovered, HasToBeLater, IsCoveredBy, IsSnapshot, TellsMappedAlone, is_snapshot}
@@ -30,19 +30,19 @@ use Rattle.world_commands.proofs.CoverCarried.{by_files, covering_done, late_in,
 use Rattle.blk_world.proofs.DetachedCarried.{staged, whole-drains}
 use Rattle.world_commands.proofs.Placed.{answer-is, put_back_by}
 
-module _ (w : Face) (whole : IsWholeWorld w) (joined : IsJoined w.nodes) (given : List ℕ) (y : Scene)
+module _ (w : WorldSeen) (whole : IsWholeWorld w) (joined : IsJoined w.nodes) (given : List ℕ) (y : Scene)
     (may : (c : Snapshot (List ℕ)) (told : Told) → TellsMappedAlone w.table w.nodes (command.BlockdevSnapshot c) told → (o : Opening) (s : State)
     → is_some w.files ≡ true → ShowsState o s w → MayMap s (c.overlay ∷ []) told.mapped) where
   abbrev x : Scene
   x = scene w.table w.nodes w.drains
 
-  abbrev v : Face
+  abbrev v : WorldSeen
   v = staged w y
 
-  abbrev Answered : Cmd → List ℕ → Face → Type 0
+  abbrev Answered : Cmd → List ℕ → WorldSeen → Type 0
   Answered c text f = IsCarriedAs w f given c text × IsWholeWorld f
 
-  said_so : (f : Face) (c : Snapshot (List ℕ)) (told : Told) (refusal : Option Refusal) (text : List ℕ) → f.bitmaps ≡ w.bitmaps
+  said_so : (f : WorldSeen) (c : Snapshot (List ℕ)) (told : Told) (refusal : Option Refusal) (text : List ℕ) → f.bitmaps ≡ w.bitmaps
       → ((is : IsCarried w f (command.BlockdevSnapshot c) refusal) × (is.told ≡ told))
       → IsSaid given (answer w.table told (command.BlockdevSnapshot c)).reply text → IsCarriedAs w f given (command.BlockdevSnapshot c) text
   said_so f c told refusal text bitmaps is said = record {
@@ -58,7 +58,7 @@ module _ (w : Face) (whole : IsWholeWorld w) (joined : IsJoined w.nodes) (given 
   by_refusal : (c : Snapshot (List ℕ)) (text : List ℕ) (told : Told) → TellsMappedAlone w.table w.nodes (command.BlockdevSnapshot c) told
       → IsSaid given (answer w.table told (command.BlockdevSnapshot c)).reply text
       → y.table ≡ all_changed w.table (answer w.table told (command.BlockdevSnapshot c)).changes
-      → (refusal : Option Refusal) → refusal_of w.table told (command.BlockdevSnapshot c) ≡ refusal
+      → (refusal : Option Refusal) → refusal_to w.table told (command.BlockdevSnapshot c) ≡ refusal
       → DoneIf refusal (IsCoveredBy w.table (command.BlockdevSnapshot c) w.nodes y.nodes) (y.nodes ≡ w.nodes)
       → (refusal ≡ None → AreCalm w.table w.progress.guests (drained_by w.table (command.BlockdevSnapshot c)))
       → Answered (command.BlockdevSnapshot c) text (record v { drains = w.drains })
@@ -70,8 +70,8 @@ module _ (w : Face) (whole : IsWholeWorld w) (joined : IsJoined w.nodes) (given 
       = ap (λ (a : Answer). a.changes) (answer-is w.table told (command.BlockdevSnapshot c) (Some cause) some) in
       let same_table : y.table ≡ w.table = table ∙ ap (all_changed w.table) changes in
       let same : w ≡ record v { drains = w.drains }
-      = ap (λ (n : Nodes). let f : Face = record w { nodes = n } in f) (sym kept)
-      ∙ ap (λ (t : Table). let f : Face = record w { nodes = y.nodes; table = t } in f) (sym same_table) in
+      = ap (λ (n : Nodes). let f : WorldSeen = record w { nodes = n } in f) (sym kept)
+      ∙ ap (λ (t : RunTable). let f : WorldSeen = record w { nodes = y.nodes; table = t } in f) (sym same_table) in
       let was = refused_covered w c told tells (may c told tells) cause some in
       subst (Answered (command.BlockdevSnapshot c) text) same
       (said_so w c told (Some cause) text refl was said, whole)
@@ -128,4 +128,4 @@ module _ (w : Face) (whole : IsWholeWorld w) (joined : IsJoined w.nodes) (given 
       where
         by_result : (r : Result Carried E) → OnErr r (y ≡ x) → OnErr r (IsPutBackBy w v c)
         by_result (Ok a) back = back
-        by_result (Err e) back = subst (λ (f : Face). IsPutBackBy w f c) (ap (staged w) (sym back)) (put_back_by w c)
+        by_result (Err e) back = subst (λ (f : WorldSeen). IsPutBackBy w f c) (ap (staged w) (sym back)) (put_back_by w c)

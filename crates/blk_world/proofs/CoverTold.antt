@@ -14,11 +14,11 @@ use Rattle.blk_nodes.specs.Joined.{IsJoined}
 use Rattle.blk_nodes.specs.Overlays.{IsFresh}
 use Rattle.world_parts.specs.Coherent.{IsWholeWorld}
 use Rattle.world_commands.specs.Comes.{ShowsState}
-use Rattle.world_parts.specs.Face.{Face}
+use Rattle.world_parts.specs.Face.{WorldSeen}
 use Rattle.world_commands.specs.Snapshots.{TellsMappedAlone}
 use Rattle.blk_world.proofs.ImageTold.{may_map}
 
-pub may_be_told : (w : Face) → IsWholeWorld w → IsJoined w.nodes → (c : Snapshot (List ℕ)) (told : Told)
+pub may_be_told : (w : WorldSeen) → IsWholeWorld w → IsJoined w.nodes → (c : Snapshot (List ℕ)) (told : Told)
     → TellsMappedAlone w.table w.nodes (command.BlockdevSnapshot c) told → (o : Opening) (s : State) → is_some w.files ≡ true → ShowsState o s w
     → MayMap s (c.overlay ∷ []) told.mapped
 may_be_told w whole joined c told tells o s some shows =

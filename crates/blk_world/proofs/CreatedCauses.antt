@@ -7,7 +7,7 @@ use Rattle.blk_base.specs.declared.fault.FaultFrom.TheVariants.{Dev}
 use Rattle.q2_format.specs.Created.{created_length}
 use Rattle.blk_graph.proofs.Members.{find-Some}
 use Rattle.blk_nodes.specs.Formatting.{HasFormatCause, IsFormatAt}
-use Rattle.blk_nodes.specs.Nodes.{DeviceState, device_in, is_of}
+use Rattle.blk_nodes.specs.Nodes.{DeviceSeen, device_in, is_device_of}
 use Rattle.blk_nodes.specs.Reading.{StoppedBy}
 use Rattle.blk_nodes.specs.declared.stop.FormatStop.{FormatStop}
 use Rattle.blk_nodes.specs.declared.stop.FormatStop.TheVariants as stop
@@ -19,7 +19,7 @@ use Rattle.qmp_codec.specs.declared.nodes.CreateQcow2.{CreateQcow2}
 use Rattle.qmp_codec.specs.declared.nodes.Created.{Created}
 use Rattle.qmp_codec.specs.declared.nodes.Created.TheVariants as created
 use Rattle.qmp_rules.specs.Asks.{id_or}
-use Rattle.qmp_rules.specs.Answers.{refusal_of}
+use Rattle.qmp_rules.specs.Answers.{refusal_to}
 use Rattle.qmp_rules.specs.Looks.{create_told}
 use Rattle.qmp_rules.specs.declared.refusal.Refusal.{Refusal}
 use Rattle.qmp_rules.specs.declared.refusal.Refusal.TheVariants as refusal
@@ -27,10 +27,10 @@ use Rattle.flat_machine.specs.EventLicence.{IsOfCreation}
 use Rattle.flat_machine.specs.Licence.{fault_at}
 use Rattle.world_commands.specs.Carrying.{IsCaused}
 use Rattle.world_parts.specs.Coherent.{AreOut}
-use Rattle.world_commands.specs.Counting.{IsNumbered, RunsOn, IsFaultReached, sources_of}
+use Rattle.world_commands.specs.Counting.{IsNumbered, RunsOn, IsFaultReached, seen_sources}
 use Rattle.world_parts.specs.Creating.{CanCreate, CanFormat, HasMakingFailed, HasFormatFailed, IsFailed, creation_for}
 use Rattle.world_parts.specs.Deleting.{ground_of}
-use Rattle.world_parts.specs.Face.{Face, counts_now}
+use Rattle.world_parts.specs.Face.{WorldSeen, counts_now}
 use Rattle.world_commands.proofs.CountLemmas.{numbered, reached-held}
 
 -- numbers of devices have 32 bits, and counts 64
@@ -39,14 +39,14 @@ FitsSo (refusal.Io source count) = IsNumbered source × (count ≤ 1844674407370
 FitsSo (refusal.NoSpace dev) = dev.0 < 2 ^ 32
 FitsSo cause = Unit {0}
 
-module _ (w v : Face) (c : BlockdevCreate (List ℕ)) (runs : RunsOn w v) (counted : w.first_faults ≤ w.faults)
+module _ (w v : WorldSeen) (c : BlockdevCreate (List ℕ)) (runs : RunsOn w v) (counted : w.first_faults ≤ w.faults)
     (opened : v.opened ≡ w.opened) (out : AreOut w.table w.nodes w.opened) (out_now : AreOut w.table v.nodes w.opened) where
   abbrev cmd : Created (List ℕ) → Cmd
   cmd options = command.BlockdevCreate (record c { options = options })
 
   -- nothing refuses it before any call
   abbrev IsUnrefused : Created (List ℕ) → Type 0
-  IsUnrefused options = refusal_of w.table (create_told options w.room) (cmd options) ≡ None
+  IsUnrefused options = refusal_to w.table (create_told options w.room) (cmd options) ≡ None
 
   -- ---- the store failed
 
@@ -76,8 +76,8 @@ module _ (w v : Face) (c : BlockdevCreate (List ℕ)) (runs : RunsOn w v) (count
     node_is : id_or 0 w.table (Some q.file) ≡ can.node
     node_is = ap (λ (o : Option ℕ). unwrap_or o 0) can.found
 
-    called-by : (before : DeviceState) → device_in w.nodes.devices (id_or 0 w.table (Some q.file)) ≡ Some before
-        → IsOfCreation w.table (sources_of w) (counts_now w) before.number.0 (created.Qcow2 q)
+    called-by : (before : DeviceSeen) → device_in w.nodes.devices (id_or 0 w.table (Some q.file)) ≡ Some before
+        → IsOfCreation w.table (seen_sources w) (counts_now w) before.number.0 (created.Qcow2 q)
     called-by before held =
         let at : device_in w.nodes.devices can.node ≡ Some before = subst (λ (n : ℕ). device_in w.nodes.devices n ≡ Some before) node_is held in
         rw can.found (rw at refl)
@@ -93,8 +93,8 @@ module _ (w v : Face) (c : BlockdevCreate (List ℕ)) (runs : RunsOn w v) (count
         let small = subst FitsSo same fits in
         let stopped : StoppedBy made.before made.after made.before.number count =
         subst (λ (d : DevNo). StoppedBy made.before made.after d count) named has.1 in
-        let there = (find-Some (is_of (id_or 0 w.table (Some q.file))) w.nodes.devices made.before made.held).0 in
-        let there_now = (find-Some (is_of (id_or 0 w.table (Some q.file))) v.nodes.devices made.after made.left).0 in
+        let there = (find-Some (is_device_of (id_or 0 w.table (Some q.file))) w.nodes.devices made.before made.held).0 in
+        let there_now = (find-Some (is_device_of (id_or 0 w.table (Some q.file))) v.nodes.devices made.after made.left).0 in
         let reached : IsFaultReached w v (fault_at (Dev made.before.number) count) =
         reached-held w v made.before made.after count runs opened out out_now there there_now made.formatted.number stopped small.1 in
         rw (same, named)
@@ -112,7 +112,7 @@ module _ (w v : Face) (c : BlockdevCreate (List ℕ)) (runs : RunsOn w v) (count
         subst (λ (s : FormatStop). HasFormatCause made.before made.after (created_length (creation_for q)) (Err s)) is made.formatted.cause in
         let named : dev ≡ made.before.number = has.1 in
         let small = subst FitsSo same fits in
-        let there = (find-Some (is_of (id_or 0 w.table (Some q.file))) w.nodes.devices made.before made.held).0 in
+        let there = (find-Some (is_device_of (id_or 0 w.table (Some q.file))) w.nodes.devices made.before made.held).0 in
         let found = numbered w.nodes.devices made.before out.once there in
         rw (same, named)
         (record {

@@ -7,16 +7,16 @@ use Rattle.blk_base.specs.declared.file.File.{File as StoreFile}
 use Rattle.blk_history.specs.Fold.{With}
 use Rattle.q2_format.specs.Created.{Creation}
 use Rattle.qmp_rules.specs.Asks.{stands_for}
-use Rattle.flat_machine.specs.Performing.{Makes, Nothing, IsFormatted, held_bytes, IsQuiet}
+use Rattle.flat_machine.specs.Performing.{ChangesFileAlone, Nothing, IsFormatted, held_bytes, IsQuiet}
 use Rattle.flat_machine.proofs.Finds.{same-bytes_eq, bytes_eq-other}
 use Rattle.blk_nodes.specs.Contents.{disk_of}
 use Rattle.blk_nodes.specs.Formatting.{IsFormatAt, HoldsAfter, HoldsImage}
-use Rattle.blk_nodes.specs.Nodes.{Nodes, DeviceState, AreTold, is_of, device_in}
+use Rattle.blk_nodes.specs.Nodes.{Nodes, DeviceSeen, AreTold, is_device_of, device_in}
 use Rattle.blk_nodes.specs.declared.stop.FormatStop.{FormatStop}
 use Rattle.blk_graph.proofs.Members.{find-Some}
-use Rattle.world_parts.specs.Creating.{with_made}
+use Rattle.world_parts.specs.Creating.{with_zeroed_file}
 use Rattle.world_parts.specs.Deleting.{ground_of}
-use Rattle.world_parts.specs.Face.{Face, node_over, told_bytes, held_by, held, contents_of}
+use Rattle.world_parts.specs.Face.{WorldSeen, node_over, told_bytes, held_in_file, held, contents_of}
 use Rattle.world_commands.proofs.DeletedContents.{file_at-put, file_at-put_other}
 
 -- ---- files of a store
@@ -49,7 +49,7 @@ told-made name other f (Some files) is apart =
 
 -- ---- files alone change
 
-module _ (w v : Face) (nodes : v.nodes ≡ w.nodes) (rows : v.table.nodes ≡ w.table.nodes) where
+module _ (w v : WorldSeen) (nodes : v.nodes ≡ w.nodes) (rows : v.table.nodes ≡ w.table.nodes) where
   over_same : (name : List ℕ) → node_over v.table name ≡ node_over w.table name
   over_same name = ap (λ rs. option_map (λ row. row.id) (find (stands_for name) rs)) rows
 
@@ -58,16 +58,16 @@ module _ (w v : Face) (nodes : v.nodes ≡ w.nodes) (rows : v.table.nodes ≡ w.
 
   -- of a file that the store tells as before the same is held
   pub held_same : (name : List ℕ) → told_bytes v.files name ≡ told_bytes w.files name → held v name ≡ held w name
-  held_same name told = ap (held_by v name) (over_same name) ∙ by_over (node_over w.table name)
+  held_same name told = ap (held_in_file v name) (over_same name) ∙ by_over (node_over w.table name)
     where
-      by_over : (found : Option ℕ) → held_by v name found ≡ held_by w name found
+      by_over : (found : Option ℕ) → held_in_file v name found ≡ held_in_file w name found
       by_over None = told
       by_over (Some node) =
-          ap (λ (x : Nodes). option_and_then (λ (d : DeviceState). d.content) (device_in x.devices node)) nodes
+          ap (λ (x : Nodes). option_and_then (λ (d : DeviceSeen). d.content) (device_in x.devices node)) nodes
 
   -- a file over which no node stands is the store's
   pub held_closed : (name : List ℕ) → node_over w.table name ≡ None → held v name ≡ told_bytes v.files name
-  held_closed name closed = ap (held_by v name) (over_same name ∙ closed)
+  held_closed name closed = ap (held_in_file v name) (over_same name ∙ closed)
 
   pub quiet_same : v.files ≡ w.files → IsQuiet (contents_of w) (contents_of v)
   quiet_same files = record {
@@ -77,8 +77,8 @@ module _ (w v : Face) (nodes : v.nodes ≡ w.nodes) (rows : v.table.nodes ≡ w.
 
   -- a file is made
   pub makes_file : (name : List ℕ) (size : ℕ) (files : List StoreFile) → w.files ≡ Some files → node_over w.table name ≡ None
-      → v.files ≡ (with_made name size (ground_of w).store).files
-      → Makes Nothing name (contents_of w) (contents_of v) × (held v name ≡ Some (replicate size 0))
+      → v.files ≡ (with_zeroed_file name size (ground_of w).store).files
+      → ChangesFileAlone Nothing name (contents_of w) (contents_of v) × (held v name ≡ Some (replicate size 0))
   makes_file name size files told closed made =
       let f : StoreFile = record { name = name; bytes = replicate size 0; capacity = w.room; is_flushed = true } in (
         record {
@@ -92,7 +92,7 @@ module _ (w v : Face) (nodes : v.nodes ≡ w.nodes) (rows : v.table.nodes ≡ w.
       )
 
   -- a file is spoiled
-  pub spoils_file : (but : ℕ → Type 0) (name : List ℕ) → LeavesOthers name w.files v.files → Makes but name (contents_of w) (contents_of v)
+  pub spoils_file : (but : ℕ → Type 0) (name : List ℕ) → LeavesOthers name w.files v.files → ChangesFileAlone but name (contents_of w) (contents_of v)
   spoils_file but name left = record {
     nodes = λ node out. reads_same node;
     files = λ other out. held_same other (told-others name other w.files v.files left out);
@@ -100,31 +100,31 @@ module _ (w v : Face) (nodes : v.nodes ≡ w.nodes) (rows : v.table.nodes ≡ w.
 
 -- ---- the device of one node changes
 
-module _ (w v : Face) (node : ℕ) (name : List ℕ) (image : Creation) (outcome : Result (Unit {0}) FormatStop)
+module _ (w v : WorldSeen) (node : ℕ) (name : List ℕ) (image : Creation) (outcome : Result (Unit {0}) FormatStop)
     (at : IsFormatAt node w.nodes.devices v.nodes.devices image outcome)
     (disks : (other : ℕ) → other ≢ node → disk_of v.nodes other ≡ disk_of w.nodes other)
     (files : v.files ≡ w.files) (over : (other : List ℕ) → node_over v.table other ≡ node_over w.table other)
     (here : node_over w.table name ≡ Some node) (only : (other : List ℕ) → node_over w.table other ≡ Some node → other ≡ name)
     (all : AreTold w.nodes.devices) where
   others_held : (other : List ℕ) → other ≢ name → held v other ≡ held w other
-  others_held other apart = ap (held_by v other) (over other) ∙ by_over (node_over w.table other) refl
+  others_held other apart = ap (held_in_file v other) (over other) ∙ by_over (node_over w.table other) refl
     where
-      by_over : (found : Option ℕ) → node_over w.table other ≡ found → held_by v other found ≡ held_by w other found
+      by_over : (found : Option ℕ) → node_over w.table other ≡ found → held_in_file v other found ≡ held_in_file w other found
       by_over None is = ap (λ (fs : Option (List StoreFile)). told_bytes fs other) files
       by_over (Some n) is =
-          ap (λ (found : Option DeviceState). option_and_then (λ (d : DeviceState). d.content) found)
+          ap (λ (found : Option DeviceSeen). option_and_then (λ (d : DeviceSeen). d.content) found)
           (at.only.others n (λ same. apart (only other (is ∙ ap (λ (m : ℕ). Some m) same))))
 
   -- the file is another one, and other nodes read as they did
-  pub makes_image : (but : ℕ → Type 0) → but node → Makes but name (contents_of w) (contents_of v)
+  pub makes_image : (but : ℕ → Type 0) → but node → ChangesFileAlone but name (contents_of w) (contents_of v)
   makes_image but is = record {
     nodes = λ other out. disks other (λ same. out (subst but (sym same) is));
     files = λ other out. others_held other out;
   }
 
   -- a device that told its bytes tells them
-  content_of : (d : DeviceState) → device_in w.nodes.devices node ≡ Some d → (b : List ℕ) × (d.content ≡ Some b)
-  content_of d is = by_content d.content refl (all d (find-Some (is_of node) w.nodes.devices d is).0)
+  content_of : (d : DeviceSeen) → device_in w.nodes.devices node ≡ Some d → (b : List ℕ) × (d.content ≡ Some b)
+  content_of d is = by_content d.content refl (all d (find-Some (is_device_of node) w.nodes.devices d is).0)
     where
       by_content : (c : Option (List ℕ)) → d.content ≡ c → is_some c ≡ true → (b : List ℕ) × (d.content ≡ Some b)
       by_content None at' bad = absurd (let e : ⊥ = cc bad in e)
@@ -132,11 +132,11 @@ module _ (w v : Face) (node : ℕ) (name : List ℕ) (image : Creation) (outcome
 
   before_held : (b : List ℕ) → at.before.content ≡ Some b → held w name ≡ Some b
   before_held b is =
-      ap (held_by w name) here ∙ ap (λ (found : Option DeviceState). option_and_then (λ (d : DeviceState). d.content) found) at.held ∙ is
+      ap (held_in_file w name) here ∙ ap (λ (found : Option DeviceSeen). option_and_then (λ (d : DeviceSeen). d.content) found) at.held ∙ is
 
   after_held : held v name ≡ at.after.content
   after_held =
-      ap (held_by v name) (over name ∙ here) ∙ ap (λ (found : Option DeviceState). option_and_then (λ (d : DeviceState). d.content) found) at.left
+      ap (held_in_file v name) (over name ∙ here) ∙ ap (λ (found : Option DeviceSeen). option_and_then (λ (d : DeviceSeen). d.content) found) at.left
 
   pub told_after : (b : List ℕ) → at.before.content ≡ Some b → (now : List ℕ) × (at.after.content ≡ Some now)
   told_after b is = by_content at.after.content refl (at.formatted.within.told ∙ ap is_some is)

@@ -5,7 +5,7 @@ use Rattle.blk_base.specs.declared.fault.DevNo.{DevNo}
 use Rattle.q2_format.specs.Created.{created_length}
 use Rattle.blk_history.specs.Fold.{With}
 use Rattle.blk_nodes.specs.Formatting.{IsFormatAt}
-use Rattle.blk_nodes.specs.Nodes.{DeviceState, device_in, is_of}
+use Rattle.blk_nodes.specs.Nodes.{DeviceSeen, device_in, is_device_of}
 use Rattle.blk_graph.proofs.Members.{find-Some}
 use Rattle.qmp_codec.specs.declared.command.Command.TheVariants as command
 use Rattle.qmp_codec.specs.declared.nodes.BlockdevCreate.{BlockdevCreate}
@@ -16,39 +16,39 @@ use Rattle.qmp_rules.specs.Asks.{id_or}
 use Rattle.qmp_rules.specs.Table.{id_named}
 use Rattle.flat_machine.specs.EventLicence.{IsOfCreation}
 use Rattle.world_commands.specs.Carrying.{FitsAll, creation_passes}
-use Rattle.world_commands.specs.Counting.{sources_of}
+use Rattle.world_commands.specs.Counting.{seen_sources}
 use Rattle.world_parts.specs.Creating.{HasCreated, creation_for}
 use Rattle.world_parts.specs.Deleting.{Ground, ground_of}
-use Rattle.world_parts.specs.Face.{Face, counts_now, device_numbered}
+use Rattle.world_parts.specs.Face.{WorldSeen, counts_now, device_numbered}
 use Rattle.world_commands.proofs.CountLemmas.{DifferInNumber, numbered}
 use Rattle.world_parts.proofs.InStep.{with-at}
 
-module _ (w : Face) (now : Ground) (once : AllPairs DifferInNumber w.nodes.devices) where
+module _ (w : WorldSeen) (now : Ground) (once : AllPairs DifferInNumber w.nodes.devices) where
   -- the device that was written is the one that is called
   fits-in : (node dev : ℕ) (q : CreateQcow2 (List ℕ)) → IsFormatAt node w.nodes.devices now.nodes.devices
       (creation_for q) (Ok tt)
-      → option_map (λ (device : DeviceState). device.number.0) (device_in w.nodes.devices node) ≡ Some dev
+      → option_map (λ (device : DeviceSeen). device.number.0) (device_in w.nodes.devices node) ≡ Some dev
       → With (device_numbered w.nodes.devices dev) (λ device. device.capacity < created_length (creation_for q)) → ⊥
   fits-in node dev q made called passes =
       let number : made.before.number.0 ≡ dev = let told = rw made.held at called in cc told in
-      let there = (find-Some (is_of node) w.nodes.devices made.before made.held).0 in
+      let there = (find-Some (is_device_of node) w.nodes.devices made.before made.held).0 in
       let found : device_numbered w.nodes.devices dev ≡ Some made.before =
       subst (λ (n : ℕ). device_numbered w.nodes.devices n ≡ Some made.before) number
       (numbered w.nodes.devices made.before once there) in
       let above : made.before.capacity < created_length (creation_for q) =
       with-at (device_numbered w.nodes.devices dev) made.before
-      (λ (device : DeviceState). device.capacity < created_length (creation_for q)) found passes in
+      (λ (device : DeviceSeen). device.capacity < created_length (creation_for q)) found passes in
       let room : created_length (creation_for q) ≤ made.before.capacity = made.formatted.cause.0 in
       omega arith
 
   fits-of : (options : Created (List ℕ)) → HasCreated w.table options (ground_of w) now → (dev : DevNo)
-      → IsOfCreation w.table (sources_of w) (counts_now w) dev.0 options → creation_passes w options dev.0 → ⊥
+      → IsOfCreation w.table (seen_sources w) (counts_now w) dev.0 options → creation_passes w options dev.0 → ⊥
   fits-of (created.File f) made dev called passes = called
   fits-of created.Unknown made dev called passes = called
   fits-of (created.Qcow2 q) made dev called passes = by_name (id_named w.table q.file) refl called
     where
       by_name : (found : Option ℕ) → id_named w.table q.file ≡ found
-          → With found (λ node. option_map (λ (device : DeviceState). device.number.0)
+          → With found (λ node. option_map (λ (device : DeviceSeen). device.number.0)
           (device_in w.nodes.devices node) ≡ Some dev.0) → ⊥
       by_name None e is = is
       by_name (Some node) e is =

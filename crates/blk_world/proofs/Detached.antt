@@ -17,12 +17,12 @@ use Rattle.blk_history.specs.Disk.{span_of}
 use Rattle.blk_history.specs.Fold.{With}
 use Rattle.blk_history.specs.Machine.{Flight}
 use Rattle.qmp_codec.specs.declared.command.Command.TheVariants as command
-use Rattle.qmp_rules.specs.Answers.{Answer, answer, command_edits, refusal_of, untold}
+use Rattle.qmp_rules.specs.Answers.{Answer, answer, command_edits, refusal_to, told_none}
 use Rattle.qmp_rules.specs.Asks.{stands_for}
 use Rattle.qmp_rules.specs.Chains.{disk_node}
 use Rattle.qmp_rules.specs.Changes.{changed, all_changed, without_device}
 use Rattle.qmp_rules.specs.Edits.{edits_of}
-use Rattle.qmp_rules.specs.Table.{Table, device_at, device_named, kinds_of, node_at}
+use Rattle.qmp_rules.specs.Table.{RunTable, device_by_number, device_named, kinds_of, node_by_id}
 use Rattle.qmp_rules.specs.declared.change.Change.{Change}
 use Rattle.qmp_rules.specs.declared.change.Change.TheVariants.{RemoveDevice}
 use Rattle.qmp_rules.specs.declared.rows.Device.{Device}
@@ -31,7 +31,7 @@ use Rattle.flat_machine.specs.Agreement.{HasDisk}
 use Rattle.flat_machine.specs.Legal.{IsForbidden}
 use Rattle.flat_machine.specs.Marks.{AreCalm, IsCalm, device_disk, ids_of}
 use Rattle.flat_machine.specs.Performing.{AllPerformed, IsQuiet}
-use Rattle.flat_machine.specs.State.{Guest, disk_of_guest, drive_of, filename_of, size_of}
+use Rattle.flat_machine.specs.State.{Guest, disk_of_guest, drive_of, filename_of, size_by_id}
 use Rattle.flat_machine.specs.Suiting.{IsThere}
 use Rattle.flat_machine.specs.Wiring.{TableStands}
 use Rattle.flat_machine.proofs.DevicesGone.{device_left, drive_left, gone_grow}
@@ -44,7 +44,7 @@ use Rattle.blk_nodes.specs.Joined.{IsJoined}
 use Rattle.blk_nodes.specs.Nodes.{Nodes, row_at}
 use Rattle.world_parts.specs.Coherent.{AreAlike, AreAllowed, AreHeld, AreNodesOf, AreOnDisks, AreOnWritable, AreWithin, AskToWrite, HaveDrives, IsCoherent, IsWholeWorld, node_row}
 use Rattle.world_commands.specs.Detaching.{IsDetached}
-use Rattle.world_parts.specs.Face.{Face, contents_of, held_by}
+use Rattle.world_parts.specs.Face.{WorldSeen, contents_of, held_in_file}
 use Rattle.world_parts.specs.Progress.{flight_at}
 use Rattle.world_commands.proofs.BitmapsLeft.{left-listed}
 use Rattle.world_commands.proofs.CarryPlain.{quiet-self}
@@ -60,18 +60,18 @@ passes false e = refl
 
 -- ---- one device less
 
-record IsWithoutDevice (t u : Table) (number : ℕ) : Type 0 where
+record IsWithoutDevice (t u : RunTable) (number : ℕ) : Type 0 where
   rows : u.nodes ≡ t.nodes
   edges : u.edges ≡ refreshed (kinds_of t.nodes) (without_parent (GuestOf number) t.edges)
   devices : u.devices ≡ without_device number t.devices
   guests : u.guests ≡ t.guests
   jobs : u.jobs ≡ t.jobs
 
-without_it : (t : Table) (number : ℕ) → IsWithoutDevice t (changed t (RemoveDevice number)) number
+without_it : (t : RunTable) (number : ℕ) → IsWithoutDevice t (changed t (RemoveDevice number)) number
 unfolding changed
 without_it t number = record { rows = refl; edges = refl; devices = refl; guests = refl; jobs = refl }
 
-module _ (w : Face) (whole : IsWholeWorld w) (joined : IsJoined w.nodes) (id : List ℕ) (none : refusal_of w.table untold (command.DeviceDel id) ≡ None)
+module _ (w : WorldSeen) (whole : IsWholeWorld w) (joined : IsJoined w.nodes) (id : List ℕ) (none : refusal_to w.table told_none (command.DeviceDel id) ≡ None)
     (device : Device) (named : device_named w.table id ≡ Some device) (calm : AreCalm w.table w.progress.guests (device_disk w.table id)) where
   was : IsCoherent w.table w.nodes w.opened w.progress
   was = whole.coherent
@@ -82,7 +82,7 @@ module _ (w : Face) (whole : IsWholeWorld w) (joined : IsJoined w.nodes) (id : L
   abbrev number : ℕ
   number = device.number
 
-  abbrev u : Table
+  abbrev u : RunTable
   u = changed w.table (RemoveDevice number)
 
   is : IsWithoutDevice w.table u number
@@ -93,7 +93,7 @@ module _ (w : Face) (whole : IsWholeWorld w) (joined : IsJoined w.nodes) (id : L
 
   -- ---- devices and nodes
 
-  other_device : (g : ℕ) → g ≢ number → device_at u g ≡ device_at w.table g
+  other_device : (g : ℕ) → g ≢ number → device_by_number u g ≡ device_by_number w.table g
   other_device g apart =
       ap (find (λ (d : Device). d.number == g)) is.devices
       ∙ find-filter (λ (d : Device). d.number == g) (λ (d : Device). not (d.number == number)) keeps w.table.devices
@@ -104,16 +104,16 @@ module _ (w : Face) (whole : IsWholeWorld w) (joined : IsJoined w.nodes) (id : L
           number_is : (d : Device) → (d.number == g) ≡ true → d.number ≡ g
           number_is d at = eqb-true d.number g at
 
-  left_device : (g : ℕ) (d : Device) → device_at u g ≡ Some d → (device_at w.table g ≡ Some d) × (g ≢ number)
+  left_device : (g : ℕ) (d : Device) → device_by_number u g ≡ Some d → (device_by_number w.table g ≡ Some d) × (g ≢ number)
   left_device g d there = device_left number g w.table.devices d (sym (ap (find (λ (x : Device). x.number == g)) is.devices) ∙ there)
 
-  same_at : (node : ℕ) → node_at u node ≡ node_at w.table node
+  same_at : (node : ℕ) → node_by_id u node ≡ node_by_id w.table node
   same_at node = ap (find (λ (r : NodeRecord). r.id == node)) is.rows
 
   same_filename : (node : ℕ) → filename_of u node ≡ filename_of w.table node
   same_filename node = ap (option_and_then (λ (r : NodeRecord). r.filename)) (same_at node)
 
-  same_size : (node : ℕ) → size_of u node ≡ size_of w.table node
+  same_size : (node : ℕ) → size_by_id u node ≡ size_by_id w.table node
   same_size node = ap (λ (found : Option NodeRecord). unwrap_or (option_map (λ (r : NodeRecord). r.size) found) 0) (same_at node)
 
   -- ---- drives
@@ -165,9 +165,9 @@ module _ (w : Face) (whole : IsWholeWorld w) (joined : IsJoined w.nodes) (id : L
 
   -- a disk reads as itself
   itself : (drive : ℕ) → drive_of w.table number ≡ Some drive → disk_node w.table (disk_node w.table drive) ≡ disk_node w.table drive
-  itself drive on = by_row (node_at w.table (disk_node w.table drive)) refl (was.disks number drive on)
+  itself drive on = by_row (node_by_id w.table (disk_node w.table drive)) refl (was.disks number drive on)
     where
-      by_row : (found : Option NodeRecord) → node_at w.table (disk_node w.table drive) ≡ found → With found HasDisk
+      by_row : (found : Option NodeRecord) → node_by_id w.table (disk_node w.table drive) ≡ found → With found HasDisk
           → disk_node w.table (disk_node w.table drive) ≡ disk_node w.table drive
       by_row None e bad = absurd bad
       by_row (Some row) e has = own_disk w.table (disk_node w.table drive) row e has.own
@@ -179,7 +179,7 @@ module _ (w : Face) (whole : IsWholeWorld w) (joined : IsJoined w.nodes) (id : L
       at = subst (λ (n : ℕ). flight_at w.progress.guests n ≡ Some f) same flies
 
       by_drive : (found : Option ℕ) → drive_of w.table number ≡ found
-          → With (option_map (disk_node w.table) found) (λ node. end_of (span_of f.op) ≤ size_of w.table node) → ⊥
+          → With (option_map (disk_node w.table) found) (λ node. end_of (span_of f.op) ≤ size_by_id w.table node) → ⊥
       by_drive None on bad = bad
       by_drive (Some drive) on fits =
           let row = flying_row w.progress.guests number f at in
@@ -192,9 +192,9 @@ module _ (w : Face) (whole : IsWholeWorld w) (joined : IsJoined w.nodes) (id : L
   -- ---- what belongs together
 
   have_drives : HaveDrives u
-  have_drives g there = by_device (device_at u g) refl there
+  have_drives g there = by_device (device_by_number u g) refl there
     where
-      by_device : (found : Option Device) → device_at u g ≡ found → IsSome found → IsSome (drive_of u g)
+      by_device : (found : Option Device) → device_by_number u g ≡ found → IsSome found → IsSome (drive_of u g)
       by_device None e some = absurd (false≢true some)
       by_device (Some d) e some =
           let left = left_device g d e in
@@ -204,7 +204,7 @@ module _ (w : Face) (whole : IsWholeWorld w) (joined : IsJoined w.nodes) (id : L
   on_disks g other on =
       let before : drive_of w.table g ≡ Some other = sym (other_drive g (drive_apart g other on)) ∙ on in
       subst (λ (row : Option NodeRecord). With row HasDisk)
-      (sym (ap (node_at u) (disk_is other (drive_there g other before)) ∙ same_at (disk_node w.table other))) (was.disks g other before)
+      (sym (ap (node_by_id u) (disk_is other (drive_there g other before)) ∙ same_at (disk_node w.table other))) (was.disks g other before)
 
   on_writable : AreOnWritable u
   on_writable g other d there writes on =
@@ -219,12 +219,12 @@ module _ (w : Face) (whole : IsWholeWorld w) (joined : IsJoined w.nodes) (id : L
   are_within g f flies = by_drive (drive_of w.table g) refl (another g f flies) (was.within g f flies)
     where
       by_drive : (found : Option ℕ) → drive_of w.table g ≡ found → g ≢ number
-          → With (option_map (disk_node w.table) found) (λ other. end_of (span_of f.op) ≤ size_of w.table other)
-          → With (disk_of_guest u g) (λ other. end_of (span_of f.op) ≤ size_of u other)
+          → With (option_map (disk_node w.table) found) (λ other. end_of (span_of f.op) ≤ size_by_id w.table other)
+          → With (disk_of_guest u g) (λ other. end_of (span_of f.op) ≤ size_by_id u other)
       by_drive None on apart bad = absurd bad
       by_drive (Some other) on apart fits =
-          subst (λ (found : Option ℕ). With (option_map (disk_node u) found) (λ n. end_of (span_of f.op) ≤ size_of u n)) (sym (other_drive g apart ∙ on))
-          (subst (λ (n : ℕ). end_of (span_of f.op) ≤ size_of u n) (sym (disk_is other (drive_there g other on)))
+          subst (λ (found : Option ℕ). With (option_map (disk_node u) found) (λ n. end_of (span_of f.op) ≤ size_by_id u n)) (sym (other_drive g apart ∙ on))
+          (subst (λ (n : ℕ). end_of (span_of f.op) ≤ size_by_id u n) (sym (disk_is other (drive_there g other on)))
           (subst (λ (n : ℕ). end_of (span_of f.op) ≤ n) (sym (same_size (disk_node w.table other))) fits))
 
   are_allowed : AreAllowed u w.progress.guests
@@ -255,19 +255,19 @@ module _ (w : Face) (whole : IsWholeWorld w) (joined : IsJoined w.nodes) (id : L
 
   -- ---- its changes
 
-  edits : command_edits w.table untold (command.DeviceDel id) ≡ RemoveDevice number ∷ []
+  edits : command_edits w.table told_none (command.DeviceDel id) ≡ RemoveDevice number ∷ []
   unfolding edits_of
   edits = ap (λ (found : Option Device). elim found as (λ _. List Change) [ None ↦ [] | Some d ↦ RemoveDevice d.number ∷ [] ]) named
 
-  changes_so : (answer w.table untold (command.DeviceDel id)).changes ≡ RemoveDevice number ∷ []
-  changes_so = ap (λ (a : Answer). a.changes) (answer-is w.table untold (command.DeviceDel id) None none) ∙ edits
+  changes_so : (answer w.table told_none (command.DeviceDel id)).changes ≡ RemoveDevice number ∷ []
+  changes_so = ap (λ (a : Answer). a.changes) (answer-is w.table told_none (command.DeviceDel id) None none) ∙ edits
 
-  pub table_so : u ≡ all_changed w.table (answer w.table untold (command.DeviceDel id)).changes
+  pub table_so : u ≡ all_changed w.table (answer w.table told_none (command.DeviceDel id)).changes
   table_so = ap (all_changed w.table) (sym changes_so)
 
   -- ---- the world
 
-  abbrev v : Face
+  abbrev v : WorldSeen
   v = record w { nodes = nodes; table = u }
 
   detached_coherent : IsCoherent u nodes w.opened w.progress
@@ -289,11 +289,11 @@ module _ (w : Face) (whole : IsWholeWorld w) (joined : IsJoined w.nodes) (id : L
   quiet_then disks = record {
     nodes = λ other but. disks other;
     files = λ name but.
-        ap (held_by v name) (ap (λ (rows : List NodeRecord). option_map (λ (r : NodeRecord). r.id) (find (stands_for name) rows)) is.rows)
+        ap (held_in_file v name) (ap (λ (rows : List NodeRecord). option_map (λ (r : NodeRecord). r.id) (find (stands_for name) rows)) is.rows)
         ∙ by_over name (option_map (λ (r : NodeRecord). r.id) (find (stands_for name) w.table.nodes));
   }
     where
-      by_over : (name : List ℕ) (over : Option ℕ) → held_by v name over ≡ held_by w name over
+      by_over : (name : List ℕ) (over : Option ℕ) → held_in_file v name over ≡ held_in_file w name over
       by_over name None = refl
       by_over name (Some other) = refl
 
@@ -309,18 +309,18 @@ module _ (w : Face) (whole : IsWholeWorld w) (joined : IsJoined w.nodes) (id : L
       coherent = detached_coherent;
       tell = whole.tell;
       counted = whole.counted;
-      bitmaps = left-listed w.table untold (command.DeviceDel id) w.bitmaps u refl table_so whole.bitmaps;
+      bitmaps = left-listed w.table told_none (command.DeviceDel id) w.bitmaps u refl table_so whole.bitmaps;
     },
   )
 
 -- as it was said to go
-pub detachment_done : (w : Face) (whole : IsWholeWorld w) (joined : IsJoined w.nodes) (id : List ℕ) (none : refusal_of w.table untold (command.DeviceDel id) ≡ None)
-    (calm : AreCalm w.table w.progress.guests (device_disk w.table id)) (now : Nodes) (x : Table) → IsDetached w.table id w.nodes now
-    → x ≡ all_changed w.table (answer w.table untold (command.DeviceDel id)).changes
+pub detachment_done : (w : WorldSeen) (whole : IsWholeWorld w) (joined : IsJoined w.nodes) (id : List ℕ) (none : refusal_to w.table told_none (command.DeviceDel id) ≡ None)
+    (calm : AreCalm w.table w.progress.guests (device_disk w.table id)) (now : Nodes) (x : RunTable) → IsDetached w.table id w.nodes now
+    → x ≡ all_changed w.table (answer w.table told_none (command.DeviceDel id)).changes
     → CarriedUntold w (record w { nodes = now; table = x }) (command.DeviceDel id) None × IsWholeWorld (record w { nodes = now; table = x })
 detachment_done w whole joined id none calm now x done table =
     let number : ℕ = done.device.number in
     let all = detached_carried w whole joined id none done.device done.named calm (λ other. ap (λ (n : Nodes). disk_of n other) (sym done.gone) ∙ done.disks other) in
     let same : x ≡ changed w.table (RemoveDevice number) = table ∙ sym (table_so w whole joined id none done.device done.named calm) in
-    let P : Nodes → Table → Type 0 = λ n y. CarriedUntold w (record w { nodes = n; table = y }) (command.DeviceDel id) None × IsWholeWorld (record w { nodes = n; table = y }) in
+    let P : Nodes → RunTable → Type 0 = λ n y. CarriedUntold w (record w { nodes = n; table = y }) (command.DeviceDel id) None × IsWholeWorld (record w { nodes = n; table = y }) in
     subst (λ (n : Nodes). P n x) (sym done.gone) (subst (P (without_guest number w.nodes)) (sym same) all)

@@ -8,8 +8,8 @@ use Rattle.blk_graph.specs.Graph.{HasParent}
 use Rattle.blk_graph.proofs.ChildLemmas.{child-edge}
 use Rattle.qmp_codec.specs.Commands.{Cmd}
 use Rattle.qmp_codec.specs.declared.command.Command.TheVariants as command
-use Rattle.qmp_rules.specs.Answers.{answer, refusal_of, untold}
-use Rattle.qmp_rules.specs.Table.{Table}
+use Rattle.qmp_rules.specs.Answers.{answer, refusal_to, told_none}
+use Rattle.qmp_rules.specs.Table.{RunTable}
 use Rattle.qmp_rules.specs.declared.refusal.Refusal.{Refusal}
 use Rattle.flat_machine.specs.Marks.{Drained, after_later, drained_by}
 use Rattle.flat_machine.specs.Recording.{dirty_after}
@@ -22,7 +22,7 @@ use Rattle.world_commands.specs.Carrying.{IsCarriedAs, IsCarriedOut, IsLate, IsP
 use Rattle.world_parts.specs.Coherent.{AreNodesOf, IsWholeWorld}
 use Rattle.world_parts.specs.Deleting.{ground_of}
 use Rattle.world_commands.specs.Detaching.{HasDetached, HasToWaitFor, IsDetachedBy, IsDetachment, Scene, is_detachment, scene}
-use Rattle.world_parts.specs.Face.{Face, dirty_of, seen_state}
+use Rattle.world_parts.specs.Face.{WorldSeen, dirty_of, seen_state}
 use Rattle.world_parts.specs.Handling.{DoneIf}
 use Rattle.world_commands.proofs.BitmapsLeft.{left-dirty}
 use Rattle.world_commands.proofs.CarryPlain.{late_nothing, opens_nothing, maps_nothing}
@@ -31,11 +31,11 @@ use Rattle.world_commands.proofs.Handled.{refused_placed, said_as}
 use Rattle.world_commands.proofs.HandledDevices.{ground_with}
 use Rattle.world_commands.proofs.Placed.{put_back_by}
 
-kept_ground : (w : Face) (now : Nodes) → now ≡ w.nodes → ground_with w now ≡ ground_of w
+kept_ground : (w : WorldSeen) (now : Nodes) → now ≡ w.nodes → ground_with w now ≡ ground_of w
 kept_ground w now same = ap (ground_with w) same
 
 -- few guests have a device
-pub few_drives : (t : Table) (nodes : Nodes) → AreNodesOf t nodes → IsJoined nodes → (g : ℕ) → IsSome (drive_of t g) → g < 80
+pub few_drives : (t : RunTable) (nodes : Nodes) → AreNodesOf t nodes → IsJoined nodes → (g : ℕ) → IsSome (drive_of t g) → g < 80
 few_drives t nodes alike joined g some = by_drive (drive_of t g) refl some
   where
     by_drive : (found : Option ℕ) → drive_of t g ≡ found → IsSome found → g < 80
@@ -46,24 +46,24 @@ few_drives t nodes alike joined g some = by_drive (drive_of t g) refl some
         subst (HasParent nodes.graph) edge.from fits.parent
 
 -- the world with other drains belongs together as before
-pub whole-drains : (w : Face) (drains : Drained) → IsWholeWorld w → IsWholeWorld (record w { drains = drains })
+pub whole-drains : (w : WorldSeen) (drains : Drained) → IsWholeWorld w → IsWholeWorld (record w { drains = drains })
 whole-drains w drains is = record { coherent = is.coherent; tell = is.tell; counted = is.counted; bitmaps = is.bitmaps }
 
-abbrev pub staged : Face → Scene → Face
+abbrev pub staged : WorldSeen → Scene → WorldSeen
 staged w y = record w { nodes = y.nodes; table = y.table; drains = y.drains }
 
-module _ (w : Face) (whole : IsWholeWorld w) (joined : IsJoined w.nodes) (given : List ℕ) (y : Scene) where
+module _ (w : WorldSeen) (whole : IsWholeWorld w) (joined : IsJoined w.nodes) (given : List ℕ) (y : Scene) where
   abbrev x : Scene
   x = scene w.table w.nodes w.drains
 
-  abbrev v : Face
+  abbrev v : WorldSeen
   v = staged w y
 
   -- ---- it is answered
 
   dirty_same : (drains : Drained) (id : List ℕ)
-      → dirty_of (record v { drains = drains }) ≡ dirty_after w.table (dirty_of w) (answer w.table untold (command.DeviceDel id)).changes
-  dirty_same drains id = left-dirty w (record v { drains = drains }) untold (command.DeviceDel id) refl refl whole.bitmaps
+      → dirty_of (record v { drains = drains }) ≡ dirty_after w.table (dirty_of w) (answer w.table told_none (command.DeviceDel id)).changes
+  dirty_same drains id = left-dirty w (record v { drains = drains }) told_none (command.DeviceDel id) refl refl whole.bitmaps
 
   detachment_said : (c : Cmd) (text : List ℕ) → is_detachment c ≡ true → HasDetached (seen_state w) given c x y text
       → IsCarriedAs w v given c text × IsWholeWorld v
@@ -71,7 +71,7 @@ module _ (w : Face) (whole : IsWholeWorld w) (joined : IsJoined w.nodes) (given 
       subst (λ (drains : Drained). IsCarriedAs w (record v { drains = drains }) given (command.DeviceDel id) text × IsWholeWorld (record v { drains = drains }))
       (sym has.drains) (by_refusal has.handled.refusal has.handled.judged has.handled.done_is)
     where
-      by_refusal : (refusal : Option Refusal) → refusal_of w.table untold (command.DeviceDel id) ≡ refusal
+      by_refusal : (refusal : Option Refusal) → refusal_to w.table told_none (command.DeviceDel id) ≡ refusal
           → DoneIf refusal (IsDetachedBy w.table (command.DeviceDel id) w.nodes y.nodes) (y.nodes ≡ w.nodes)
           → IsCarriedAs w (record v { drains = w.drains }) given (command.DeviceDel id) text × IsWholeWorld (record v { drains = w.drains })
       by_refusal None none done =
@@ -96,7 +96,7 @@ module _ (w : Face) (whole : IsWholeWorld w) (joined : IsJoined w.nodes) (given 
   detachment_late c g r is has =
       let left : v ≡ held_for c w = ap (staged w) has.left in (
         record {
-          told = untold;
+          told = told_none;
           by_files = tt;
           maps = maps_nothing w.table w.nodes c [] (opens_none c is);
           waits = record { accepted = has.accepted; waits = has.waits };
@@ -135,4 +135,4 @@ module _ (w : Face) (whole : IsWholeWorld w) (joined : IsJoined w.nodes) (given 
       where
         by_result : (r : Result Carried E) → OnErr r (y ≡ x) → OnErr r (IsPutBackBy w v c)
         by_result (Ok a) back = back
-        by_result (Err e) back = subst (λ (f : Face). IsPutBackBy w f c) (ap (staged w) (sym back)) (put_back_by w c)
+        by_result (Err e) back = subst (λ (f : WorldSeen). IsPutBackBy w f c) (ap (staged w) (sym back)) (put_back_by w c)

@@ -5,9 +5,9 @@ use Rattle.std.specs.List.{Contains}
 use Rattle.blk_graph.proofs.Members.{find-Some}
 use Rattle.blk_history.specs.Fold.{With}
 use Rattle.q2_image.specs.Image.{IsImageOf, IsOpen}
-use Rattle.qmp_rules.specs.Table.{Table, id_named, has_name}
+use Rattle.qmp_rules.specs.Table.{RunTable, id_named, has_name}
 use Rattle.blk_nodes.specs.Joined.{IsJoined}
-use Rattle.blk_nodes.specs.Nodes.{DeviceState, AreTold, row_at, device_in, is_of}
+use Rattle.blk_nodes.specs.Nodes.{DeviceSeen, AreTold, row_at, device_in, is_device_of}
 use Rattle.blk_nodes.specs.Overlays.{IsFresh}
 use Rattle.blk_nodes.specs.Writing.{IsDriverAfter, AreRowsAfter}
 use Rattle.blk_nodes.specs.declared.row.Driver.{Driver}
@@ -20,46 +20,46 @@ use Rattle.flat_machine.specs.Wiring.{TableStands}
 use Rattle.flat_machine.specs.Imaging.{maps_some, is_qcow2_at, ShowsImages, KeepsMapping}
 use Rattle.flat_machine.proofs.ImagesKept.{nothing_said}
 use Rattle.world_parts.specs.Coherent.{AreNodesOf}
-use Rattle.world_parts.specs.Face.{Face, node_over, held, held_by, contents_of}
+use Rattle.world_parts.specs.Face.{WorldSeen, node_over, held, held_in_file, contents_of}
 use Rattle.blk_world.proofs.PieceNodes.{AreAfter, alike_after}
 use Rattle.world_commands.proofs.ImageRows.{HasImageFile, image_file, image_written, IsEmpty, empty_file, file_empty, still_mapped}
 
 -- ---- what a device tells
 
 -- a device that is held tells its bytes
-pub told-device : (devices : List DeviceState) → AreTold devices → (file : ℕ) → IsSome (device_in devices file)
-    → (d : DeviceState) × (bytes : List ℕ) × (device_in devices file ≡ Some d) × (d.content ≡ Some bytes)
+pub told-device : (devices : List DeviceSeen) → AreTold devices → (file : ℕ) → IsSome (device_in devices file)
+    → (d : DeviceSeen) × (bytes : List ℕ) × (device_in devices file ≡ Some d) × (d.content ≡ Some bytes)
 told-device devices told file some = by_device (device_in devices file) refl some
   where
-    by_content : (d : DeviceState) → device_in devices file ≡ Some d → (content : Option (List ℕ)) → d.content ≡ content → is_some content ≡ true
-        → (e : DeviceState) × (bytes : List ℕ) × (device_in devices file ≡ Some e) × (e.content ≡ Some bytes)
+    by_content : (d : DeviceSeen) → device_in devices file ≡ Some d → (content : Option (List ℕ)) → d.content ≡ content → is_some content ≡ true
+        → (e : DeviceSeen) × (bytes : List ℕ) × (device_in devices file ≡ Some e) × (e.content ≡ Some bytes)
     by_content d is None at bad = absurd (let no : ⊥ = cc bad in no)
     by_content d is (Some bytes) at has = (d, bytes, is, at)
 
-    by_device : (found : Option DeviceState) → device_in devices file ≡ found → IsSome found
-        → (d : DeviceState) × (bytes : List ℕ) × (device_in devices file ≡ Some d) × (d.content ≡ Some bytes)
+    by_device : (found : Option DeviceSeen) → device_in devices file ≡ found → IsSome found
+        → (d : DeviceSeen) × (bytes : List ℕ) × (device_in devices file ≡ Some d) × (d.content ≡ Some bytes)
     by_device None is bad = absurd (let no : ⊥ = cc bad in no)
-    by_device (Some d) is here = by_content d is d.content refl (told d (find-Some (is_of file) devices d is).0)
+    by_device (Some d) is here = by_content d is d.content refl (told d (find-Some (is_device_of file) devices d is).0)
 
 -- what is held is what the device of the node over the file tells
-pub held-is : (w : Face) (name : List ℕ) (file : ℕ) (d : DeviceState) (bytes : List ℕ) → node_over w.table name ≡ Some file
+pub held-is : (w : WorldSeen) (name : List ℕ) (file : ℕ) (d : DeviceSeen) (bytes : List ℕ) → node_over w.table name ≡ Some file
     → device_in w.nodes.devices file ≡ Some d → d.content ≡ Some bytes → held w name ≡ Some bytes
 held-is w name file d bytes over is content =
-    ap (held_by w name) over ∙ ap (option_and_then (λ (x : DeviceState). x.content)) is ∙ content
+    ap (held_in_file w name) over ∙ ap (option_and_then (λ (x : DeviceSeen). x.content)) is ∙ content
 
-held-of : (w : Face) (name bytes : List ℕ) (file : ℕ) → node_over w.table name ≡ Some file → held w name ≡ Some bytes
-    → (d : DeviceState) × (device_in w.nodes.devices file ≡ Some d) × (d.content ≡ Some bytes)
-held-of w name bytes file over is = by_device (device_in w.nodes.devices file) refl (sym (ap (held_by w name) over) ∙ is)
+held-of : (w : WorldSeen) (name bytes : List ℕ) (file : ℕ) → node_over w.table name ≡ Some file → held w name ≡ Some bytes
+    → (d : DeviceSeen) × (device_in w.nodes.devices file ≡ Some d) × (d.content ≡ Some bytes)
+held-of w name bytes file over is = by_device (device_in w.nodes.devices file) refl (sym (ap (held_in_file w name) over) ∙ is)
   where
-    by_device : (found : Option DeviceState) → device_in w.nodes.devices file ≡ found
-        → option_and_then (λ (x : DeviceState). x.content) (device_in w.nodes.devices file) ≡ Some bytes
-        → (d : DeviceState) × (device_in w.nodes.devices file ≡ Some d) × (d.content ≡ Some bytes)
-    by_device None e has = absurd (let no : ⊥ = cc (sym (ap (option_and_then (λ (x : DeviceState). x.content)) e) ∙ has) in no)
-    by_device (Some d) e has = (d, e, sym (ap (option_and_then (λ (x : DeviceState). x.content)) e) ∙ has)
+    by_device : (found : Option DeviceSeen) → device_in w.nodes.devices file ≡ found
+        → option_and_then (λ (x : DeviceSeen). x.content) (device_in w.nodes.devices file) ≡ Some bytes
+        → (d : DeviceSeen) × (device_in w.nodes.devices file ≡ Some d) × (d.content ≡ Some bytes)
+    by_device None e has = absurd (let no : ⊥ = cc (sym (ap (option_and_then (λ (x : DeviceSeen). x.content)) e) ∙ has) in no)
+    by_device (Some d) e has = (d, e, sym (ap (option_and_then (λ (x : DeviceSeen). x.content)) e) ∙ has)
 
 -- ---- a piece
 
-module _ (w v : Face) (alike : AreNodesOf w.table w.nodes) (joined : IsJoined w.nodes) (joined_now : IsJoined v.nodes) (stands : TableStands w.table)
+module _ (w v : WorldSeen) (alike : AreNodesOf w.table w.nodes) (joined : IsJoined w.nodes) (joined_now : IsJoined v.nodes) (stands : TableStands w.table)
     (moved : AreAfter w.nodes v.nodes) (told : AreTold w.nodes.devices) (over : (name : List ℕ) → node_over v.table name ≡ node_over w.table name) where
   pub mapping_kept : (node : ℕ) → KeepsMapping w.table node (contents_of w) (contents_of v)
   mapping_kept node image name after is holds =
@@ -72,10 +72,10 @@ module _ (w v : Face) (alike : AreNodesOf w.table w.nodes) (joined : IsJoined w.
       now : HasImageFile w.table v.nodes node name
       now = image_file w.table v.nodes (alike_after w.table w.nodes v.nodes moved alike) joined_now stands node name image is
 
-      at : (d : DeviceState) × (bytes : List ℕ) × (device_in w.nodes.devices was.file ≡ Some d) × (d.content ≡ Some bytes)
+      at : (d : DeviceSeen) × (bytes : List ℕ) × (device_in w.nodes.devices was.file ≡ Some d) × (d.content ≡ Some bytes)
       at = told-device w.nodes.devices told was.file was.has_device
 
-      later : (d : DeviceState) × (device_in v.nodes.devices now.file ≡ Some d) × (d.content ≡ Some after)
+      later : (d : DeviceSeen) × (device_in v.nodes.devices now.file ≡ Some d) × (d.content ≡ Some after)
       later = held-of v name after now.file (over name ∙ now.over_it) holds
 
       by_driver : (driver : Driver) → driver ≡ now.row.driver → IsDriverAfter (Qcow2 was.image) driver → maps_some at.1 ≡ true → maps_some after ≡ true
@@ -95,13 +95,13 @@ module _ (w v : Face) (alike : AreNodesOf w.table w.nodes) (joined : IsJoined w.
 -- ---- what may be told
 
 -- whether the image in a node's row maps a cluster is so of its file
-module _ (s : State) (w : Face) (table : s.table ≡ w.table) (images : ShowsImages s (contents_of w)) (alike : AreNodesOf w.table w.nodes)
+module _ (s : State) (w : WorldSeen) (table : s.table ≡ w.table) (images : ShowsImages s (contents_of w)) (alike : AreNodesOf w.table w.nodes)
     (joined : IsJoined w.nodes) (stands : TableStands w.table) (told : AreTold w.nodes.devices) where
   agrees-row : (node : ℕ) → is_qcow2_at w.table node ≡ true → (says : Bool) → (says ≡ false) ↔ IsFresh w.nodes node
       → AgreesWith (mapped_at s.images node) says
   agrees-row node image says fresh =
       subst (AgreesWith (mapped_at s.images node)) (same says refl)
-      ((images node).mapped name.0 at.1 (ap (λ (t : Table). written_file t node) table ∙ name.1)
+      ((images node).mapped name.0 at.1 (ap (λ (t : RunTable). written_file t node) table ∙ name.1)
       (held-is w name.0 of.file at.0 at.1 of.over_it at.2 at.3))
     where
       name : (n : List ℕ) × (written_file w.table node ≡ Some n)
@@ -110,7 +110,7 @@ module _ (s : State) (w : Face) (table : s.table ≡ w.table) (images : ShowsIma
       of : HasImageFile w.table w.nodes node name.0
       of = image_file w.table w.nodes alike joined stands node name.0 image name.1
 
-      at : (d : DeviceState) × (bytes : List ℕ) × (device_in w.nodes.devices of.file ≡ Some d) × (d.content ≡ Some bytes)
+      at : (d : DeviceSeen) × (bytes : List ℕ) × (device_in w.nodes.devices of.file ≡ Some d) × (d.content ≡ Some bytes)
       at = told-device w.nodes.devices told of.file of.has_device
 
       known : IsImageOf at.1 of.image
@@ -139,11 +139,11 @@ module _ (s : State) (w : Face) (table : s.table ≡ w.table) (images : ShowsIma
       → ((name : List ℕ) (node : ℕ) → Contains overlays name → id_named w.table name ≡ Some node → (has_name name mapped ≡ false) ↔ IsFresh w.nodes node)
       → MayMap s overlays mapped
   may_map overlays mapped says name node within named =
-      let at : id_named w.table name ≡ Some node = ap (λ (t : Table). id_named t name) (sym table) ∙ named in
+      let at : id_named w.table name ≡ Some node = ap (λ (t : RunTable). id_named t name) (sym table) ∙ named in
       by_kind (is_qcow2_at w.table node) refl (says name node within at)
     where
       by_kind : (b : Bool) → is_qcow2_at w.table node ≡ b → (has_name name mapped ≡ false) ↔ IsFresh w.nodes node
           → AgreesWith (mapped_at s.images node) (has_name name mapped)
       by_kind true e fresh = agrees-row node e (has_name name mapped) fresh
       by_kind false e fresh =
-          nothing_said s.images node (has_name name mapped) ((images node).noted ∙ ap (λ (t : Table). is_qcow2_at t node) table ∙ e)
+          nothing_said s.images node (has_name name mapped) ((images node).noted ∙ ap (λ (t : RunTable). is_qcow2_at t node) table ∙ e)

@@ -8,11 +8,11 @@ use Rattle.qmp_codec.specs.Commands.{Cmd}
 use Rattle.qmp_codec.specs.declared.command.Command.TheVariants as command
 use Rattle.qmp_codec.specs.declared.nodes.CreateFile.{CreateFile}
 use Rattle.qmp_codec.specs.declared.nodes.Created.TheVariants as created
-use Rattle.qmp_rules.specs.Answers.{refusal_of}
+use Rattle.qmp_rules.specs.Answers.{refusal_to}
 use Rattle.qmp_rules.specs.Changes.{all_changed}
 use Rattle.qmp_rules.specs.Edits.{create_edits, spoiled}
 use Rattle.qmp_rules.specs.Looks.{create_told}
-use Rattle.qmp_rules.specs.Table.{Table}
+use Rattle.qmp_rules.specs.Table.{RunTable}
 use Rattle.qmp_asks.specs.Values.{amount_or}
 use Rattle.qmp_rules.specs.declared.refusal.Refusal.{Refusal}
 use Rattle.std.proofs.lemmas.Bool.{false≢true}
@@ -25,14 +25,14 @@ use Rattle.qmp_rules.specs.declared.rows.NodeRecord.{NodeRecord}
 use Rattle.flat_machine.specs.Wiring.{TableAtRest}
 use Rattle.blk_nodes.specs.Formatting.{IsFormatAt}
 use Rattle.blk_nodes.specs.Joined.{IsJoined}
-use Rattle.blk_nodes.specs.Nodes.{AreTold, DeviceState, Nodes, device_in}
+use Rattle.blk_nodes.specs.Nodes.{AreTold, DeviceSeen, Nodes, device_in}
 use Rattle.blk_nodes.specs.Reading.{OnlyAt}
 use Rattle.blk_nodes.specs.declared.stop.FormatStop.{FormatStop}
 use Rattle.world_parts.specs.Coherent.{IsWholeWorld}
 use Rattle.world_commands.specs.Counting.{AreSameDevices}
-use Rattle.world_parts.specs.Creating.{HasMakingFailed, HasFormatted, with_made}
+use Rattle.world_parts.specs.Creating.{HasMakingFailed, HasFormatted, with_zeroed_file}
 use Rattle.world_parts.specs.Deleting.{Ground, ground_of}
-use Rattle.world_parts.specs.Face.{Face}
+use Rattle.world_parts.specs.Face.{WorldSeen}
 use Rattle.world_parts.specs.Steps.{StoreSeen}
 use Rattle.world_commands.proofs.CountLemmas.{found-before, same-devices, same-only}
 use Rattle.world_commands.proofs.CreatedAsked.{FormatsNode, file_asked, format_asked}
@@ -51,7 +51,7 @@ others-told name (Some files) new left = ap (λ (f : Option (List StoreFile)). i
 
 -- ---- files
 
-module _ (w : Face) (whole : IsWholeWorld w) (id : List ℕ) (c : CreateFile (List ℕ)) where
+module _ (w : WorldSeen) (whole : IsWholeWorld w) (id : List ℕ) (c : CreateFile (List ℕ)) where
   abbrev size : ℕ
   size = amount_or 0 (Some c.size)
 
@@ -63,9 +63,9 @@ module _ (w : Face) (whole : IsWholeWorld w) (id : List ℕ) (c : CreateFile (Li
 
   -- the file is made
   abbrev pub made_ground : Ground
-  made_ground = record (ground_of w) { store = with_made c.filename size (ground_of w).store }
+  made_ground = record (ground_of w) { store = with_zeroed_file c.filename size (ground_of w).store }
 
-  abbrev pub made_table : Table
+  abbrev pub made_table : RunTable
   made_table = all_changed w.table (create_edits w.table (record { job_id = id; options = created.File c }))
 
   pub moves_made : Moves w (placed w made_ground made_table)
@@ -84,10 +84,10 @@ module _ (w : Face) (whole : IsWholeWorld w) (id : List ℕ) (c : CreateFile (Li
   }
 
   -- the store failed
-  abbrev pub failed_table : Table
+  abbrev pub failed_table : RunTable
   failed_table = all_changed w.table (spoiled w.table (created.File c))
 
-  pub moves_failed : (none : refusal_of w.table (create_told (created.File c) w.room) file_cmd ≡ None) (store : StoreSeen) (cause : Refusal)
+  pub moves_failed : (none : refusal_to w.table (create_told (created.File c) w.room) file_cmd ≡ None) (store : StoreSeen) (cause : Refusal)
       → HasMakingFailed c.filename (ground_of w).store store cause → w.faults ≤ store.faults
       → Moves w (placed w (record { store = store; nodes = w.nodes }) failed_table)
   moves_failed none store cause failed least =
@@ -108,21 +108,21 @@ module _ (w : Face) (whole : IsWholeWorld w) (id : List ℕ) (c : CreateFile (Li
 -- ---- images
 
 -- devices tell as before where that of one file does
-told-only : (old new : Nodes) (file : ℕ) (before after : DeviceState) → IsJoined old → IsJoined new → AreSameDevices old.devices new.devices → OnlyAt file old.devices new.devices
+told-only : (old new : Nodes) (file : ℕ) (before after : DeviceSeen) → IsJoined old → IsJoined new → AreSameDevices old.devices new.devices → OnlyAt file old.devices new.devices
     → device_in old.devices file ≡ Some before → device_in new.devices file ≡ Some after → is_some after.content ≡ is_some before.content
     → AreTold old.devices → AreTold new.devices
 told-only old new file before after joined now same only held left same_told told device there =
     let was = found-before old.devices new.devices device same there in
     let held_was : device_in old.devices was.0.node ≡ Some was.0 = noded old.devices was.0 joined.once was.1 in
     let here : device_in new.devices device.node ≡ Some device = noded new.devices device now.once there in
-    let content : Option DeviceState → Bool = λ d. is_some (option_and_then (λ (x : DeviceState). x.content) d) in
+    let content : Option DeviceSeen → Bool = λ d. is_some (option_and_then (λ (x : DeviceSeen). x.content) d) in
     sym (ap content here)
     ∙ only_told file old.devices new.devices before after only held left same_told device.node
     ∙ ap (λ (n : ℕ). content (device_in old.devices n)) was.2.node
     ∙ ap content held_was
     ∙ told was.0 was.1
 
-module _ (w : Face) (whole : IsWholeWorld w) (joined : IsJoined w.nodes) (x : Ground) (after : IsJoined x.nodes) (node : ℕ) (image : Creation) (outcome : Result (Unit {0}) FormatStop)
+module _ (w : WorldSeen) (whole : IsWholeWorld w) (joined : IsJoined w.nodes) (x : Ground) (after : IsJoined x.nodes) (node : ℕ) (image : Creation) (outcome : Result (Unit {0}) FormatStop)
     (formatted : HasFormatted node (ground_of w) x image outcome) where
   abbrev at : IsFormatAt node w.nodes.devices x.nodes.devices image outcome
   at = formatted.format
@@ -132,7 +132,7 @@ module _ (w : Face) (whole : IsWholeWorld w) (joined : IsJoined w.nodes) (x : Gr
       same-only node w.nodes.devices x.nodes.devices at.before at.after joined.once at.only at.held at.left
       (record { node = at.formatted.node; number = at.formatted.number; capacity = at.formatted.capacity; faults = at.formatted.faults })
 
-  pub moves_image : (u : Table) → IsEasedTo w.table u → Moves w (placed w x u)
+  pub moves_image : (u : RunTable) → IsEasedTo w.table u → Moves w (placed w x u)
   moves_image u eased = record {
     table = eased;
     nodes = after_devices w.nodes x.nodes formatted.kept devices-then;
@@ -149,8 +149,8 @@ module _ (w : Face) (whole : IsWholeWorld w) (joined : IsJoined w.nodes) (x : Gr
   }
 
 -- the file of the node that is named
-module _ (t : Table) (rest : TableAtRest t) (id : List ℕ) (c : CreateQcow2 (List ℕ)) (room : ℕ)
-    (none : refusal_of t (create_told (created.Qcow2 c) room) (command.BlockdevCreate (record { job_id = id; options = created.Qcow2 c })) ≡ None) where
+module _ (t : RunTable) (rest : TableAtRest t) (id : List ℕ) (c : CreateQcow2 (List ℕ)) (room : ℕ)
+    (none : refusal_to t (create_told (created.Qcow2 c) room) (command.BlockdevCreate (record { job_id = id; options = created.Qcow2 c })) ≡ None) where
   pub its : FormatsNode t (create_told (created.Qcow2 c) room) c
   its = format_asked t (create_told (created.Qcow2 c) room) id c none
 

@@ -3,13 +3,13 @@ use Rattle.std.proofs.Common.{◌≡◌, ℕ, List, refl, sym, ap, subst, None, 
 use Rattle.std.specs.Prelude.{Result}
 use Rattle.blk_base.specs.declared.fault.FaultFrom.TheVariants.{Dev}
 use Rattle.q2_format.specs.Created.{Creation, created_length}
-use Rattle.qmp_rules.specs.Table.{Table}
+use Rattle.qmp_rules.specs.Table.{RunTable}
 use Rattle.qmp_rules.specs.declared.judge.PrepareStop.TheVariants.{Refused}
 use Rattle.qmp_rules.specs.declared.refusal.Refusal.{Refusal}
 use Rattle.qmp_rules.specs.declared.refusal.Refusal.TheVariants as refusal
 use Rattle.blk_nodes.specs.Formatting.{HasFormatCause, IsFormatAt}
 use Rattle.blk_nodes.specs.Joined.{IsJoined}
-use Rattle.blk_nodes.specs.Nodes.{DeviceState, Nodes}
+use Rattle.blk_nodes.specs.Nodes.{DeviceSeen, Nodes}
 use Rattle.blk_nodes.specs.declared.stop.FormatStop.{FormatStop}
 use Rattle.blk_nodes.specs.declared.stop.FormatStop.TheVariants as stop
 use Rattle.world_commands.specs.Carrying.{fault_named}
@@ -17,14 +17,14 @@ use Rattle.world_parts.specs.Coherent.{IsWholeWorld}
 use Rattle.world_commands.specs.Counting.{AreSameDevices, HidesNoFault}
 use Rattle.world_parts.specs.Creating.{HasMakingFailed, HasFormatted, unformatted}
 use Rattle.world_parts.specs.Deleting.{Ground, ground_of}
-use Rattle.world_parts.specs.Face.{Face, counts_from}
+use Rattle.world_parts.specs.Face.{WorldSeen, counts_from}
 use Rattle.world_parts.specs.Steps.{StoreSeen}
 use Rattle.world_commands.proofs.CountLemmas.{out-same, same-only}
 use Rattle.world_commands.proofs.CountsKept.{counts-same, hides-none, hides-stopped, hides-store, only-same}
 use Rattle.world_commands.proofs.Placed.{placed}
 
-module _ (w : Face) (whole : IsWholeWorld w) (joined : IsJoined w.nodes) (x : Ground) (u : Table) where
-  abbrev v : Face
+module _ (w : WorldSeen) (whole : IsWholeWorld w) (joined : IsJoined w.nodes) (x : Ground) (u : RunTable) where
+  abbrev v : WorldSeen
   v = placed w x u
 
   -- the store failed to make a file
@@ -72,5 +72,5 @@ module _ (w : Face) (whole : IsWholeWorld w) (joined : IsJoined w.nodes) (x : Gr
         at.formatted.number)
     hides_unformatted cause (stop.NoSpace dev) caused is =
         let one : refusal.NoSpace dev ≡ cause = cc is in
-        subst (λ (c : Refusal). HidesNoFault w v (fault_named c)) one (hides_calm (ap (λ (d : DeviceState). d.faults) caused.2))
+        subst (λ (c : Refusal). HidesNoFault w v (fault_named c)) one (hides_calm (ap (λ (d : DeviceSeen). d.faults) caused.2))
     hides_unformatted cause stop.NoMemory caused is = absurd (let bad : ⊥ = cc is in bad)

@@ -8,11 +8,11 @@ use Rattle.qmp_codec.specs.declared.command.Command.TheVariants as command
 use Rattle.qmp_codec.specs.declared.nodes.BlockdevCreate.{BlockdevCreate}
 use Rattle.qmp_codec.specs.declared.nodes.Created.{Created}
 use Rattle.qmp_codec.specs.declared.nodes.Created.TheVariants as created
-use Rattle.qmp_rules.specs.Answers.{Answer, answer, refusal_of}
+use Rattle.qmp_rules.specs.Answers.{Answer, answer, refusal_to}
 use Rattle.qmp_rules.specs.Changes.{all_changed}
 use Rattle.qmp_rules.specs.Edits.{create_edits, spoiled}
 use Rattle.qmp_rules.specs.Looks.{create_told, stop_at, too_long}
-use Rattle.qmp_rules.specs.Table.{Table}
+use Rattle.qmp_rules.specs.Table.{RunTable}
 use Rattle.qmp_asks.specs.Values.{amount_or}
 use Rattle.qmp_rules.specs.declared.change.Change.{Change}
 use Rattle.qmp_rules.specs.declared.refusal.Refusal.{Refusal}
@@ -21,11 +21,11 @@ use Rattle.qmp_asks.specs.declared.look.Look.TheVariants as look
 use Rattle.qmp_rules.specs.declared.told.Told.{Told}
 use Rattle.flat_machine.specs.Performing.{AllPerformed}
 use Rattle.blk_nodes.specs.Joined.{IsJoined}
-use Rattle.world_commands.specs.Carrying.{IsCarried, IsCarriedAs, IsCaused, StopsByFiles, is_failed}
+use Rattle.world_commands.specs.Carrying.{IsCarried, IsCarriedAs, IsCaused, StopsByFiles, is_io_refusal}
 use Rattle.world_parts.specs.Coherent.{IsWholeWorld}
 use Rattle.world_commands.specs.Counting.{HidesNoFault}
 use Rattle.world_parts.specs.Deleting.{Ground, ground_of}
-use Rattle.world_parts.specs.Face.{Face, contents_of}
+use Rattle.world_parts.specs.Face.{WorldSeen, contents_of}
 use Rattle.world_parts.specs.Handling.{IsUntouched}
 use Rattle.world_commands.specs.Making.{IsAnswerMade, MadeSo, is_creation}
 use Rattle.world_parts.specs.Saying.{IsSaid}
@@ -49,7 +49,7 @@ first-files (created.File c) room = by_test (nat_lt room (amount_or 0 (Some c.si
 first-files (created.Qcow2 c) room = tt
 first-files created.Unknown room = tt
 
-pub refused_first : (w : Face) (c : BlockdevCreate (List ℕ)) (cause : Refusal) → refusal_of w.table (create_told c.options w.room) (command.BlockdevCreate c) ≡ Some cause
+pub refused_first : (w : WorldSeen) (c : BlockdevCreate (List ℕ)) (cause : Refusal) → refusal_to w.table (create_told c.options w.room) (command.BlockdevCreate c) ≡ Some cause
     → CarriedTold w w (command.BlockdevCreate c) (Some cause) (create_told c.options w.room)
 refused_first w c cause some =
     let told : Told = create_told c.options w.room in
@@ -77,12 +77,12 @@ refused_first w c cause some =
     } in
     (carried, refl)
   where
-    quiet_one : (w : Face) (c : BlockdevCreate (List ℕ)) (cause : Refusal) → is_failed cause ≡ false → IsCaused w w (command.BlockdevCreate c) cause
+    quiet_one : (w : WorldSeen) (c : BlockdevCreate (List ℕ)) (cause : Refusal) → is_io_refusal cause ≡ false → IsCaused w w (command.BlockdevCreate c) cause
     quiet_one w c (refusal.Io source count) bad = absurd (let e : ⊥ = cc bad in e)
     quiet_one w c (refusal.NoSpace dev) bad = absurd (let e : ⊥ = cc bad in e)
     quiet_one w c _ is = tt
 
-said_so : (w : Face) (given : List ℕ) (v : Face) (text : List ℕ) (c : Cmd) (refusal : Option Refusal) (told : Told) → IsWholeWorld w → keeps_bitmaps c ≡ true → v.bitmaps ≡ w.bitmaps
+said_so : (w : WorldSeen) (given : List ℕ) (v : WorldSeen) (text : List ℕ) (c : Cmd) (refusal : Option Refusal) (told : Told) → IsWholeWorld w → keeps_bitmaps c ≡ true → v.bitmaps ≡ w.bitmaps
     → CarriedTold w v c refusal told → IsSaid given (answer w.table told c).reply text → IsCarriedAs w v given c text
 said_so w given v text c refusal told whole keeps bitmaps carried said = record {
   refusal = refusal;
@@ -92,35 +92,35 @@ said_so w given v text c refusal told whole keeps bitmaps carried said = record 
   bitmaps = kept-bitmaps w.table c refusal w.bitmaps v.bitmaps keeps bitmaps;
 }
 
-module _ (w : Face) (whole : IsWholeWorld w) (joined : IsJoined w.nodes) (given : List ℕ) (x : Ground) (after : IsJoined x.nodes) (least : w.faults ≤ x.store.faults) (u : Table) where
+module _ (w : WorldSeen) (whole : IsWholeWorld w) (joined : IsJoined w.nodes) (given : List ℕ) (x : Ground) (after : IsJoined x.nodes) (least : w.faults ≤ x.store.faults) (u : RunTable) where
   creation_said : (text : List ℕ) (c : Cmd) → is_creation c ≡ true → IsAnswerMade given w.table c (ground_of w) x u text
       → IsCarriedAs w (placed w x u) given c text × IsWholeWorld (placed w x u)
   creation_said text (command.BlockdevCreate c) is made = by_refusal made.refusal made.judged made.done_is
     where
-      by_refusal : (refusal : Option Refusal) → refusal_of w.table made.told (command.BlockdevCreate c) ≡ refusal
+      by_refusal : (refusal : Option Refusal) → refusal_to w.table made.told (command.BlockdevCreate c) ≡ refusal
           → MadeSo w.table (command.BlockdevCreate c) (ground_of w) x made.told refusal
           → IsCarriedAs w (placed w x u) given (command.BlockdevCreate c) text × IsWholeWorld (placed w x u)
       by_refusal None none done =
           let cmd : Cmd = command.BlockdevCreate c in
-          let first : refusal_of w.table (create_told c.options w.room) cmd ≡ None = subst (λ (t : Told). refusal_of w.table t cmd ≡ None) done.0 none in
+          let first : refusal_to w.table (create_told c.options w.room) cmd ≡ None = subst (λ (t : Told). refusal_to w.table t cmd ≡ None) done.0 none in
           let all = made_world w whole joined c.job_id x after c.options first done.1 in
           let same : placed w x (all_changed w.table (create_edits w.table c)) ≡ placed w x u =
           ap (placed w x) (sym (made.table ∙ ap (all_changed w.table) (changes-created w.table made.told c none))) in (
             said_so w given (placed w x u) text cmd None made.told whole refl refl
-                (subst (λ (v : Face). CarriedTold w v cmd None made.told) same
+                (subst (λ (v : WorldSeen). CarriedTold w v cmd None made.told) same
                 (subst (λ (t : Told). CarriedTold w (placed w x (all_changed w.table (create_edits w.table c))) cmd None t) (sym done.0) all.0)) made.said,
             subst IsWholeWorld same all.1,
           )
       by_refusal (Some cause) some (inl done) =
           let cmd : Cmd = command.BlockdevCreate c in
-          let first : refusal_of w.table (create_told c.options w.room) cmd ≡ Some cause = subst (λ (t : Told). refusal_of w.table t cmd ≡ Some cause) done.0 some in
+          let first : refusal_to w.table (create_told c.options w.room) cmd ≡ Some cause = subst (λ (t : Told). refusal_to w.table t cmd ≡ Some cause) done.0 some in
           let quiet = creation-quiet w.table (create_told c.options w.room) (λ s stopped. first-quiet c.options w.room s stopped) c cause first in
           let kept : u ≡ w.table =
           made.table ∙ ap (λ (a : Answer). all_changed w.table a.changes) (answer-is w.table made.told cmd (Some cause) some)
           ∙ ap (all_changed w.table) (left-none w.table c cause quiet) in
           let same = placed_same w x u done.1 kept in (
             said_so w given (placed w x u) text cmd (Some cause) made.told whole refl refl
-                (subst (λ (v : Face). CarriedTold w v cmd (Some cause) made.told) same
+                (subst (λ (v : WorldSeen). CarriedTold w v cmd (Some cause) made.told) same
                 (subst (λ (t : Told). CarriedTold w w cmd (Some cause) t) (sym done.0) (refused_first w c cause first))) made.said,
             subst IsWholeWorld same whole,
           )
@@ -131,7 +131,7 @@ module _ (w : Face) (whole : IsWholeWorld w) (joined : IsJoined w.nodes) (given 
           ap (placed w x) (sym (made.table ∙ ap (λ (a : Answer). all_changed w.table a.changes) (answer-is w.table made.told cmd (Some cause) some)
           ∙ ap (all_changed w.table) (left-some w.table c cause fails.ended.fits))) in (
             said_so w given (placed w x u) text cmd (Some cause) made.told whole refl refl
-                (subst (λ (v : Face). CarriedTold w v cmd (Some cause) made.told) same
+                (subst (λ (v : WorldSeen). CarriedTold w v cmd (Some cause) made.told) same
                 (subst (λ (t : Told). CarriedTold w (placed w x (all_changed w.table (spoiled w.table c.options))) cmd (Some cause) t) (sym fails.told_is) all.0)) made.said,
             subst IsWholeWorld same all.1,
           )

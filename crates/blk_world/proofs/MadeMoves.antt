@@ -8,7 +8,7 @@ use Rattle.blk_graph.proofs.Members.{Contains-here, Contains-there, find-Some, l
 use Rattle.qmp_codec.specs.declared.nodes.CreateQcow2.{CreateQcow2}
 use Rattle.qmp_rules.specs.Asks.{stands_for}
 use Rattle.qmp_rules.specs.Changes.{changed, all_changed, lost_with, node_changed, stands_over, unsettled}
-use Rattle.qmp_rules.specs.Table.{Table, first_into}
+use Rattle.qmp_rules.specs.Table.{RunTable, first_into}
 use Rattle.qmp_rules.specs.declared.change.Change.TheVariants.{FormatFile, KeepId, MakeFile, SpoilFile}
 use Rattle.qmp_rules.specs.declared.rows.NodeRecord.{NodeRecord}
 use Rattle.flat_machine.specs.Wiring.{TableAtRest, TableStands}
@@ -16,7 +16,7 @@ use Rattle.flat_machine.proofs.Finds.{same-bytes_eq, bytes_eq-same}
 use Rattle.flat_machine.specs.Bitmaps.{AreBitmapsOf}
 use Rattle.world_parts.specs.Coherent.{DevicesTell, IsCoherent, IsWholeWorld}
 use Rattle.world_commands.specs.Counting.{RunsOn}
-use Rattle.world_parts.specs.Face.{Face, node_over}
+use Rattle.world_parts.specs.Face.{WorldSeen, node_over}
 use Rattle.world_commands.proofs.CarryPlain.{HasShape}
 use Rattle.world_commands.proofs.CountLemmas.{runs-devices}
 use Rattle.world_parts.proofs.DeletedLists.{find_none, find_there}
@@ -29,23 +29,23 @@ use Rattle.world_commands.proofs.Placed.{entered_shape}
 -- ---- tables
 
 -- rows may have lost their disks, but none that an edge leads to
-pub record IsEasedTo (t u : Table) : Type 0 where
+pub record IsEasedTo (t u : RunTable) : Type 0 where
   pub eased : IsEased t u
   pub keeps : KeepsEntered t u
 
-pub eased_shape : (t u : Table) → HasShape t u → IsEasedTo t u
+pub eased_shape : (t u : RunTable) → HasShape t u → IsEasedTo t u
 eased_shape t u shape = record {
   eased = kept_rows t u shape.nodes shape.edges shape.devices shape.guests shape.jobs;
   keeps = entered_shape t u shape;
 }
 
 -- the file of a `file` node to which no edge leads
-pub record IsLoneFile (t : Table) (row : NodeRecord) (name : List ℕ) : Type 0 where
+pub record IsLoneFile (t : RunTable) (row : NodeRecord) (name : List ℕ) : Type 0 where
   pub there : Contains t.nodes row
   pub filename : row.filename ≡ Some name
   pub lone : first_into row.id t.edges ≡ None
 
-not-entered : (t : Table) (row : NodeRecord) (name : List ℕ) → IsLoneFile t row name → (node : ℕ) → IsEntered t node → node ≢ row.id
+not-entered : (t : RunTable) (row : NodeRecord) (name : List ℕ) → IsLoneFile t row name → (node : ℕ) → IsEntered t node → node ≢ row.id
 not-entered t row name lone node here same =
     let found = find_there (λ (e : Edge). e.child == row.id) t.edges here.edge here.there (eq-eqb here.edge.child row.id (here.leads ∙ same)) in
     false≢true (subst (λ (e : Option Edge). IsSome e) lone.lone found)
@@ -65,12 +65,12 @@ stands-name name row is = by_name row.filename refl is
     by_name (Some g) e passes = e ∙ ap (λ (n : List ℕ). Some n) (same-bytes_eq g name passes)
 
 -- a row that stands for the file is that of its node
-only-one : (t : Table) → TableStands t → (row : NodeRecord) (name : List ℕ) → IsLoneFile t row name → (other : NodeRecord) → Contains t.nodes other
+only-one : (t : RunTable) → TableStands t → (row : NodeRecord) (name : List ℕ) → IsLoneFile t row name → (other : NodeRecord) → Contains t.nodes other
     → stands_for name other ≡ true → other.id ≡ row.id
 only-one t stands row name lone other there is =
     stands.alone name other row (record { there = there; filename = stands-name name other is }) (record { there = lone.there; filename = lone.filename })
 
-module _ (t : Table) (stands : TableStands t) (row : NodeRecord) (name : List ℕ) (lone : IsLoneFile t row name) where
+module _ (t : RunTable) (stands : TableStands t) (row : NodeRecord) (name : List ℕ) (lone : IsLoneFile t row name) where
   by_test : (b : Bool) (r : NodeRecord) → (cond b (unsettled r) r ≡ r) ⊎ (cond b (unsettled r) r ≡ unsettled r)
   by_test true r = inr refl
   by_test false r = inl refl
@@ -92,7 +92,7 @@ module _ (t : Table) (stands : TableStands t) (row : NodeRecord) (name : List �
       → IsEasedTo t (all_changed t (KeepId id ∷ FormatFile row.id name size c.backing_file c.backing_fmt ∷ []))
   unfolding changed
   eased_image id size c =
-      let u : Table = all_changed t (KeepId id ∷ FormatFile row.id name size c.backing_file c.backing_fmt ∷ []) in
+      let u : RunTable = all_changed t (KeepId id ∷ FormatFile row.id name size c.backing_file c.backing_fmt ∷ []) in
       let eased : IsEased t u = record {
         f = node_changed row.id unsettled;
         only = λ r. by_test (r.id == row.id) r;
@@ -111,7 +111,7 @@ module _ (t : Table) (stands : TableStands t) (row : NodeRecord) (name : List �
   pub eased_spoiled : IsEasedTo t (all_changed t (SpoilFile name ∷ []))
   unfolding changed
   eased_spoiled =
-      let u : Table = all_changed t (SpoilFile name ∷ []) in
+      let u : RunTable = all_changed t (SpoilFile name ∷ []) in
       let eased : IsEased t u = record {
         f = lost_with name;
         only = λ r. by_test (stands_over name r.filename) r;
@@ -128,7 +128,7 @@ module _ (t : Table) (stands : TableStands t) (row : NodeRecord) (name : List �
       kept r false is there here = rw is refl
 
 -- where no node stands for the file, no row changes
-module _ (t : Table) (name : List ℕ) (closed : list_any (stands_for name) t.nodes ≡ false) where
+module _ (t : RunTable) (name : List ℕ) (closed : list_any (stands_for name) t.nodes ≡ false) where
   not-there : (row : NodeRecord) → Contains t.nodes row → stands_for name row ≡ false
   not-there row there = by_test' (stands_for name row) refl
     where
@@ -149,13 +149,13 @@ module _ (t : Table) (name : List ℕ) (closed : list_any (stands_for name) t.no
   unfolding changed
   shape_spoiled = record { nodes = all-kept t.nodes not-there; edges = refl; devices = refl; guests = refl; jobs = refl }
 
-pub shape_made : (t : Table) (id name : List ℕ) (size : ℕ) → HasShape t (all_changed t (KeepId id ∷ MakeFile name size ∷ []))
+pub shape_made : (t : RunTable) (id name : List ℕ) (size : ℕ) → HasShape t (all_changed t (KeepId id ∷ MakeFile name size ∷ []))
 unfolding changed
 shape_made t id name size = record { nodes = refl; edges = refl; devices = refl; guests = refl; jobs = refl }
 
 -- ---- worlds
 
-pub record Moves (w v : Face) : Type 0 where
+pub record Moves (w v : WorldSeen) : Type 0 where
   pub table : IsEasedTo w.table v.table
   pub nodes : AreAfter w.nodes v.nodes
   pub progress : v.progress ≡ w.progress
@@ -167,9 +167,9 @@ pub record Moves (w v : Face) : Type 0 where
   pub store : w.faults ≤ v.faults
   pub tell : DevicesTell v.files v.nodes.devices
 
-pub moved_runs : (w v : Face) → Moves w v → RunsOn w v
+pub moved_runs : (w v : WorldSeen) → Moves w v → RunsOn w v
 moved_runs w v moves =
-    let calm : Face = record v { faults = w.faults } in
+    let calm : WorldSeen = record v { faults = w.faults } in
     let runs : RunsOn w calm = runs-devices w calm moves.told moves.room moves.first moves.earlier refl moves.opened moves.nodes.devices in
     record {
       told = moves.told;
@@ -181,14 +181,14 @@ moved_runs w v moves =
       devices = runs.devices;
     }
 
-pub moved_coherent : (w v : Face) → Moves w v → TableAtRest v.table → IsCoherent w.table w.nodes w.opened w.progress
+pub moved_coherent : (w v : WorldSeen) → Moves w v → TableAtRest v.table → IsCoherent w.table w.nodes w.opened w.progress
     → IsCoherent v.table v.nodes v.opened v.progress
 moved_coherent w v moves rest was =
     rw (moves.opened, moves.progress)
     (coherent_moved w.table v.table moves.table.eased w.nodes v.nodes w.opened w.progress moves.nodes rest
     (disks_kept w.table v.table moves.table.keeps was.disks) was)
 
-pub moved_whole : (w v : Face) → Moves w v → TableAtRest v.table → AreBitmapsOf v.table.bitmaps v.bitmaps → IsWholeWorld w → IsWholeWorld v
+pub moved_whole : (w v : WorldSeen) → Moves w v → TableAtRest v.table → AreBitmapsOf v.table.bitmaps v.bitmaps → IsWholeWorld w → IsWholeWorld v
 moved_whole w v moves rest bitmaps whole = record {
   coherent = moved_coherent w v moves rest whole.coherent;
   tell = moves.tell;

@@ -17,16 +17,16 @@ use Rattle.qmp_codec.specs.declared.nodes.CreateFile.{CreateFile}
 use Rattle.qmp_codec.specs.declared.nodes.Created.TheVariants as created
 use Rattle.qmp_rules.specs.Asks.{stands_for}
 use Rattle.qmp_rules.specs.Edits.{create_edits, spoiled}
-use Rattle.qmp_rules.specs.Table.{Table, node_at}
+use Rattle.qmp_rules.specs.Table.{RunTable, node_by_id}
 use Rattle.qmp_asks.specs.Values.{amount_or}
 use Rattle.qmp_codec.specs.declared.words.ImageFormat.{ImageFormat}
 use Rattle.qmp_rules.specs.declared.change.Change.TheVariants.{FormatFile, KeepId, SpoilFile}
 use Rattle.qmp_rules.specs.declared.rows.NodeRecord.{NodeRecord}
-use Rattle.flat_machine.specs.Performing.{AllPerformed, IsFormatted, Makes, held_bytes}
+use Rattle.flat_machine.specs.Performing.{AllPerformed, IsFormatted, ChangesFileAlone, held_bytes}
 use Rattle.flat_machine.specs.State.{State, filename_of}
 use Rattle.world_parts.specs.Creating.{HasFormatted}
 use Rattle.world_parts.specs.Deleting.{Ground, ground_of}
-use Rattle.world_parts.specs.Face.{Face, contents_of, held, node_over}
+use Rattle.world_parts.specs.Face.{WorldSeen, contents_of, held, node_over}
 use Rattle.world_parts.specs.Steps.{StoreSeen}
 use Rattle.world_commands.proofs.CarryPlain.{quiet-self}
 use Rattle.blk_world.proofs.CreatedContents.{holds_image, makes_file, makes_image, spoils_file}
@@ -38,7 +38,7 @@ use Rattle.world_parts.specs.Coherent.{IsWholeWorld}
 
 -- ---- files
 
-module _ (w : Face) (whole : IsWholeWorld w) (id : List ℕ) (c : CreateFile (List ℕ)) (closed : list_any (stands_for c.filename) w.table.nodes ≡ false) where
+module _ (w : WorldSeen) (whole : IsWholeWorld w) (id : List ℕ) (c : CreateFile (List ℕ)) (closed : list_any (stands_for c.filename) w.table.nodes ≡ false) where
   pub performed_made : (s : State) → is_some w.files ≡ true
       → AllPerformed s (create_edits w.table (record { job_id = id; options = created.File c })) (contents_of w) (contents_of (placed w (made_ground w whole id c) (made_table w whole id c)))
   performed_made s told = by_files w.files refl told
@@ -48,7 +48,7 @@ module _ (w : Face) (whole : IsWholeWorld w) (id : List ℕ) (c : CreateFile (Li
           (contents_of (placed w (made_ground w whole id c) (made_table w whole id c)))
       by_files None is bad = absurd (false≢true bad)
       by_files (Some files) is some =
-          let v : Face = placed w (made_ground w whole id c) (made_table w whole id c) in (
+          let v : WorldSeen = placed w (made_ground w whole id c) (made_table w whole id c) in (
             contents_of w,
             quiet-self (contents_of w),
             (
@@ -62,7 +62,7 @@ module _ (w : Face) (whole : IsWholeWorld w) (id : List ℕ) (c : CreateFile (Li
   pub performed_failed : (s : State) (store : StoreSeen) → LeavesOthers c.filename w.files store.files
       → AllPerformed s (spoiled w.table (created.File c)) (contents_of w) (contents_of (placed w (record { store = store; nodes = w.nodes }) (failed_table w whole id c)))
   performed_failed s store left =
-      let v : Face = placed w (record { store = store; nodes = w.nodes }) (failed_table w whole id c) in (
+      let v : WorldSeen = placed w (record { store = store; nodes = w.nodes }) (failed_table w whole id c) in (
         contents_of v,
         spoils_file w v refl (shape_spoiled w.table c.filename closed).nodes (λ node. filename_of s.table node ≡ Some c.filename) c.filename left,
         quiet-self (contents_of v),
@@ -70,9 +70,9 @@ module _ (w : Face) (whole : IsWholeWorld w) (id : List ℕ) (c : CreateFile (Li
 
 -- ---- images
 
-module _ (w : Face) (whole : IsWholeWorld w) (x : Ground) (u : Table) (row : NodeRecord) (name : List ℕ) (lone : IsLoneFile w.table row name) (eased : IsEased w.table u)
+module _ (w : WorldSeen) (whole : IsWholeWorld w) (x : Ground) (u : RunTable) (row : NodeRecord) (name : List ℕ) (lone : IsLoneFile w.table row name) (eased : IsEased w.table u)
     (image : Creation) (outcome : Result (Unit {0}) FormatStop) (formatted : HasFormatted row.id (ground_of w) x image outcome) (told : is_some w.files ≡ true) where
-  abbrev image_then : Face
+  abbrev image_then : WorldSeen
   image_then = placed w x u
 
   -- the same nodes stand over files
@@ -95,13 +95,13 @@ module _ (w : Face) (whole : IsWholeWorld w) (x : Ground) (u : Table) (row : Nod
           let found = find-Some (stands_for other) w.table.nodes r e in
           let id : r.id ≡ row.id = cc same in
           let apart = whole.coherent.table.stands.apart in
-          let one : Some r ≡ Some row = sym (apart r found.0) ∙ ap (node_at w.table) id ∙ apart row lone.there in
+          let one : Some r ≡ Some row = sym (apart r found.0) ∙ ap (node_by_id w.table) id ∙ apart row lone.there in
           same_Some other name (sym (stands-name other r found.1) ∙ ap (λ (o : Option NodeRecord). option_and_then (λ (y : NodeRecord). y.filename) o) one ∙ lone.filename)
 
   abbrev here : node_over w.table name ≡ Some row.id
   here = node_over_it w.table whole.coherent.table.stands row name lone
 
-  pub makes_it : (but : ℕ → Type 0) → but row.id → Makes but name (contents_of w) (contents_of image_then)
+  pub makes_it : (but : ℕ → Type 0) → but row.id → ChangesFileAlone but name (contents_of w) (contents_of image_then)
   makes_it but is =
       makes_image w image_then row.id name image outcome formatted.format formatted.others (ap (λ (s : StoreSeen). s.files) formatted.store) over-kept here only-name
       (whole.tell told) but is
@@ -131,7 +131,7 @@ module _ (w : Face) (whole : IsWholeWorld w) (x : Ground) (u : Table) (row : Nod
   performed_stopped s same = (
     contents_of image_then,
     makes_it (λ node. filename_of s.table node ≡ Some name)
-        (ap (λ (t : Table). filename_of t row.id) same
+        (ap (λ (t : RunTable). filename_of t row.id) same
         ∙ ap (λ (o : Option NodeRecord). option_and_then (λ (r : NodeRecord). r.filename) o) (whole.coherent.table.stands.apart row lone.there) ∙ lone.filename),
     quiet-self (contents_of image_then),
   )

@@ -8,11 +8,11 @@ use Rattle.qmp_codec.specs.declared.command.Command.TheVariants as command
 use Rattle.qmp_codec.specs.declared.nodes.BlockdevCreate.{BlockdevCreate}
 use Rattle.qmp_codec.specs.declared.nodes.Created.{Created}
 use Rattle.qmp_codec.specs.declared.nodes.Created.TheVariants as created
-use Rattle.qmp_rules.specs.Answers.{Answer, answer, refusal_of}
+use Rattle.qmp_rules.specs.Answers.{Answer, answer, refusal_to}
 use Rattle.qmp_rules.specs.Changes.{all_changed}
 use Rattle.qmp_rules.specs.Edits.{create_edits, edits_of, file_of_node, spoiled}
 use Rattle.qmp_rules.specs.Looks.{create_told}
-use Rattle.qmp_rules.specs.Table.{Table}
+use Rattle.qmp_rules.specs.Table.{RunTable}
 use Rattle.qmp_rules.specs.Asks.{id_or}
 use Rattle.qmp_asks.specs.Values.{amount_or}
 use Rattle.qmp_rules.specs.declared.change.Change.TheVariants.{FormatFile, KeepId}
@@ -31,7 +31,7 @@ use Rattle.world_parts.specs.Coherent.{IsWholeWorld}
 use Rattle.world_commands.specs.Counting.{HidesNoFault}
 use Rattle.world_parts.specs.Creating.{HasCreated, HasFormatted, creation_for}
 use Rattle.world_parts.specs.Deleting.{Ground, ground_of}
-use Rattle.world_parts.specs.Face.{Face, contents_of}
+use Rattle.world_parts.specs.Face.{WorldSeen, contents_of}
 use Rattle.world_commands.specs.Leaving.{clean_told}
 use Rattle.world_commands.specs.Making.{FitsWords, HasEndedSo, look_of, told_failed}
 use Rattle.world_commands.proofs.Belonging.{belong_of}
@@ -51,16 +51,16 @@ use Rattle.world_commands.proofs.BitmapsLeft.{left-listed}
 use Rattle.world_commands.proofs.Placed.{placed, answer-is}
 
 -- carried out, and told this
-abbrev pub CarriedTold : Face → Face → Cmd → Option Refusal → Told → Type 0
+abbrev pub CarriedTold : WorldSeen → WorldSeen → Cmd → Option Refusal → Told → Type 0
 CarriedTold w v c refusal told = (carried : IsCarried w v c refusal) × (carried.told ≡ told)
 
 -- what is accepted leaves the table at rest
-rests-created : (w : Face) (c : BlockdevCreate (List ℕ)) (told : Told) → refusal_of w.table told (command.BlockdevCreate c) ≡ None → TableAtRest w.table
+rests-created : (w : WorldSeen) (c : BlockdevCreate (List ℕ)) (told : Told) → refusal_to w.table told (command.BlockdevCreate c) ≡ None → TableAtRest w.table
     → TableAtRest (all_changed w.table (create_edits w.table c))
 unfolding edits_of
 rests-created w c told none was = (command_rests w.table told told (command.BlockdevCreate c) was none).1
 
-pub changes-created : (t : Table) (told : Told) (c : BlockdevCreate (List ℕ)) → refusal_of t told (command.BlockdevCreate c) ≡ None
+pub changes-created : (t : RunTable) (told : Told) (c : BlockdevCreate (List ℕ)) → refusal_to t told (command.BlockdevCreate c) ≡ None
     → (answer t told (command.BlockdevCreate c)).changes ≡ create_edits t c
 unfolding edits_of
 changes-created t told c none = ap (λ (a : Answer). a.changes) (answer-is t told (command.BlockdevCreate c) None none)
@@ -79,9 +79,9 @@ clean_failed id options room cause =
 
 -- ---- accepted
 
-module _ (w : Face) (whole : IsWholeWorld w) (c : BlockdevCreate (List ℕ)) (none : refusal_of w.table (create_told c.options w.room) (command.BlockdevCreate c) ≡ None)
+module _ (w : WorldSeen) (whole : IsWholeWorld w) (c : BlockdevCreate (List ℕ)) (none : refusal_to w.table (create_told c.options w.room) (command.BlockdevCreate c) ≡ None)
     (x : Ground) (created_is : HasCreated w.table c.options (ground_of w) x) where
-  abbrev v : Face
+  abbrev v : WorldSeen
   v = placed w x (all_changed w.table (create_edits w.table c))
 
   pub accepted_carried : Moves w v → HidesNoFault w v None → ((s : State) → is_some w.files ≡ true → s.table ≡ w.table → AllPerformed s (create_edits w.table c) (contents_of w) (contents_of v))
@@ -123,9 +123,9 @@ files-of (refusal.Io source count) fits = tt
 files-of (refusal.NoSpace dev) fits = tt
 files-of _ fits = absurd fits
 
-module _ (w : Face) (whole : IsWholeWorld w) (c : BlockdevCreate (List ℕ)) (none : refusal_of w.table (create_told c.options w.room) (command.BlockdevCreate c) ≡ None)
+module _ (w : WorldSeen) (whole : IsWholeWorld w) (c : BlockdevCreate (List ℕ)) (none : refusal_to w.table (create_told c.options w.room) (command.BlockdevCreate c) ≡ None)
     (x : Ground) (cause : Refusal) (ended : HasEndedSo w.table (command.BlockdevCreate c) (ground_of w) x cause) where
-  abbrev failed_then : Face
+  abbrev failed_then : WorldSeen
   failed_then = placed w x (all_changed w.table (spoiled w.table c.options))
 
   pub stopped_carried : Moves w failed_then → HidesNoFault w failed_then (fault_named cause)
@@ -133,7 +133,7 @@ module _ (w : Face) (whole : IsWholeWorld w) (c : BlockdevCreate (List ℕ)) (no
       → CarriedTold w failed_then (command.BlockdevCreate c) (Some cause) (told_failed (command.BlockdevCreate c) w.room cause) × IsWholeWorld failed_then
   stopped_carried moves hides performed =
       let told : Told = told_failed (command.BlockdevCreate c) w.room cause in
-      let some : refusal_of w.table told (command.BlockdevCreate c) ≡ Some cause = fails-so w.table c.job_id c.options w.room cause none in
+      let some : refusal_to w.table told (command.BlockdevCreate c) ≡ Some cause = fails-so w.table c.job_id c.options w.room cause none in
       let changes : (answer w.table told (command.BlockdevCreate c)).changes ≡ spoiled w.table c.options =
       ap (λ (a : Answer). a.changes) (answer-is w.table told (command.BlockdevCreate c) (Some cause) some) ∙ left-some w.table c cause ended.fits in
       let rest = spoiled_rests w.table c.options whole.coherent.table in
@@ -162,14 +162,14 @@ module _ (w : Face) (whole : IsWholeWorld w) (c : BlockdevCreate (List ℕ)) (no
 
 -- ---- by what is created
 
-module _ (w : Face) (whole : IsWholeWorld w) (joined : IsJoined w.nodes) (id : List ℕ) (x : Ground) (after : IsJoined x.nodes) where
+module _ (w : WorldSeen) (whole : IsWholeWorld w) (joined : IsJoined w.nodes) (id : List ℕ) (x : Ground) (after : IsJoined x.nodes) where
   abbrev asks_for : Created (List ℕ) → BlockdevCreate (List ℕ)
   asks_for options = record { job_id = id; options = options }
 
-  abbrev made_then : Created (List ℕ) → Ground → Face
+  abbrev made_then : Created (List ℕ) → Ground → WorldSeen
   made_then options y = placed w y (all_changed w.table (create_edits w.table (asks_for options)))
 
-  pub made_world : (options : Created (List ℕ)) → refusal_of w.table (create_told options w.room) (command.BlockdevCreate (asks_for options)) ≡ None
+  pub made_world : (options : Created (List ℕ)) → refusal_to w.table (create_told options w.room) (command.BlockdevCreate (asks_for options)) ≡ None
       → HasCreated w.table options (ground_of w) x
       → CarriedTold w (made_then options x) (command.BlockdevCreate (asks_for options)) None (create_told options w.room) × IsWholeWorld (made_then options x)
   made_world (created.File c) none is =
@@ -198,10 +198,10 @@ module _ (w : Face) (whole : IsWholeWorld w) (joined : IsJoined w.nodes) (id : L
       (subst (λ (n : ℕ). HasFormatted n (ground_of w) x (creation_for c) (Ok tt)) same is) told s id size c.backing_file c.backing_fmt tt refl refl))
   made_world created.Unknown none is = absurd is
 
-  abbrev spoiled_then : Created (List ℕ) → Ground → Face
+  abbrev spoiled_then : Created (List ℕ) → Ground → WorldSeen
   spoiled_then options y = placed w y (all_changed w.table (spoiled w.table options))
 
-  pub spoiled_world : (options : Created (List ℕ)) (cause : Refusal) → refusal_of w.table (create_told options w.room) (command.BlockdevCreate (asks_for options)) ≡ None
+  pub spoiled_world : (options : Created (List ℕ)) (cause : Refusal) → refusal_to w.table (create_told options w.room) (command.BlockdevCreate (asks_for options)) ≡ None
       → HasEndedSo w.table (command.BlockdevCreate (asks_for options)) (ground_of w) x cause → w.faults ≤ x.store.faults
       → CarriedTold w (spoiled_then options x) (command.BlockdevCreate (asks_for options)) (Some cause) (told_failed (command.BlockdevCreate (asks_for options)) w.room cause)
       × IsWholeWorld (spoiled_then options x)

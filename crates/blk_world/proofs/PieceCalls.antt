@@ -8,7 +8,7 @@ use Rattle.blk_bitmaps.specs.declared.row.Bitmap.{Bitmap}
 use Rattle.blk_history.specs.Fold.{With}
 use Rattle.blk_history.specs.Machine.{Flight}
 use Rattle.qmp_rules.specs.Chains.{disk_node}
-use Rattle.qmp_rules.specs.Table.{Table, device_at}
+use Rattle.qmp_rules.specs.Table.{RunTable, device_by_number}
 use Rattle.flat_machine.specs.Legal.{IsForbidden}
 use Rattle.flat_machine.specs.State.{drive_of}
 use Rattle.flat_machine.specs.declared.opening.Opening.{Opening}
@@ -17,11 +17,11 @@ use Rattle.blk_nodes.specs.Joined.{IsJoined}
 use Rattle.blk_nodes.specs.Nodes.{Nodes}
 use Rattle.world_parts.specs.Coherent.{IsCoherent, IsWholeWorld}
 use Rattle.world_commands.specs.Comes.{Comes}
-use Rattle.world_parts.specs.Face.{Face}
+use Rattle.world_parts.specs.Face.{WorldSeen}
 use Rattle.blk_pieces.specs.Pieces.{CanTransfer, Transfers}
-use Rattle.world_commands.specs.Piecing.{IsMadeOn, IsPieceMade, HasPieceLicence, part_of, shown_by, table_after}
+use Rattle.world_commands.specs.Piecing.{IsMadeOn, IsPieceMade, HasPieceLicence, part_of, shown_in_flight, table_after}
 use Rattle.world_commands.specs.Recorded.{noted_after, written_in}
-use Rattle.world_parts.specs.Progress.{Progress, HasNext, flight_at, with_piece}
+use Rattle.world_parts.specs.Progress.{Progress, HasNext, flight_at, with_piece_entry}
 use Rattle.world_commands.proofs.CountLemmas.{IsThere, there}
 use Rattle.blk_world.proofs.PieceComes.{piece_comes, piece_licence, piece_whole}
 use Rattle.world_parts.proofs.InStep.{with-at}
@@ -42,22 +42,22 @@ of_flight (Some a) P Q is each = each a refl is
 
 -- ---- its node
 
-pub can_next : (t : Table) (nodes : Nodes) (p : Progress) (joined : IsJoined nodes) (opened : _) → IsCoherent t nodes opened p → (g drive : ℕ) → drive_of t g ≡ Some drive
+pub can_next : (t : RunTable) (nodes : Nodes) (p : Progress) (joined : IsJoined nodes) (opened : _) → IsCoherent t nodes opened p → (g drive : ℕ) → drive_of t g ≡ Some drive
     → With (flight_at p.guests g) HasNext → With (flight_at p.guests g) (λ f. CanTransfer nodes drive (disk_node t drive) f.op (part_of f))
 can_next t nodes p joined opened coherent g drive on next =
     of_flight (flight_at p.guests g) HasNext (λ f. CanTransfer nodes drive (disk_node t drive) f.op (part_of f)) next
     (λ f flies has. can_transfer t nodes p joined opened coherent g f drive on flies has)
 
 -- a guest with a request in flight has a drive
-pub drive_there : (t : Table) (nodes : Nodes) (p : Progress) (opened : _) → IsCoherent t nodes opened p → (g : ℕ) → With (flight_at p.guests g) HasNext → drive_of t g ≡ None → ⊥
+pub drive_there : (t : RunTable) (nodes : Nodes) (p : Progress) (opened : _) → IsCoherent t nodes opened p → (g : ℕ) → With (flight_at p.guests g) HasNext → drive_of t g ≡ None → ⊥
 drive_there t nodes p opened coherent g next none =
     let at = there (flight_at p.guests g) HasNext next in
-    let device = is_there (device_at t g) (λ d. IsForbidden at.at.op d.read_only → ⊥) (coherent.allowed g at.at at.is) in
+    let device = is_there (device_by_number t g) (λ d. IsForbidden at.at.op d.read_only → ⊥) (coherent.allowed g at.at at.is) in
     false≢true (subst IsSome none (coherent.drives g device))
 
 -- ---- what the calls leave together
 
-pub made_of : (w : Face) (nodes : Nodes) (table : Table) (p : Progress) (bitmaps : List Bitmap) (g drive node : ℕ) (f : Flight) (outcome : Outcome) (op : Op)
+pub made_of : (w : WorldSeen) (nodes : Nodes) (table : RunTable) (p : Progress) (bitmaps : List Bitmap) (g drive node : ℕ) (f : Flight) (outcome : Outcome) (op : Op)
     → drive_of w.table g ≡ Some drive → node ≡ disk_node w.table drive
     → f.op ≡ op → table ≡ table_after op node w.table → IsMadeOn w.nodes nodes w.progress p drive node g f outcome
     → bitmaps ≡ noted_after outcome (written_in f.op (part_of f)) drive table w.bitmaps
@@ -70,20 +70,20 @@ made_of w nodes table p bitmaps g drive node f outcome op on is_node asks noted 
   fits = made.fits;
   shown = made.shown;
   kept =
-      ap (λ (t : Table). let v : Face = record w { nodes = nodes; table = t; progress = p; bitmaps = bitmaps } in v)
+      ap (λ (t : RunTable). let v : WorldSeen = record w { nodes = nodes; table = t; progress = p; bitmaps = bitmaps } in v)
       (noted ∙ ap (λ (o : Op). table_after o node w.table) (sym asks) ∙ ap (λ (n : ℕ). table_after f.op n w.table) is_node)
-      ∙ ap (λ (q : Progress). let v : Face = record w { nodes = nodes; table = table_after f.op (disk_node w.table drive) w.table; progress = q; bitmaps = bitmaps } in v) made.noted
+      ∙ ap (λ (q : Progress). let v : WorldSeen = record w { nodes = nodes; table = table_after f.op (disk_node w.table drive) w.table; progress = q; bitmaps = bitmaps } in v) made.noted
       ∙ ap
-      (λ (rows : List Bitmap). let v : Face = record w {
+      (λ (rows : List Bitmap). let v : WorldSeen = record w {
         nodes = nodes;
         table = table_after f.op (disk_node w.table drive) w.table;
-        progress = with_piece g f.next outcome (shown_by f outcome made.buffer) w.progress;
+        progress = with_piece_entry g f.next outcome (shown_in_flight f outcome made.buffer) w.progress;
         bitmaps = rows;
       } in v)
       recorded;
 }
 
-module _ (w v : Face) (g : ℕ) (outcome : Outcome) (next : With (flight_at w.progress.guests g) HasNext)
+module _ (w v : WorldSeen) (g : ℕ) (outcome : Outcome) (next : With (flight_at w.progress.guests g) HasNext)
     (made : (f : Flight) → flight_at w.progress.guests g ≡ Some f → IsPieceMade w v g f outcome) (joined : IsJoined w.nodes)
     (whole : IsWholeWorld w) where
   flight : IsThere (flight_at w.progress.guests g) HasNext

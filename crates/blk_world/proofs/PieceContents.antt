@@ -11,48 +11,48 @@ use Rattle.blk_graph.specs.declared.edge.Parent.TheVariants.{Node}
 use Rattle.blk_graph.specs.declared.edge.Role.TheVariants.{File}
 use Rattle.blk_history.specs.Disk.{payload_in}
 use Rattle.qmp_rules.specs.Asks.{stands_for}
-use Rattle.qmp_rules.specs.Table.{Table, node_at, child}
+use Rattle.qmp_rules.specs.Table.{RunTable, node_by_id, child}
 use Rattle.qmp_rules.specs.declared.rows.NodeRecord.{NodeRecord}
-use Rattle.flat_machine.specs.Changed.{file_of as file_by}
+use Rattle.flat_machine.specs.Changed.{own_filename}
 use Rattle.flat_machine.specs.Machine.{copies_through}
 use Rattle.flat_machine.specs.State.{filename_of}
 use Rattle.flat_machine.specs.Writing.{written_file}
 use Rattle.flat_machine.proofs.Finds.{find-map}
 use Rattle.blk_nodes.specs.Flushing.{base_of, IsFlushAt}
-use Rattle.blk_nodes.specs.Nodes.{Nodes, DeviceState, row_at, device_in, file_of, kind_of}
+use Rattle.blk_nodes.specs.Nodes.{Nodes, DeviceSeen, row_at, device_in, file_of, driver_kind}
 use Rattle.blk_nodes.specs.Reading.{HaveRisen, OnlyAt}
 use Rattle.blk_nodes.specs.Writing.{WritesFile, WritesImage, WritesBy, ZerosBy, own_file}
 use Rattle.blk_nodes.specs.declared.row.Driver.{Driver}
 use Rattle.blk_nodes.specs.declared.row.Driver.TheVariants as drivers
 use Rattle.blk_nodes.specs.declared.row.Row.{Row}
 use Rattle.world_parts.specs.Coherent.{AreNodesOf, IsRowOf}
-use Rattle.world_parts.specs.Face.{Face, held, held_by, node_over, told_bytes}
+use Rattle.world_parts.specs.Face.{WorldSeen, held, held_in_file, node_over, told_bytes}
 use Rattle.world_commands.proofs.EasedTables.{IsEased}
 use Rattle.blk_world.proofs.PieceCopied.{ReadWent, Went, writes_file, into_image}
 use Rattle.blk_world.proofs.PieceTables.{row_same}
 
 -- ---- bytes of devices
 
-abbrev pub content_in : List DeviceState → ℕ → Option (List ℕ)
+abbrev pub content_in : List DeviceSeen → ℕ → Option (List ℕ)
 content_in devices node = option_and_then (λ device. device.content) (device_in devices node)
 
-pub risen_content : (old new : List DeviceState) → HaveRisen old new → (n : ℕ) → content_in new n ≡ content_in old n
+pub risen_content : (old new : List DeviceSeen) → HaveRisen old new → (n : ℕ) → content_in new n ≡ content_in old n
 risen_content [] [] risen n = refl
 risen_content (a ∷ old) (b ∷ new) risen n =
-    let node : b.node ≡ a.node = ap (λ (d : DeviceState). d.node) risen.0.same in
-    let content : b.content ≡ a.content = ap (λ (d : DeviceState). d.content) risen.0.same in
-    ap (λ (m : ℕ). option_and_then (λ (d : DeviceState). d.content) (cond (m == n) (Some b) (device_in new n))) node
+    let node : b.node ≡ a.node = ap (λ (d : DeviceSeen). d.node) risen.0.same in
+    let content : b.content ≡ a.content = ap (λ (d : DeviceSeen). d.content) risen.0.same in
+    ap (λ (m : ℕ). option_and_then (λ (d : DeviceSeen). d.content) (cond (m == n) (Some b) (device_in new n))) node
     ∙ by_test (a.node == n) content (risen_content old new risen.1 n)
   where
     by_test : (t : Bool) → b.content ≡ a.content → content_in new n ≡ content_in old n
-        → option_and_then (λ (d : DeviceState). d.content) (cond t (Some b) (device_in new n)) ≡ option_and_then (λ (d : DeviceState). d.content) (cond t (Some a) (device_in old n))
+        → option_and_then (λ (d : DeviceSeen). d.content) (cond t (Some b) (device_in new n)) ≡ option_and_then (λ (d : DeviceSeen). d.content) (cond t (Some a) (device_in old n))
     by_test true same rest = same
     by_test false same rest = rest
 risen_content [] (b ∷ new) risen n = absurd risen
 risen_content (a ∷ old) [] risen n = absurd risen
 
-pub only_content : (file : ℕ) (old new : List DeviceState) → OnlyAt file old new → (n : ℕ) → n ≢ file → content_in new n ≡ content_in old n
-only_content file old new only n apart = ap (option_and_then (λ (d : DeviceState). d.content)) (only.others n apart)
+pub only_content : (file : ℕ) (old new : List DeviceSeen) → OnlyAt file old new → (n : ℕ) → n ≢ file → content_in new n ≡ content_in old n
+only_content file old new only n apart = ap (option_and_then (λ (d : DeviceSeen). d.content)) (only.others n apart)
 
 -- a node is not over the file that a piece writes
 abbrev pub IsElse : Bool → Nodes → ℕ → ℕ → Type 0
@@ -92,12 +92,12 @@ module _ (old new : Nodes) (node n : ℕ) where
     where
       by_node : (n ≡ file) ⊎ (n ≢ file) → content_in new.devices n ≡ content_in old.devices n
       by_node (inl same) =
-          ap (content_in new.devices) same ∙ ap (option_and_then (λ (d : DeviceState). d.content)) flushed.left
-          ∙ ap (λ (d : DeviceState). d.content) flushed.flush.is
-          ∙ sym (ap (content_in old.devices) same ∙ ap (option_and_then (λ (d : DeviceState). d.content)) flushed.held)
+          ap (content_in new.devices) same ∙ ap (option_and_then (λ (d : DeviceSeen). d.content)) flushed.left
+          ∙ ap (λ (d : DeviceSeen). d.content) flushed.flush.is
+          ∙ sym (ap (content_in old.devices) same ∙ ap (option_and_then (λ (d : DeviceSeen). d.content)) flushed.held)
       by_node (inr apart) = only_content file old.devices new.devices flushed.only n apart
 
-  module _ (t : Table) (drive : ℕ) (part : Extent) (outcome : Outcome) (buffer : List ℕ) where
+  module _ (t : RunTable) (drive : ℕ) (part : Extent) (outcome : Outcome) (buffer : List ℕ) where
     read_content : ReadWent t old new drive node part outcome buffer → IsElse (copies_through t drive) old node n → content_in new.devices n ≡ content_in old.devices n
     read_content (inl only) apart = risen_content old.devices new.devices only.devices n
     read_content (inr (inl full)) apart = ap (λ (ns : Nodes). content_in ns.devices n) full.room.same
@@ -115,19 +115,19 @@ module _ (old new : Nodes) (node n : ℕ) where
 
 -- ---- the file that is written, by name
 
-module _ (t : Table) (nodes : Nodes) (are : AreNodesOf t nodes) (node : ℕ) (row : NodeRecord) (at : node_at t node ≡ Some row) (id_is : row.id ≡ node)
+module _ (t : RunTable) (nodes : Nodes) (are : AreNodesOf t nodes) (node : ℕ) (row : NodeRecord) (at : node_by_id t node ≡ Some row) (id_is : row.id ≡ node)
     (own : Row) (own_at : row_at nodes node ≡ Some own) (alike : IsRowOf row own) where
   pub written_is : (file : ℕ) → own_file nodes node own.driver ≡ Some file → written_file t node ≡ filename_of t file
   written_is file is =
-      ap (option_and_then (λ (r : NodeRecord). file_by t r r.kind)) at ∙ ap (file_by t row) alike.kind ∙ by_driver own.driver is
+      ap (option_and_then (λ (r : NodeRecord). own_filename t r r.kind)) at ∙ ap (own_filename t row) alike.kind ∙ by_driver own.driver is
     where
       child_is : file_of nodes node ≡ Some file → child t row.id File ≡ Some file
       child_is edge = ap (λ (n : ℕ). child t n File) id_is ∙ ap (child_of (Node node) File) (sym are.edges) ∙ edge
 
-      by_driver : (d : Driver) → own_file nodes node d ≡ Some file → file_by t row (kind_of d) ≡ filename_of t file
+      by_driver : (d : Driver) → own_file nodes node d ≡ Some file → own_filename t row (driver_kind d) ≡ filename_of t file
       by_driver drivers.File same =
           let equal : node ≡ file = cc same in
-          sym (ap (option_and_then (λ (r : NodeRecord). r.filename)) (subst (λ (n : ℕ). node_at t n ≡ Some row) equal at))
+          sym (ap (option_and_then (λ (r : NodeRecord). r.filename)) (subst (λ (n : ℕ). node_by_id t n ≡ Some row) equal at))
       by_driver (drivers.Raw part) edge = ap (option_and_then (filename_of t)) (child_is edge)
       by_driver (drivers.Qcow2 image) edge = ap (option_and_then (filename_of t)) (child_is edge)
       by_driver drivers.CopyOnRead bad = absurd (let e : ⊥ = cc bad in e)
@@ -141,7 +141,7 @@ module _ (t : Table) (nodes : Nodes) (are : AreNodesOf t nodes) (node : ℕ) (ro
 
 -- ---- the node over a file
 
-pub over_same : (t now : Table) → IsEased t now → (name : List ℕ) → node_over now name ≡ node_over t name
+pub over_same : (t now : RunTable) → IsEased t now → (name : List ℕ) → node_over now name ≡ node_over t name
 over_same t now e name =
     ap (λ (rows : List NodeRecord). option_map (λ (r : NodeRecord). r.id) (find (stands_for name) rows)) e.rows
     ∙ ap (option_map (λ (r : NodeRecord). r.id)) (find-map (stands_for name) e.f (row_same t now e (stands_for name) (λ row. refl)) t.nodes)
@@ -152,10 +152,10 @@ over_same t now e name =
     by_found (Some row) = ap Some (row_same t now e (λ r. r.id) (λ r. refl) row)
 
 -- what a file holds, where its device does
-pub held_after : (w v : Face) (name : List ℕ) → v.files ≡ w.files → node_over v.table name ≡ node_over w.table name
+pub held_after : (w v : WorldSeen) (name : List ℕ) → v.files ≡ w.files → node_over v.table name ≡ node_over w.table name
     → ((n : ℕ) → node_over w.table name ≡ Some n → content_in v.nodes.devices n ≡ content_in w.nodes.devices n) → held v name ≡ held w name
-held_after w v name files over same = ap (held_by v name) over ∙ by_node (node_over w.table name) refl
+held_after w v name files over same = ap (held_in_file v name) over ∙ by_node (node_over w.table name) refl
   where
-    by_node : (found : Option ℕ) → node_over w.table name ≡ found → held_by v name found ≡ held_by w name found
+    by_node : (found : Option ℕ) → node_over w.table name ≡ found → held_in_file v name found ≡ held_in_file w name found
     by_node None is = ap (λ (all : _). told_bytes all name) files
     by_node (Some n) is = same n is

@@ -17,7 +17,7 @@ use Rattle.q2_format.specs.declared.entries.L2Entry.{L2Entry}
 use Rattle.q2_format.specs.declared.entries.L2Entry.TheVariants as entries
 use Rattle.q2_image.specs.Image.{Known, cluster_size_in, entry_in}
 use Rattle.qmp_rules.specs.Chains.{filter_role, filtered, disk_node}
-use Rattle.qmp_rules.specs.Table.{Table, node_at, child}
+use Rattle.qmp_rules.specs.Table.{RunTable, node_by_id, child}
 use Rattle.qmp_rules.specs.declared.rows.NodeRecord.{NodeRecord}
 use Rattle.flat_machine.specs.Machine.{is_copying, copies_at, copies_through, path, path_from}
 use Rattle.flat_machine.specs.Wiring.{TableStands}
@@ -25,7 +25,7 @@ use Rattle.flat_machine.proofs.Kept.{own_disk}
 use Rattle.flat_machine.proofs.WritingKept.{role_edge}
 use Rattle.blk_nodes.specs.Copying.{MapsOne, StopsUnread, is_copy_on_read, shows_below_at, puts_below, images_met, images_met_in}
 use Rattle.blk_nodes.specs.Joined.{IsJoined}
-use Rattle.blk_nodes.specs.Nodes.{Nodes, row_at, file_of, backing_of, kind_of}
+use Rattle.blk_nodes.specs.Nodes.{Nodes, row_at, file_of, backing_of, driver_kind}
 use Rattle.blk_nodes.specs.Reading.{HaveRisen, IsReadBelow}
 use Rattle.blk_nodes.specs.Sources.{in_file, in_image, in_below, step_by_entry, step_by, step_of}
 use Rattle.blk_nodes.specs.Writing.{WritesBy}
@@ -113,15 +113,15 @@ module _ (nodes : Nodes) (node place : ℕ) where
       by_row None there = inl (rw (there, images_met_in, step_of) refl)
       by_row (Some row) there = by_driver turns row there none row.driver refl
 
-module _ (t : Table) (nodes : Nodes) (joined : IsJoined nodes) (are : AreNodesOf t nodes) (stands : TableStands t) where
+module _ (t : RunTable) (nodes : Nodes) (joined : IsJoined nodes) (are : AreNodesOf t nodes) (stands : TableStands t) where
   -- what an edge of a node leads to is none
   below_none : (over next : ℕ) (role : Role) → child_of (Node over) role nodes.graph.edges ≡ Some next → CopiesNone nodes next
   below_none over next role is row at driver =
       let e = role_edge (Node over) role t.edges next (ap (child_of (Node over) role) (sym are.edges) ∙ is) in
-      let under = row_there t next (subst (λ (n : ℕ). IsSome (node_at t n)) e.to (stands.edges e.edge e.there).child) in
+      let under = row_there t next (subst (λ (n : ℕ). IsSome (node_by_id t n)) e.to (stands.edges e.edge e.there).child) in
       let own = own_row t nodes joined are stands next under.row under.there in
       let same : own.0 ≡ row = cc in
-      stands.on_top e.edge under.row over e.there under.held e.from (e.to ∙ sym under.id_is) (own.2.kind ∙ ap (λ (r : Row). kind_of r.driver) same ∙ ap kind_of driver)
+      stands.on_top e.edge under.row over e.there under.held e.from (e.to ∙ sym under.id_is) (own.2.kind ∙ ap (λ (r : Row). driver_kind r.driver) same ∙ ap driver_kind driver)
 
   -- and nothing is met below it
   none_in : (turns a place : ℕ) → CopiesNone nodes a → images_met_in turns nodes a place ≡ []
@@ -136,17 +136,17 @@ module _ (t : Table) (nodes : Nodes) (joined : IsJoined nodes) (are : AreNodesOf
 
   -- ---- the drive of a guest
 
-  row_of : (a : ℕ) (own : Row) → row_at nodes a ≡ Some own → (row : NodeRecord) × (node_at t a ≡ Some row) × IsRowOf row own
-  row_of a own is = by_row (node_at t a) refl (subst (AreAlike (node_at t a)) is (are.rows a))
+  row_of : (a : ℕ) (own : Row) → row_at nodes a ≡ Some own → (row : NodeRecord) × (node_by_id t a ≡ Some row) × IsRowOf row own
+  row_of a own is = by_row (node_by_id t a) refl (subst (AreAlike (node_by_id t a)) is (are.rows a))
     where
-      by_row : (found : Option NodeRecord) → node_at t a ≡ found → AreAlike found (Some own) → (row : NodeRecord) × (node_at t a ≡ Some row) × IsRowOf row own
+      by_row : (found : Option NodeRecord) → node_by_id t a ≡ found → AreAlike found (Some own) → (row : NodeRecord) × (node_by_id t a ≡ Some row) × IsRowOf row own
       by_row None at alike = absurd alike
       by_row (Some row) at alike = (row, at, alike)
 
 -- The drive is a copy-on-read over the image, which has nothing of its own at the place.
-pub record IsCopied (t : Table) (nodes : Nodes) (drive node place : ℕ) : Type 0 where
+pub record IsCopied (t : RunTable) (nodes : Nodes) (drive node place : ℕ) : Type 0 where
   pub top : NodeRecord
-  pub top_at : node_at t drive ≡ Some top
+  pub top_at : node_by_id t drive ≡ Some top
   pub top_id : top.id ≡ drive
   pub copies : copies_through t drive ≡ true
   pub met : images_met nodes drive place ≡ node ∷ []
@@ -180,10 +180,10 @@ bare_below nodes row next place puts = by_row (row_at nodes next) refl puts
     by_row (Some under) there is = by_driver under under.driver there refl (right (is_copy_on_read row.driver) (shows_below_at place under.driver) is)
 
 -- no image is met by a read of the drive, or the one that the drive reads as
-abbrev pub IsMet : Table → Nodes → ℕ → ℕ → Type 0
+abbrev pub IsMet : RunTable → Nodes → ℕ → ℕ → Type 0
 IsMet t nodes drive place = (images_met nodes drive place ≡ []) ⊎ IsCopied t nodes drive (disk_node t drive) place
 
-module _ (t : Table) (nodes : Nodes) (joined : IsJoined nodes) (are : AreNodesOf t nodes) (stands : TableStands t) (drive place : ℕ) where
+module _ (t : RunTable) (nodes : Nodes) (joined : IsJoined nodes) (are : AreNodesOf t nodes) (stands : TableStands t) (drive place : ℕ) where
   module _ (row : Row) (there : row_at nodes drive ≡ Some row) (driver : row.driver ≡ CopyOnRead) where
     goes : step_of nodes drive place ≡ in_below (file_of nodes drive)
     goes = step_is nodes drive place row CopyOnRead there driver
@@ -191,7 +191,7 @@ module _ (t : Table) (nodes : Nodes) (joined : IsJoined nodes) (are : AreNodesOf
     child_is : (next : ℕ) → file_of nodes drive ≡ Some next → child t drive FileRole ≡ Some next
     child_is next edge = ap (child_of (Node drive) FileRole) (sym are.edges) ∙ edge
 
-    copies_so : (top : NodeRecord) → node_at t drive ≡ Some top → is_copying top.kind ≡ true → copies_through t drive ≡ true
+    copies_so : (top : NodeRecord) → node_by_id t drive ≡ Some top → is_copying top.kind ≡ true → copies_through t drive ≡ true
     unfolding path
     copies_so top at is =
         or-left (copies_at t drive) (list_any (copies_at t) (elim (filtered t drive) as (λ _. List ℕ) [ None ↦ [] | Some below ↦ path_from 63 t below ]))
@@ -210,13 +210,13 @@ module _ (t : Table) (nodes : Nodes) (joined : IsJoined nodes) (are : AreNodesOf
         let top = row_of t nodes joined are stands drive row there in
         let at = row_there t drive (subst IsSome (sym top.1) refl) in
         let same : at.row ≡ top.0 = cc (sym at.there ∙ top.1) in
-        let kind : top.0.kind ≡ kind_of CopyOnRead = top.2.kind ∙ ap kind_of driver in
+        let kind : top.0.kind ≡ driver_kind CopyOnRead = top.2.kind ∙ ap driver_kind driver in
         let below : filtered t drive ≡ Some next =
         ap (λ (found : Option NodeRecord). option_and_then (child t drive) (option_and_then (λ (r : NodeRecord). filter_role r.kind) found)) top.1
         ∙ ap (λ (k : Kind). option_and_then (child t drive) (filter_role k)) kind ∙ child_is next edge in
         let bare = bare_below nodes row next place (subst (λ (r : Option Row). puts_below r (row_at nodes next) place ≡ true) there puts) in
         let under = row_of t nodes joined are stands next bare.row bare.there in
-        let itself : disk_node t next ≡ next = own_disk t next under.0 under.1 (ap filter_role (under.2.kind ∙ ap kind_of bare.driver)) in
+        let itself : disk_node t next ≡ next = own_disk t next under.0 under.1 (ap filter_role (under.2.kind ∙ ap driver_kind bare.driver)) in
         let disk : disk_node t drive ≡ next = through_filter t nodes joined are stands drive next below ∙ itself in
         inr (subst (λ (n : ℕ). IsCopied t nodes drive n place) (sym disk) (record {
           top = top.0;
@@ -267,28 +267,28 @@ pub record OnlyReads (old new : Nodes) (drive : ℕ) (outcome : Outcome) : Type 
   pub below : IsReadBelow old new drive outcome
 
 -- there was no room in the image, and nothing was tried
-pub record ReadsFull (t : Table) (old new : Nodes) (drive node : ℕ) (part : Extent) (outcome : Outcome) : Type 0 where
+pub record ReadsFull (t : RunTable) (old new : Nodes) (drive node : ℕ) (part : Extent) (outcome : Outcome) : Type 0 where
   pub copied : IsCopied t old drive node part.start
   pub room : LacksItsRoom old new node part outcome
 
 -- it put what it read into the image
-pub record ReadsInto (t : Table) (old new : Nodes) (drive node : ℕ) (part : Extent) (outcome : Outcome) (buffer : List ℕ) : Type 0 where
+pub record ReadsInto (t : RunTable) (old new : Nodes) (drive node : ℕ) (part : Extent) (outcome : Outcome) (buffer : List ℕ) : Type 0 where
   pub copied : IsCopied t old drive node part.start
   pub maps : MapsOne old new node part buffer outcome
 
-pub into_image : (t : Table) (old new : Nodes) (drive node : ℕ) (part : Extent) (outcome : Outcome) (buffer : List ℕ) (into : ReadsInto t old new drive node part outcome buffer)
+pub into_image : (t : RunTable) (old new : Nodes) (drive node : ℕ) (part : Extent) (outcome : Outcome) (buffer : List ℕ) (into : ReadsInto t old new drive node part outcome buffer)
     → WritesBy (Qcow2 into.copied.image) old new node part buffer outcome
 into_image t old new drive node part outcome buffer into =
     let same : into.maps.wrote.row ≡ into.copied.row = cc (sym into.maps.wrote.there ∙ into.copied.there) in
     subst (λ (d : Driver). WritesBy d old new node part buffer outcome) (ap (λ (r : Row). r.driver) same ∙ into.copied.driver) into.maps.wrote.wrote
 
 -- by what it met
-abbrev pub ReadWent : Table → Nodes → Nodes → ℕ → ℕ → Extent → Outcome → List ℕ → Type 0
+abbrev pub ReadWent : RunTable → Nodes → Nodes → ℕ → ℕ → Extent → Outcome → List ℕ → Type 0
 ReadWent t old new drive node part outcome buffer =
     OnlyReads old new drive outcome ⊎ (ReadsFull t old new drive node part outcome ⊎ ReadsInto t old new drive node part outcome buffer)
 
 -- a piece of a drive, which reads as the node
-abbrev pub Went : Table → Op → Nodes → Nodes → ℕ → ℕ → Extent → Outcome → List ℕ → Type 0
+abbrev pub Went : RunTable → Op → Nodes → Nodes → ℕ → ℕ → Extent → Outcome → List ℕ → Type 0
 Went t (Read span) old new drive node part outcome buffer = ReadWent t old new drive node part outcome buffer
 Went t (Write span payload) old new drive node part outcome buffer = Transfers (Write span payload) old new drive node part outcome buffer
 Went t (Zero span) old new drive node part outcome buffer = Transfers (Zero span) old new drive node part outcome buffer
@@ -296,14 +296,14 @@ Went t Flush old new drive node part outcome buffer = Transfers Flush old new dr
 Went t (Discard span) old new drive node part outcome buffer = Transfers (Discard span) old new drive node part outcome buffer
 
 -- whether the file below the node may change
-abbrev pub writes_file : Table → ℕ → Op → Bool
+abbrev pub writes_file : RunTable → ℕ → Op → Bool
 writes_file t drive (Read span) = copies_through t drive
 writes_file t drive (Write span payload) = is_write (Write span payload)
 writes_file t drive (Zero span) = is_write (Zero span)
 writes_file t drive Flush = is_write Flush
 writes_file t drive (Discard span) = is_write (Discard span)
 
-module _ (t : Table) (old new : Nodes) (drive : ℕ) (part : Extent) (outcome : Outcome) (buffer : List ℕ) where
+module _ (t : RunTable) (old new : Nodes) (drive : ℕ) (part : Extent) (outcome : Outcome) (buffer : List ℕ) where
   only_stopped : StopsUnread old new drive part outcome → OnlyReads old new drive outcome
   only_stopped stops = record { devices = stops.devices; below = subst (IsReadBelow old new drive) (sym stops.is) stops.stopped }
 

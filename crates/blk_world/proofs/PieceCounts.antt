@@ -9,25 +9,25 @@ use Rattle.trace_codec.specs.declared.op.Op.TheVariants.{Read, Write, Zero, Flus
 use Rattle.blk_history.specs.Disk.{payload_in}
 use Rattle.blk_nodes.specs.Flushing.{base_of, HasFlushCause, IsFlushAt}
 use Rattle.blk_nodes.specs.Joined.{IsJoined}
-use Rattle.blk_nodes.specs.Nodes.{Nodes, DeviceState}
+use Rattle.blk_nodes.specs.Nodes.{Nodes, DeviceSeen}
 use Rattle.blk_nodes.specs.Reading.{IsReadBelow, StoppedAt}
 use Rattle.blk_nodes.specs.Writing.{IsWriteAt, WritesImage, WritesBy, ZerosBy, HasCauseOf, HasPieceCause}
 use Rattle.blk_nodes.specs.declared.row.Driver.{Driver}
 use Rattle.blk_nodes.specs.declared.row.Driver.TheVariants as drivers
 use Rattle.blk_nodes.proofs.Leading.{stopped_piece}
-use Rattle.qmp_rules.specs.Table.{Table}
+use Rattle.qmp_rules.specs.Table.{RunTable}
 use Rattle.world_commands.proofs.CountsKept.{AreSame, faults_at, only-same}
 use Rattle.blk_world.proofs.PieceCopied.{ReadWent, Went, into_image}
 
 -- no count rose, or that of the device which stopped it
-abbrev pub AreCounted : Outcome → List DeviceState → List DeviceState → Type 0
+abbrev pub AreCounted : Outcome → List DeviceSeen → List DeviceSeen → Type 0
 AreCounted Good old new = AreSame old new
 AreCounted (Torn done dev count) old new = (file : ℕ) × StoppedAt file old new dev count
 AreCounted (Io dev count) old new = (file : ℕ) × StoppedAt file old new dev count
 AreCounted (NoSpace dev) old new = AreSame old new
 
-same-of : (old new : List DeviceState) → new ≡ old → AreSame old new
-same-of old new same n = ap (λ (ds : List DeviceState). faults_at ds n) same
+same-of : (old new : List DeviceSeen) → new ≡ old → AreSame old new
+same-of old new same n = ap (λ (ds : List DeviceSeen). faults_at ds n) same
 
 module _ (old new : Nodes) (joined : IsJoined old) where
   read-counted : (node : ℕ) (outcome : Outcome) → IsReadBelow old new node outcome → AreCounted outcome old.devices new.devices
@@ -87,13 +87,13 @@ module _ (old new : Nodes) (joined : IsJoined old) where
       by_cause : (o : Outcome) → HasFlushCause at.before at.after o → AreCounted o old.devices new.devices
       by_cause Good cause =
           only-same file old.devices new.devices at.before at.after joined.once at.only at.held at.left
-          (ap (λ (d : DeviceState). d.number) at.flush.is) cause
+          (ap (λ (d : DeviceSeen). d.number) at.flush.is) cause
       by_cause (Torn done dev count) cause = absurd cause
       by_cause (Io dev count) cause =
           (file, record { before = at.before; after = at.after; held = at.held; left = at.left; stopped = cause; only = at.only })
       by_cause (NoSpace dev) cause = absurd cause
 
-  module _ (t : Table) (drive node : ℕ) (part : Extent) (outcome : Outcome) (buffer : List ℕ) where
+  module _ (t : RunTable) (drive node : ℕ) (part : Extent) (outcome : Outcome) (buffer : List ℕ) where
     full-counted : (o : Outcome) (dev : DevNo) → o ≡ NoSpace dev → AreSame old.devices new.devices → AreCounted o old.devices new.devices
     full-counted o dev is same = subst (λ (x : Outcome). AreCounted x old.devices new.devices) (sym is) same
 

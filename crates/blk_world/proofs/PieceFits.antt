@@ -16,7 +16,7 @@ use Rattle.blk_history.specs.Fold.{With}
 use Rattle.blk_history.specs.Legal.{IsNextPiece}
 use Rattle.blk_history.specs.Machine.{Flight}
 use Rattle.qmp_rules.specs.Chains.{disk_node, is_settled, leads, reaches}
-use Rattle.qmp_rules.specs.Table.{Table, node_at}
+use Rattle.qmp_rules.specs.Table.{RunTable, node_by_id}
 use Rattle.qmp_rules.specs.declared.rows.NodeRecord.{NodeRecord}
 use Rattle.flat_machine.specs.Agreement.{HasDisk}
 use Rattle.flat_machine.specs.EventLicence.{ReachesDevice}
@@ -27,17 +27,17 @@ use Rattle.flat_machine.specs.declared.opening.Opening.{Opening}
 use Rattle.flat_machine.proofs.Kept.{own_disk}
 use Rattle.blk_nodes.specs.Contents.{disk_of}
 use Rattle.blk_nodes.specs.Joined.{IsJoined}
-use Rattle.blk_nodes.specs.Nodes.{Nodes, DeviceState, AreTold, device_in}
+use Rattle.blk_nodes.specs.Nodes.{Nodes, DeviceSeen, AreTold, device_in}
 use Rattle.blk_nodes.specs.Reading.{LeadsTo}
 use Rattle.blk_nodes.proofs.Leading.{leads_on}
 use Rattle.world_parts.specs.Coherent.{AreNodesOf}
 use Rattle.world_commands.specs.Comes.{ShowsState}
-use Rattle.world_commands.specs.Counting.{AreSameDevices, IsSameDevice, sources_of}
-use Rattle.world_parts.specs.Face.{Face}
+use Rattle.world_commands.specs.Counting.{AreSameDevices, IsSameDevice, seen_sources}
+use Rattle.world_parts.specs.Face.{WorldSeen}
 use Rattle.blk_pieces.specs.Pieces.{Transfers}
 use Rattle.blk_pieces.proofs.Told.{tells}
-use Rattle.world_commands.specs.Piecing.{part_of, shown_by, piece_entry}
-use Rattle.world_parts.specs.Progress.{HasNext, flight_at, done_at}
+use Rattle.world_commands.specs.Piecing.{part_of, shown_in_flight, piece_entry}
+use Rattle.world_parts.specs.Progress.{HasNext, flight_at, requests_done}
 use Rattle.blk_world.proofs.PieceNodes.{StoppedOn}
 use Rattle.blk_world.proofs.PiecePaths.{short, or-right}
 use Rattle.blk_world.proofs.PieceWriters.{filter_edge, down_disk}
@@ -45,11 +45,11 @@ use Rattle.world_commands.proofs.Quiet.{in-flight}
 
 -- ---- the guest's flat disk
 
-pub flat_is : (s : State) (t : Table) (g drive : ℕ) (row : NodeRecord) → s.table ≡ t → drive_of t g ≡ Some drive → node_at t (disk_node t drive) ≡ Some row → HasDisk row
+pub flat_is : (s : State) (t : RunTable) (g drive : ℕ) (row : NodeRecord) → s.table ≡ t → drive_of t g ≡ Some drive → node_by_id t (disk_node t drive) ≡ Some row → HasDisk row
     → guest_disk s g ≡ Some (bytes_in s.disks (disk_node t drive))
 flat_is s t g drive row table on at has =
-    ap (λ (d : Option ℕ). option_and_then (flat_disk s) d) (ap (λ (u : Table). disk_of_guest u g) table ∙ ap (option_map (disk_node t)) on)
-    ∙ ap (λ (u : Table). if_settled (is_settled u node) (bytes_in s.disks (disk_node u node))) table
+    ap (λ (d : Option ℕ). option_and_then (flat_disk s) d) (ap (λ (u : RunTable). disk_of_guest u g) table ∙ ap (option_map (disk_node t)) on)
+    ∙ ap (λ (u : RunTable). if_settled (is_settled u node) (bytes_in s.disks (disk_node u node))) table
     ∙ ap (λ (b : Bool). if_settled b (bytes_in s.disks (disk_node t node))) settled
     ∙ ap (λ (n : ℕ). Some (bytes_in s.disks n)) itself
   where
@@ -64,7 +64,7 @@ flat_is s t g drive row table on at has =
 
     settled : is_settled t node ≡ true
     settled =
-        ap (λ (n : ℕ). unwrap_or (option_map (λ (r : NodeRecord). r.is_settled) (node_at t n)) false) itself
+        ap (λ (n : ℕ). unwrap_or (option_map (λ (r : NodeRecord). r.is_settled) (node_by_id t n)) false) itself
         ∙ ap (λ (found : Option NodeRecord). unwrap_or (option_map (λ (r : NodeRecord). r.is_settled) found) false) at ∙ has.settled
 
 -- ---- it fits
@@ -72,27 +72,27 @@ flat_is s t g drive row table on at has =
 with_flight : (guests : List Guest) (g : ℕ) (f : Flight) (P : Flight → Type 0) → flight_at guests g ≡ Some f → P f → With (flight_at guests g) P
 with_flight guests g f P is holds = subst (λ (x : Option Flight). With x P) (sym is) holds
 
-pub piece_fits : (o : Opening) (s : State) (w v : Face) (g drive : ℕ) (f : Flight) (outcome : Outcome) (buffer : List ℕ) (row : NodeRecord) → ShowsState o s w → AreTold w.nodes.devices
-    → drive_of w.table g ≡ Some drive → node_at w.table (disk_node w.table drive) ≡ Some row → HasDisk row → flight_at w.progress.guests g ≡ Some f → HasNext f
+pub piece_fits : (o : Opening) (s : State) (w v : WorldSeen) (g drive : ℕ) (f : Flight) (outcome : Outcome) (buffer : List ℕ) (row : NodeRecord) → ShowsState o s w → AreTold w.nodes.devices
+    → drive_of w.table g ≡ Some drive → node_by_id w.table (disk_node w.table drive) ≡ Some row → HasDisk row → flight_at w.progress.guests g ≡ Some f → HasNext f
     → disk_of w.nodes (disk_node w.table drive) ≡ disk_of w.nodes drive
     → Transfers f.op w.nodes v.nodes drive (disk_node w.table drive) (part_of f) outcome buffer → Fits s (piece_entry w g f outcome buffer)
 piece_fits o s w v g drive f outcome buffer row shows told on at has flies next same did =
     let node : ℕ = disk_node w.table drive in
     let flat = flat_is s w.table g drive row shows.table.table_is on at has in
     let reads : disk_of w.nodes node ≡ bytes_in s.disks node =
-    shows.contents.disks node row (ap (λ (t : Table). node_at t node) shows.table.table_is ∙ at) has in
+    shows.contents.disks node row (ap (λ (t : RunTable). node_by_id t node) shows.table.table_is ∙ at) has in
     let disk : guest_disk s g ≡ Some (disk_of w.nodes drive) = flat ∙ ap Some (sym reads ∙ same) in
-    let is : IsNextPiece f f.next outcome (guest_disk s g) (shown_by f outcome buffer) = record {
+    let is : IsNextPiece f f.next outcome (guest_disk s g) (shown_in_flight f outcome buffer) = record {
       running = next.running;
       next = refl;
       within = next.next;
       told = tells w.nodes v.nodes drive node (part_of f) buffer told f.op outcome (guest_disk s g) disk did;
     } in
-    let stands = in-flight w.progress.guests g (λ x. IsNextPiece x f.next outcome (guest_disk s g) (shown_by f outcome buffer))
-    (with_flight w.progress.guests g f (λ x. IsNextPiece x f.next outcome (guest_disk s g) (shown_by f outcome buffer)) flies is) in (
+    let stands = in-flight w.progress.guests g (λ x. IsNextPiece x f.next outcome (guest_disk s g) (shown_in_flight f outcome buffer))
+    (with_flight w.progress.guests g f (λ x. IsNextPiece x f.next outcome (guest_disk s g) (shown_in_flight f outcome buffer)) flies is) in (
       shows.table.rest,
       subst (λ (guests : List Guest). With (slice_get guests g)
-          (λ x. (done_at w.progress.guests g ≡ x.done) × With x.flight (λ y. IsNextPiece y f.next outcome (guest_disk s g) (shown_by f outcome buffer)))) (sym shows.guests.guests_are) stands,
+          (λ x. (requests_done w.progress.guests g ≡ x.done) × With x.flight (λ y. IsNextPiece y f.next outcome (guest_disk s g) (shown_in_flight f outcome buffer)))) (sym shows.guests.guests_are) stands,
     )
 
 -- ---- the device that it names
@@ -119,7 +119,7 @@ leads_true edges (f ∷ p) e (suc m) a b path less =
     let either : ((e.child == b) || leads m edges e.child b) ≡ true = or-right (e.child == b) (leads m edges e.child b) rest in
     rw (parent, either) refl)
 
-module _ (t : Table) (nodes : Nodes) (joined : IsJoined nodes) (are : AreNodesOf t nodes) (stands : TableStands t) where
+module _ (t : RunTable) (nodes : Nodes) (joined : IsJoined nodes) (are : AreNodesOf t nodes) (stands : TableStands t) where
   reaches_by : (a b : ℕ) → LeadsTo t.edges a b → (a ≡ b) ⊎ (reaches t a b ≡ true)
   unfolding reaches
   reaches_by a b (inl same) = inl same
@@ -134,19 +134,19 @@ module _ (t : Table) (nodes : Nodes) (joined : IsJoined nodes) (are : AreNodesOf
       let e = filter_edge t nodes joined are stands a c is in
       leads_on t.edges drive a c so_far (inr (subst (Reaches t.edges a) e.to (Reaches-edge t.edges a e.edge e.there e.from)))) drive (inl refl)
 
-  pub stop_reached : (w : Face) (new : Nodes) (drive : ℕ) (outcome : Outcome) (dev : DevNo) → w.nodes ≡ nodes → (stop : StoppedOn nodes new drive outcome dev)
-      → dev ≡ stop.before.number → ReachesDevice t (sources_of w) drive dev.0
+  pub stop_reached : (w : WorldSeen) (new : Nodes) (drive : ℕ) (outcome : Outcome) (dev : DevNo) → w.nodes ≡ nodes → (stop : StoppedOn nodes new drive outcome dev)
+      → dev ≡ stop.before.number → ReachesDevice t (seen_sources w) drive dev.0
   stop_reached w new drive outcome dev same stop named = record {
     file = stop.file;
     leads = reaches_by drive stop.file (subst (λ (es : List Edge). LeadsTo es drive stop.file) are.edges stop.leads);
     device =
-        ap (λ (ns : Nodes). option_map (λ (d : DeviceState). d.number.0) (device_in ns.devices stop.file)) same
-        ∙ ap (option_map (λ (d : DeviceState). d.number.0)) stop.held ∙ ap (λ (d : DevNo). Some d.0) (sym named);
+        ap (λ (ns : Nodes). option_map (λ (d : DeviceSeen). d.number.0) (device_in ns.devices stop.file)) same
+        ∙ ap (option_map (λ (d : DeviceSeen). d.number.0)) stop.held ∙ ap (λ (d : DevNo). Some d.0) (sym named);
   }
 
 -- ---- the device of a node afterwards
 
-pub same_in : (old new : List DeviceState) (n : ℕ) (a b : DeviceState) → AreSameDevices old new → device_in old n ≡ Some a → device_in new n ≡ Some b → IsSameDevice a b
+pub same_in : (old new : List DeviceSeen) (n : ℕ) (a b : DeviceSeen) → AreSameDevices old new → device_in old n ≡ Some a → device_in new n ≡ Some b → IsSameDevice a b
 same_in [] new n a b same held left = absurd (let bad : ⊥ = cc held in bad)
 same_in (x ∷ old) [] n a b same held left = absurd same
 same_in (x ∷ old) (y ∷ new) n a b same held left =
@@ -157,5 +157,5 @@ same_in (x ∷ old) (y ∷ new) n a b same held left =
     by_test true held left rest =
         let first : x ≡ a = cc held in
         let second : y ≡ b = cc left in
-        subst (λ (d : DeviceState). IsSameDevice d b) first (subst (IsSameDevice x) second same.0)
+        subst (λ (d : DeviceSeen). IsSameDevice d b) first (subst (IsSameDevice x) second same.0)
     by_test false held left rest = rest held left

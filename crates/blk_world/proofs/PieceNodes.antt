@@ -12,22 +12,22 @@ use Rattle.blk_graph.specs.Graph.{Graph}
 use Rattle.blk_graph.specs.declared.edge.Role.TheVariants.{File as FileRole}
 use Rattle.blk_history.specs.Disk.{payload_in, is_write}
 use Rattle.blk_history.specs.Fold.{With}
-use Rattle.qmp_rules.specs.Table.{Table, node_at}
+use Rattle.qmp_rules.specs.Table.{RunTable, node_by_id}
 use Rattle.qmp_rules.specs.declared.rows.NodeRecord.{NodeRecord}
-use Rattle.flat_machine.specs.EventLicence.{device_in as device_named}
+use Rattle.flat_machine.specs.EventLicence.{faulty_device}
 use Rattle.blk_nodes.specs.Copying.{AtSome, LacksRoomIn}
 use Rattle.blk_nodes.specs.Flushing.{base_in, base_of, HasFlushCause, IsFlushAt}
 use Rattle.blk_nodes.specs.Joined.{IsJoined}
-use Rattle.blk_nodes.specs.Nodes.{Nodes, DeviceState, row_at, device_in, file_of, kind_of}
+use Rattle.blk_nodes.specs.Nodes.{Nodes, DeviceSeen, row_at, device_in, file_of, driver_kind}
 use Rattle.blk_nodes.specs.Reading.{IsReadBelow, LeadsTo, StoppedBy, StoppedBelow}
-use Rattle.blk_nodes.specs.Writing.{IsDriverAfter, AreRowsAfter, WritesFile, WritesImage, WritesBy, ZerosBy, HasCauseOf, HasPieceCause, MayWrite, CanBeWritten, own_file, own_start}
+use Rattle.blk_nodes.specs.Writing.{IsDriverAfter, AreRowsAfter, WritesFile, WritesImage, WritesBy, ZerosBy, HasCauseOf, HasPieceCause, MayWriteThrough, CanBeWritten, own_file, own_start}
 use Rattle.blk_nodes.specs.declared.row.Driver.{Driver}
 use Rattle.blk_nodes.specs.declared.row.Driver.TheVariants as drivers
 use Rattle.blk_nodes.specs.declared.row.Row.{Row}
 use Rattle.blk_pieces.proofs.Kept.{LacksItsRoom}
 use Rattle.blk_pieces.proofs.Rows.{RowsAfter, rows_kept, rows_after}
 use Rattle.blk_nodes.proofs.Leading.{leads_on, child_leads, stopped_piece}
-use Rattle.world_parts.specs.Coherent.{AreNodesOf, AreAlike, IsRowOf, offset_of}
+use Rattle.world_parts.specs.Coherent.{AreNodesOf, AreAlike, IsRowOf, offset_by_driver}
 use Rattle.world_commands.specs.Counting.{AreSameDevices}
 use Rattle.blk_pieces.specs.Pieces.{Transfers}
 use Rattle.world_commands.specs.Piecing.{PassesBy, write_passes, read_passes, piece_passes}
@@ -79,13 +79,13 @@ module _ (old new : Nodes) (joined : IsJoined old) where
   flush_devices file outcome flushed =
       same-only file old.devices new.devices flushed.before flushed.after joined.once flushed.only flushed.held flushed.left
       (record {
-        node = ap (λ (d : DeviceState). d.node) flushed.flush.is;
-        number = ap (λ (d : DeviceState). d.number) flushed.flush.is;
-        capacity = ap (λ (d : DeviceState). d.capacity) flushed.flush.is;
+        node = ap (λ (d : DeviceSeen). d.node) flushed.flush.is;
+        number = ap (λ (d : DeviceSeen). d.number) flushed.flush.is;
+        capacity = ap (λ (d : DeviceSeen). d.capacity) flushed.flush.is;
         faults = flushed.flush.faults;
       })
 
-  module _ (t : Table) (drive node : ℕ) (part : Extent) (outcome : Outcome) (buffer : List ℕ) where
+  module _ (t : RunTable) (drive node : ℕ) (part : Extent) (outcome : Outcome) (buffer : List ℕ) where
     read_devices : ReadWent t old new drive node part outcome buffer → AreSameDevices old.devices new.devices
     read_devices (inl only) = same-risen old.devices new.devices only.devices
     read_devices (inr (inl full)) = subst (λ (n : Nodes). AreSameDevices old.devices n.devices) (sym full.room.same) (same-devices old.devices)
@@ -105,11 +105,11 @@ module _ (old new : Nodes) (joined : IsJoined old) where
 
 -- ---- the table speaks of them as before
 
-driver_after : (d e : Driver) → IsDriverAfter d e → (kind_of e ≡ kind_of d) × (offset_of e ≡ offset_of d)
-driver_after drivers.File e is = (ap kind_of is, ap offset_of is)
-driver_after (drivers.Raw part) e is = (ap kind_of is, ap offset_of is)
-driver_after (drivers.Qcow2 image) e is = (ap kind_of is.1, ap offset_of is.1)
-driver_after drivers.CopyOnRead e is = (ap kind_of is, ap offset_of is)
+driver_after : (d e : Driver) → IsDriverAfter d e → (driver_kind e ≡ driver_kind d) × (offset_by_driver e ≡ offset_by_driver d)
+driver_after drivers.File e is = (ap driver_kind is, ap offset_by_driver is)
+driver_after (drivers.Raw part) e is = (ap driver_kind is, ap offset_by_driver is)
+driver_after (drivers.Qcow2 image) e is = (ap driver_kind is.1, ap offset_by_driver is.1)
+driver_after drivers.CopyOnRead e is = (ap driver_kind is, ap offset_by_driver is)
 
 alike_row : (record' : Option NodeRecord) (old new : Option Row) → AreRowsAfter old new → AreAlike record' old → AreAlike record' new
 alike_row record' None new is alike = subst (AreAlike record') (sym is) alike
@@ -125,11 +125,11 @@ alike_row (Some row) (Some old) new is alike =
     } in
     subst (AreAlike (Some row)) (sym is.1) now
 
-pub alike_after : (t : Table) (old new : Nodes) → AreAfter old new → AreNodesOf t old → AreNodesOf t new
+pub alike_after : (t : RunTable) (old new : Nodes) → AreAfter old new → AreNodesOf t old → AreNodesOf t new
 alike_after t old new after are = record {
   listed = ap (λ (g : Graph). g.nodes) after.graph ∙ are.listed;
   edges = ap (λ (g : Graph). g.edges) after.graph ∙ are.edges;
-  rows = λ id. alike_row (node_at t id) (row_at old id) (row_at new id) (after.rows id) (are.rows id);
+  rows = λ id. alike_row (node_by_id t id) (row_at old id) (row_at new id) (after.rows id) (are.rows id);
 }
 
 -- ---- whose device stopped it
@@ -142,7 +142,7 @@ IsPlain (drivers.Qcow2 image) = ⊥
 IsPlain drivers.CopyOnRead = ⊥
 
 -- a device that the node leads to; where a count is told, it rose to that
-abbrev pub IsStop : DeviceState → DeviceState → Outcome → DevNo → Type 0
+abbrev pub IsStop : DeviceSeen → DeviceSeen → Outcome → DevNo → Type 0
 IsStop before after Good dev = ⊥
 IsStop before after (Torn done other count) dev = StoppedBy before after dev count
 IsStop before after (Io other count) dev = StoppedBy before after dev count
@@ -151,8 +151,8 @@ IsStop before after (NoSpace other) dev = dev ≡ before.number
 pub record StoppedOn (old new : Nodes) (node : ℕ) (outcome : Outcome) (dev : DevNo) : Type 0 where
   pub file : ℕ
   pub leads : LeadsTo old.graph.edges node file
-  pub before : DeviceState
-  pub after : DeviceState
+  pub before : DeviceSeen
+  pub after : DeviceSeen
   pub held : device_in old.devices file ≡ Some before
   pub left : device_in new.devices file ≡ Some after
   pub stop : IsStop before after outcome dev
@@ -169,7 +169,7 @@ module _ (old new : Nodes) (node : ℕ) where
     stop = subst (λ (o : Outcome). IsStop stopped.stopped.before stopped.stopped.after o dev) (sym is) stopped.stopped.stopped;
   }
 
-  read_stop : (outcome : Outcome) (dev : DevNo) → device_named outcome ≡ Some dev → IsReadBelow old new node outcome → StoppedOn old new node outcome dev
+  read_stop : (outcome : Outcome) (dev : DevNo) → faulty_device outcome ≡ Some dev → IsReadBelow old new node outcome → StoppedOn old new node outcome dev
   read_stop Good dev named is = absurd (let bad : ⊥ = cc named in bad)
   read_stop (Torn done other count) dev named is = absurd is
   read_stop (Io other count) dev named is =
@@ -177,7 +177,7 @@ module _ (old new : Nodes) (node : ℕ) where
       stop_below (Io other count) dev count (ap (λ (d : DevNo). Io d count) same) (subst (λ (d : DevNo). StoppedBelow old new node d count) same is)
   read_stop (NoSpace other) dev named is = absurd is
 
-  write_stop_by : (before after : DeviceState) (place n : ℕ) (outcome : Outcome) (dev : DevNo) → device_named outcome ≡ Some dev → HasCauseOf before after place n outcome → IsStop before after outcome dev
+  write_stop_by : (before after : DeviceSeen) (place n : ℕ) (outcome : Outcome) (dev : DevNo) → faulty_device outcome ≡ Some dev → HasCauseOf before after place n outcome → IsStop before after outcome dev
   write_stop_by before after place n Good dev named cause = absurd (let bad : ⊥ = cc named in bad)
   write_stop_by before after place n (Torn done other count) dev named cause =
       let same : other ≡ dev = cc named in subst (λ (d : DevNo). StoppedBy before after d count) same cause.4
@@ -185,7 +185,7 @@ module _ (old new : Nodes) (node : ℕ) where
       let same : other ≡ dev = cc named in subst (λ (d : DevNo). StoppedBy before after d count) same cause.1
   write_stop_by before after place n (NoSpace other) dev named cause = let same : other ≡ dev = cc named in sym same ∙ cause.1
 
-  file_stop : (place : ℕ) (bytes : List ℕ) (outcome : Outcome) (dev : DevNo) → device_named outcome ≡ Some dev → (wrote : WritesFile old new node place bytes outcome)
+  file_stop : (place : ℕ) (bytes : List ℕ) (outcome : Outcome) (dev : DevNo) → faulty_device outcome ≡ Some dev → (wrote : WritesFile old new node place bytes outcome)
       → LeadsTo old.graph.edges node wrote.file → StoppedOn old new node outcome dev
   file_stop place bytes outcome dev named wrote leads = record {
     file = wrote.file;
@@ -197,7 +197,7 @@ module _ (old new : Nodes) (node : ℕ) where
     stop = write_stop_by wrote.at.before wrote.at.after wrote.start (length bytes) outcome dev named wrote.at.wrote.cause;
   }
 
-  image_stop : (fits : ℕ → Type 0) (own rest : Option ℕ) (n : ℕ) (outcome : Outcome) (dev : DevNo) → device_named outcome ≡ Some dev
+  image_stop : (fits : ℕ → Type 0) (own rest : Option ℕ) (n : ℕ) (outcome : Outcome) (dev : DevNo) → faulty_device outcome ≡ Some dev
       → (wrote : WritesImage fits own rest old new node n outcome) → StoppedOn old new node outcome dev
   image_stop fits own rest n outcome dev named wrote = by_cause outcome refl named wrote.cause
     where
@@ -212,7 +212,7 @@ module _ (old new : Nodes) (node : ℕ) where
         stop = stop;
       }
 
-      by_cause : (o : Outcome) → outcome ≡ o → device_named o ≡ Some dev → HasPieceCause (fits wrote.before.capacity) own rest n wrote.file old new node wrote.before wrote.after o
+      by_cause : (o : Outcome) → outcome ≡ o → faulty_device o ≡ Some dev → HasPieceCause (fits wrote.before.capacity) own rest n wrote.file old new node wrote.before wrote.after o
           → StoppedOn old new node outcome dev
       by_cause Good is named cause = absurd (let bad : ⊥ = cc named in bad)
       by_cause (Torn done other count) is named cause =
@@ -226,7 +226,7 @@ module _ (old new : Nodes) (node : ℕ) where
           let same : other ≡ dev = cc named in
           here (subst (λ (o : Outcome). IsStop wrote.before wrote.after o dev) (sym is) (sym same ∙ cause.1))
 
-  flush_stop_by : (before after : DeviceState) (outcome : Outcome) (dev : DevNo) → device_named outcome ≡ Some dev → HasFlushCause before after outcome → IsStop before after outcome dev
+  flush_stop_by : (before after : DeviceSeen) (outcome : Outcome) (dev : DevNo) → faulty_device outcome ≡ Some dev → HasFlushCause before after outcome → IsStop before after outcome dev
   flush_stop_by before after Good dev named cause = absurd (let bad : ⊥ = cc named in bad)
   flush_stop_by before after (Torn done other count) dev named cause = absurd cause
   flush_stop_by before after (Io other count) dev named cause =
@@ -248,7 +248,7 @@ base_leads nodes (suc turns) node = by_file (file_of nodes node) refl (base_lead
     by_file None is rest = inl refl
     by_file (Some next) is rest = leads_on nodes.graph.edges node next (base_in turns nodes next) (child_leads nodes.graph.edges node next FileRole is) (rest next)
 
-flush_stop : (old new : Nodes) (node : ℕ) (outcome : Outcome) (dev : DevNo) → device_named outcome ≡ Some dev → IsFlushAt (base_of old node) old.devices new.devices outcome
+flush_stop : (old new : Nodes) (node : ℕ) (outcome : Outcome) (dev : DevNo) → faulty_device outcome ≡ Some dev → IsFlushAt (base_of old node) old.devices new.devices outcome
     → StoppedOn old new node outcome dev
 unfolding base_of
 flush_stop old new node outcome dev named flushed = record {
@@ -268,26 +268,26 @@ module _ (old new : Nodes) (node : ℕ) where
       let same : wrote.row ≡ row = cc (sym wrote.there ∙ there) in
       ap (own_file old node) (sym driver ∙ ap (λ (r : Row). r.driver) (sym same)) ∙ wrote.own
 
-  plain_stop : (place : ℕ) (bytes : List ℕ) (outcome : Outcome) (dev : DevNo) (row : Row) (d : Driver) → device_named outcome ≡ Some dev → row_at old node ≡ Some row → row.driver ≡ d → IsPlain d
+  plain_stop : (place : ℕ) (bytes : List ℕ) (outcome : Outcome) (dev : DevNo) (row : Row) (d : Driver) → faulty_device outcome ≡ Some dev → row_at old node ≡ Some row → row.driver ≡ d → IsPlain d
       → WritesFile old new node place bytes outcome → StoppedOn old new node outcome dev
   plain_stop place bytes outcome dev row d named there driver plain wrote =
       file_stop old new node place bytes outcome dev named wrote
       (plain_leads old node wrote.file d plain (own_of place bytes outcome row d there driver wrote))
 
   -- a node that may be written copies no reads
-  not_copying : (row : Row) → row_at old node ≡ Some row → row.driver ≡ drivers.CopyOnRead → MayWrite old node → ⊥
+  not_copying : (row : Row) → row_at old node ≡ Some row → row.driver ≡ drivers.CopyOnRead → MayWriteThrough old node → ⊥
   not_copying row there driver may =
       let same : may.row ≡ row = cc (sym may.there ∙ there) in
       subst (CanBeWritten old node) (ap (λ (r : Row). r.driver) same ∙ driver) may.can
 
-  written_stop : (part : Extent) (bytes : List ℕ) (outcome : Outcome) (dev : DevNo) (row : Row) → device_named outcome ≡ Some dev → row_at old node ≡ Some row → MayWrite old node
+  written_stop : (part : Extent) (bytes : List ℕ) (outcome : Outcome) (dev : DevNo) (row : Row) → faulty_device outcome ≡ Some dev → row_at old node ≡ Some row → MayWriteThrough old node
       → (d : Driver) → row.driver ≡ d → WritesBy d old new node part bytes outcome → StoppedOn old new node outcome dev
   written_stop part bytes outcome dev row named there may drivers.File driver wrote = plain_stop part.start bytes outcome dev row drivers.File named there driver tt wrote
   written_stop part bytes outcome dev row named there may (drivers.Raw p) driver wrote = plain_stop part.start bytes outcome dev row (drivers.Raw p) named there driver tt wrote
   written_stop part bytes outcome dev row named there may (drivers.Qcow2 image) driver wrote = image_stop old new node _ _ _ _ outcome dev named wrote
   written_stop part bytes outcome dev row named there may drivers.CopyOnRead driver wrote = absurd (not_copying row there driver may)
 
-  zeroed_stop : (part : Extent) (outcome : Outcome) (dev : DevNo) (row : Row) → device_named outcome ≡ Some dev → row_at old node ≡ Some row → MayWrite old node
+  zeroed_stop : (part : Extent) (outcome : Outcome) (dev : DevNo) (row : Row) → faulty_device outcome ≡ Some dev → row_at old node ≡ Some row → MayWriteThrough old node
       → (d : Driver) → row.driver ≡ d → ZerosBy d old new node part outcome → StoppedOn old new node outcome dev
   zeroed_stop part outcome dev row named there may drivers.File driver wrote = plain_stop part.start (replicate part.len 0) outcome dev row drivers.File named there driver tt wrote
   zeroed_stop part outcome dev row named there may (drivers.Raw p) driver wrote = plain_stop part.start (replicate part.len 0) outcome dev row (drivers.Raw p) named there driver tt wrote
@@ -306,7 +306,7 @@ stop_above old new above node outcome dev down stop = record {
   stop = stop.stop;
 }
 
-module _ (t : Table) (old new : Nodes) (drive node : ℕ) (part : Extent) (outcome : Outcome) (buffer : List ℕ) (dev : DevNo) (named : device_named outcome ≡ Some dev)
+module _ (t : RunTable) (old new : Nodes) (drive node : ℕ) (part : Extent) (outcome : Outcome) (buffer : List ℕ) (dev : DevNo) (named : faulty_device outcome ≡ Some dev)
     (down : LeadsTo old.graph.edges drive node) where
   above : StoppedOn old new node outcome dev → StoppedOn old new drive outcome dev
   above stop = stop_above old new drive node outcome dev down stop
@@ -314,7 +314,7 @@ module _ (t : Table) (old new : Nodes) (drive node : ℕ) (part : Extent) (outco
   -- where there was no room, it is for the device of the image's file
   full_stop : LacksItsRoom old new node part outcome → StoppedOn old new drive outcome dev
   full_stop full =
-      let own : full.dev ≡ dev = (let both : Some full.dev ≡ Some dev = sym (ap device_named full.is) ∙ named in cc both) in
+      let own : full.dev ≡ dev = (let both : Some full.dev ≡ Some dev = sym (ap faulty_device full.is) ∙ named in cc both) in
       above (record {
         file = full.lacks.file;
         leads = child_leads old.graph.edges node full.lacks.file FileRole full.lacks.edge;
@@ -331,7 +331,7 @@ module _ (t : Table) (old new : Nodes) (drive node : ℕ) (part : Extent) (outco
   read_stopped (inr (inr into)) = above (image_stop old new node _ _ _ _ outcome dev named (into_image t old new drive node part outcome buffer into))
 
   -- The device that a piece names is one that its drive leads to.
-  pub stop_of : (op : Op) → (is_write op ≡ true → MayWrite old node) → Went t op old new drive node part outcome buffer → StoppedOn old new drive outcome dev
+  pub stop_of : (op : Op) → (is_write op ≡ true → MayWriteThrough old node) → Went t op old new drive node part outcome buffer → StoppedOn old new drive outcome dev
   stop_of (Read span) may went = read_stopped went
   stop_of (Write span payload) may went =
       above (written_stop old new node part (payload_in (Write span payload) part) outcome dev went.0.row named went.0.there (may refl) went.0.row.driver refl went.0.wrote)
@@ -347,7 +347,7 @@ pub record IsFull (old : Nodes) (node : ℕ) (op : Op) (part : Extent) (dev : De
   pub there : row_at old node ≡ Some row
   pub file : ℕ
   pub own : own_file old node row.driver ≡ Some file
-  pub before : DeviceState
+  pub before : DeviceSeen
   pub held : device_in old.devices file ≡ Some before
   pub named : dev ≡ before.number
   pub passes : PassesBy row.driver op part before.capacity
@@ -384,20 +384,20 @@ module _ (old new : Nodes) (node : ℕ) (part : Extent) (dev : DevNo) (row : Row
     passes = subst (λ (x : Driver). PassesBy x op part wrote.before.capacity) (sym driver) passes;
   }
 
-  write_full : (span : Extent) (payload : Payload) (bytes : List ℕ) → length bytes ≡ part.len → MayWrite old node → (d : Driver) → row.driver ≡ d
+  write_full : (span : Extent) (payload : Payload) (bytes : List ℕ) → length bytes ≡ part.len → MayWriteThrough old node → (d : Driver) → row.driver ≡ d
       → WritesBy d old new node part bytes (NoSpace dev) → IsFull old node (Write span payload) part dev
   write_full span payload bytes len may drivers.File driver wrote = plain_full (Write span payload) bytes drivers.File driver len wrote (λ past. past)
   write_full span payload bytes len may (drivers.Raw p) driver wrote = plain_full (Write span payload) bytes (drivers.Raw p) driver len wrote (λ past. past)
   write_full span payload bytes len may (drivers.Qcow2 image) driver wrote = image_full (Write span payload) _ _ _ _ (drivers.Qcow2 image) driver refl wrote wrote.cause.0
   write_full span payload bytes len may drivers.CopyOnRead driver wrote = absurd (not_copying old new node row there driver may)
 
-  zero_full : (span : Extent) → MayWrite old node → (d : Driver) → row.driver ≡ d → ZerosBy d old new node part (NoSpace dev) → IsFull old node (Zero span) part dev
+  zero_full : (span : Extent) → MayWriteThrough old node → (d : Driver) → row.driver ≡ d → ZerosBy d old new node part (NoSpace dev) → IsFull old node (Zero span) part dev
   zero_full span may drivers.File driver wrote = plain_full (Zero span) (replicate part.len 0) drivers.File driver (length-replicate part.len 0) wrote (λ past. past)
   zero_full span may (drivers.Raw p) driver wrote = plain_full (Zero span) (replicate part.len 0) (drivers.Raw p) driver (length-replicate part.len 0) wrote (λ past. past)
   zero_full span may (drivers.Qcow2 image) driver wrote = image_full (Zero span) _ _ _ _ (drivers.Qcow2 image) driver refl wrote wrote.cause.0
   zero_full span may drivers.CopyOnRead driver wrote = absurd (not_copying old new node row there driver may)
 
-module _ (t : Table) (old new : Nodes) (drive node : ℕ) (part : Extent) (buffer : List ℕ) (dev : DevNo) where
+module _ (t : RunTable) (old new : Nodes) (drive node : ℕ) (part : Extent) (buffer : List ℕ) (dev : DevNo) where
   full_passes : (op : Op) → IsFull old node op part dev → write_passes old node op part dev.0
   full_passes op full =
       subst
@@ -405,7 +405,7 @@ module _ (t : Table) (old new : Nodes) (drive node : ℕ) (part : Extent) (buffe
       (λ device. (device.number.0 ≡ dev.0) × PassesBy r.driver op part device.capacity)))) (sym full.there)
       (subst (λ (own : Option ℕ). With own (λ file. With (device_in old.devices file) (λ device. (device.number.0 ≡ dev.0) × PassesBy full.row.driver op part device.capacity)))
       (sym full.own)
-      (subst (λ (found : Option DeviceState). With found (λ device. (device.number.0 ≡ dev.0) × PassesBy full.row.driver op part device.capacity)) (sym full.held)
+      (subst (λ (found : Option DeviceSeen). With found (λ device. (device.number.0 ≡ dev.0) × PassesBy full.row.driver op part device.capacity)) (sym full.held)
       (ap (λ (d : DevNo). d.0) (sym full.named), full.passes)))
 
   read_full : ReadWent t old new drive node part (NoSpace dev) buffer → read_passes old drive part dev.0
@@ -419,7 +419,7 @@ module _ (t : Table) (old new : Nodes) (drive node : ℕ) (part : Extent) (buffe
   read_full (inr (inr into)) = absurd into.maps.whole
 
   -- Where there was no room, a write would have passed the device's capacity.
-  pub passes_of : (op : Op) → (is_write op ≡ true → length (payload_in op part) ≡ part.len) → (is_write op ≡ true → MayWrite old node)
+  pub passes_of : (op : Op) → (is_write op ≡ true → length (payload_in op part) ≡ part.len) → (is_write op ≡ true → MayWriteThrough old node)
       → Went t op old new drive node part (NoSpace dev) buffer → piece_passes old drive node op part dev.0
   passes_of (Read span) len may went = read_full went
   passes_of (Write span payload) len may went =

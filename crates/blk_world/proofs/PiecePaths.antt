@@ -20,8 +20,8 @@ use Rattle.blk_graph.proofs.GraphLemmas.{PathsAreShort-from_IsSound}
 use Rattle.blk_graph.proofs.InverseLemmas.{same_parent-refl}
 use Rattle.blk_graph.proofs.Members.{Contains-nil, Contains-cases, find-Some}
 use Rattle.blk_graph.proofs.RoleLemmas.{same_role-true, same_role-refl, head_pairs, tail_pairs}
-use Rattle.qmp_rules.specs.Chains.{filter_role, filtered, disk_from, disk_node, chain_from, chain, below, has_id, is_over}
-use Rattle.qmp_rules.specs.Table.{Table, node_at, child}
+use Rattle.qmp_rules.specs.Chains.{filter_role, filtered, disk_from, disk_node, chain_from, chain, chain_below, is_listed, is_over}
+use Rattle.qmp_rules.specs.Table.{RunTable, node_by_id, child}
 use Rattle.qmp_rules.specs.declared.rows.NodeRecord.{NodeRecord}
 use Rattle.flat_machine.specs.Wiring.{LeadsToFile, TableStands}
 use Rattle.flat_machine.proofs.Kept.{own_disk}
@@ -122,31 +122,31 @@ no_role r h = false≢true h
 -- ---- one edge of a path
 
 -- by an edge a filter reads, or it is a node's edge to its backing node or to its file
-pub record IsStepFrom (t : Table) (a : ℕ) (e : Edge) : Type 0 where
+pub record IsStepFrom (t : RunTable) (a : ℕ) (e : Edge) : Type 0 where
   pub row : NodeRecord
-  pub there : node_at t a ≡ Some row
+  pub there : node_by_id t a ≡ Some row
   pub held : Contains t.nodes row
   pub id : row.id ≡ a
   pub child_at : child t a e.role ≡ Some e.child
   pub step : (filtered t a ≡ Some e.child) ⊎ ((filter_role row.kind ≡ None) × ((e.role ≡ Backing) ⊎ (e.role ≡ File)))
 
 -- a row that is there
-pub record IsRowAt (t : Table) (id : ℕ) : Type 0 where
+pub record IsRowAt (t : RunTable) (id : ℕ) : Type 0 where
   pub row : NodeRecord
-  pub there : node_at t id ≡ Some row
+  pub there : node_by_id t id ≡ Some row
   pub held : Contains t.nodes row
   pub id_is : row.id ≡ id
 
-pub row_there : (t : Table) (id : ℕ) → IsSome (node_at t id) → IsRowAt t id
-row_there t id some = by_row (node_at t id) refl some
+pub row_there : (t : RunTable) (id : ℕ) → IsSome (node_by_id t id) → IsRowAt t id
+row_there t id some = by_row (node_by_id t id) refl some
   where
-    by_row : (found : Option NodeRecord) → node_at t id ≡ found → IsSome found → IsRowAt t id
+    by_row : (found : Option NodeRecord) → node_by_id t id ≡ found → IsSome found → IsRowAt t id
     by_row None is none = absurd (false≢true none)
     by_row (Some row) is found =
         let at = find-Some (λ (r : NodeRecord). r.id == id) t.nodes row is in
         record { row = row; there = is; held = at.0; id_is = eqb-true row.id id at.1 }
 
-chain_begins : (n : ℕ) (t : Table) (id : ℕ) → chain_from n t id ≡ id ∷ drop 1 (chain_from n t id)
+chain_begins : (n : ℕ) (t : RunTable) (id : ℕ) → chain_from n t id ≡ id ∷ drop 1 (chain_from n t id)
 chain_begins zero t id = refl
 chain_begins (suc n) t id = refl
 
@@ -158,7 +158,7 @@ pub or-left : (a b : Bool) → a ≡ true → (a || b) ≡ true
 or-left true b is = refl
 or-left false b is = absurd (false≢true is)
 
-module _ (t : Table) (nodes : Nodes) (joined : IsJoined nodes) (are : AreNodesOf t nodes) (stands : TableStands t) where
+module _ (t : RunTable) (nodes : Nodes) (joined : IsJoined nodes) (are : AreNodesOf t nodes) (stands : TableStands t) where
   pub acyclic : IsAcyclic t.edges
   acyclic = subst IsAcyclic are.edges joined.sound.just.acyclic
 
@@ -183,7 +183,7 @@ module _ (t : Table) (nodes : Nodes) (joined : IsJoined nodes) (are : AreNodesOf
         step = by_role row.row row.there at role.step;
       }
     where
-      by_role : (row : NodeRecord) → node_at t a ≡ Some row → child t a e.role ≡ Some e.child
+      by_role : (row : NodeRecord) → node_by_id t a ≡ Some row → child t a e.role ≡ Some e.child
           → ((filter_role row.kind ≡ Some e.role) ⊎ ((filter_role row.kind ≡ None) × ((e.role ≡ Backing) ⊎ (e.role ≡ File))))
           → ((filtered t a ≡ Some e.child) ⊎ ((filter_role row.kind ≡ None) × ((e.role ≡ Backing) ⊎ (e.role ≡ File))))
       by_role row is at (inl filter) =
@@ -194,7 +194,7 @@ module _ (t : Table) (nodes : Nodes) (joined : IsJoined nodes) (are : AreNodesOf
   -- ---- filters
 
   filtered-edge : (a c : ℕ) → filtered t a ≡ Some c → HasEdge t.edges (Node a) c
-  filtered-edge a c is = by_role (option_and_then (λ (row : NodeRecord). filter_role row.kind) (node_at t a)) is
+  filtered-edge a c is = by_role (option_and_then (λ (row : NodeRecord). filter_role row.kind) (node_by_id t a)) is
     where
       by_role : (role : Option Role) → option_and_then (child t a) role ≡ Some c → HasEdge t.edges (Node a) c
       by_role None bad = absurd (let e : ⊥ = cc bad in e)
@@ -269,20 +269,20 @@ module _ (t : Table) (nodes : Nodes) (joined : IsJoined nodes) (are : AreNodesOf
   abbrev pub OnlyFilters : NodeRecord → Type 0
   OnlyFilters row = (over : NodeRecord) → LeadsToFile t over row → IsSome (filter_role over.kind)
 
-  module _ (b : ℕ) (row : NodeRecord) (at : node_at t b ≡ Some row) (own : filter_role row.kind ≡ None) (filters : OnlyFilters row) where
+  module _ (b : ℕ) (row : NodeRecord) (at : node_by_id t b ≡ Some row) (own : filter_role row.kind ≡ None) (filters : OnlyFilters row) where
     abbrev pub IsReadBy : ℕ → ℕ → Type 0
-    IsReadBy n a = (disk_node t a ≡ b) ⊎ (has_id b (drop 1 (chain_from n t (disk_node t a))) ≡ true)
+    IsReadBy n a = (disk_node t a ≡ b) ⊎ (is_listed b (drop 1 (chain_from n t (disk_node t a))) ≡ true)
 
     -- one more backing node at the top
-    over_backing : (m a c : ℕ) → disk_node t a ≡ a → child t a Backing ≡ Some c → IsReadBy m c → has_id b (drop 1 (chain_from (suc m) t (disk_node t a))) ≡ true
+    over_backing : (m a c : ℕ) → disk_node t a ≡ a → child t a Backing ≡ Some c → IsReadBy m c → is_listed b (drop 1 (chain_from (suc m) t (disk_node t a))) ≡ true
     over_backing m a c itself under is =
-        ap (λ (id : ℕ). has_id b (drop 1 (chain_from (suc m) t id))) itself
-        ∙ ap (λ (found : Option ℕ). has_id b (elim (option_map (disk_node t) found) as (λ _. List ℕ) [ None ↦ [] | Some low ↦ chain_from m t low ])) under
-        ∙ ap (has_id b) (chain_begins m t (disk_node t c)) ∙ here is
+        ap (λ (id : ℕ). is_listed b (drop 1 (chain_from (suc m) t id))) itself
+        ∙ ap (λ (found : Option ℕ). is_listed b (elim (option_map (disk_node t) found) as (λ _. List ℕ) [ None ↦ [] | Some low ↦ chain_from m t low ])) under
+        ∙ ap (is_listed b) (chain_begins m t (disk_node t c)) ∙ here is
       where
-        here : IsReadBy m c → has_id b (disk_node t c ∷ drop 1 (chain_from m t (disk_node t c))) ≡ true
-        here (inl same) = or-left (disk_node t c == b) (has_id b (drop 1 (chain_from m t (disk_node t c)))) (eq-eqb (disk_node t c) b same)
-        here (inr later) = or-right (disk_node t c == b) (has_id b (drop 1 (chain_from m t (disk_node t c)))) later
+        here : IsReadBy m c → is_listed b (disk_node t c ∷ drop 1 (chain_from m t (disk_node t c))) ≡ true
+        here (inl same) = or-left (disk_node t c == b) (is_listed b (drop 1 (chain_from m t (disk_node t c)))) (eq-eqb (disk_node t c) b same)
+        here (inr later) = or-right (disk_node t c == b) (is_listed b (drop 1 (chain_from m t (disk_node t c)))) later
 
     -- an edge of a format node to its file is on no path to this node
     dead_end : (a : ℕ) (e : Edge) (s : IsStepFrom t a e) (p : List Edge) → Contains t.edges e → e.parent ≡ Node a → e.role ≡ File
@@ -313,7 +313,7 @@ module _ (t : Table) (nodes : Nodes) (joined : IsJoined nodes) (are : AreNodesOf
       where
         by_step : (s : IsStepFrom t a e) → ((filtered t a ≡ Some e.child) ⊎ ((filter_role s.row.kind ≡ None) × ((e.role ≡ Backing) ⊎ (e.role ≡ File))))
             → IsReadBy (suc m) e.child → IsReadBy m e.child → IsReadBy (suc m) a
-        by_step s (inl filter) same fewer = subst (λ (id : ℕ). (id ≡ b) ⊎ (has_id b (drop 1 (chain_from (suc m) t id)) ≡ true)) (sym (through_filter a e.child filter)) same
+        by_step s (inl filter) same fewer = subst (λ (id : ℕ). (id ≡ b) ⊎ (is_listed b (drop 1 (chain_from (suc m) t id)) ≡ true)) (sym (through_filter a e.child filter)) same
         by_step s (inr (none, inl role)) same fewer =
             inr (over_backing m a e.child (own_disk t a s.row s.there none) (subst (λ (r : Role). child t a r ≡ Some e.child) role s.child_at) fewer)
         by_step s (inr (none, inr role)) same fewer = absurd (dead_end a e s p goes.0 goes.1 role none goes.2)

@@ -15,7 +15,7 @@ use Rattle.blk_graph.specs.declared.edge.Role.TheVariants.{File, Backing}
 use Rattle.blk_graph.proofs.NodeLemmas.{without_parent-apart}
 use Rattle.blk_graph.proofs.PathLemmas.{Reaches-edge, Reaches-joined}
 use Rattle.qmp_rules.specs.Chains.{filter_role, filtered, disk_node}
-use Rattle.qmp_rules.specs.Table.{Table, node_at, device_at, child}
+use Rattle.qmp_rules.specs.Table.{RunTable, node_by_id, device_by_number, child}
 use Rattle.qmp_rules.specs.declared.rows.Device.{Device}
 use Rattle.qmp_rules.specs.declared.rows.NodeRecord.{NodeRecord}
 use Rattle.blk_history.specs.Disk.{span_of, piece, is_write}
@@ -24,15 +24,15 @@ use Rattle.blk_history.specs.Machine.{Flight}
 use Rattle.flat_machine.specs.Agreement.{HasDisk}
 use Rattle.flat_machine.specs.Legal.{IsForbidden}
 use Rattle.flat_machine.specs.Machine.{copies_through}
-use Rattle.flat_machine.specs.State.{drive_of, disk_of_guest, size_of}
+use Rattle.flat_machine.specs.State.{drive_of, disk_of_guest, size_by_id}
 use Rattle.flat_machine.specs.Wiring.{LeadsToFile, IsUnderOne, IsDiskOf, TableStands}
 use Rattle.flat_machine.specs.Writing.{ReadsWritten}
-use Rattle.blk_nodes.specs.Contents.{below, disk_by, disk_of, Unfolds}
+use Rattle.blk_nodes.specs.Contents.{disk_under, disk_by, disk_of, Unfolds}
 use Rattle.blk_nodes.specs.Copying.{AtEach, IsBeside, images_met}
 use Rattle.blk_nodes.specs.Joined.{IsJoined, IsCopying, HasBelow}
-use Rattle.blk_nodes.specs.Nodes.{Nodes, row_at, file_of, kind_of, size_by, size_of as size_in}
+use Rattle.blk_nodes.specs.Nodes.{Nodes, row_at, file_of, driver_kind, size_by, node_size}
 use Rattle.blk_nodes.specs.Reading.{LeadsTo}
-use Rattle.blk_nodes.specs.Writing.{MayWrite, CanBeWritten, IsOverApart, OwnsFile, IsApartFrom, own_file}
+use Rattle.blk_nodes.specs.Writing.{MayWriteThrough, CanBeWritten, IsOverApart, OwnsFile, IsApartFrom, own_file}
 use Rattle.blk_nodes.specs.declared.row.Driver.{Driver}
 use Rattle.blk_nodes.specs.declared.row.Driver.TheVariants as drivers
 use Rattle.blk_nodes.specs.declared.row.Row.{Row}
@@ -79,8 +79,8 @@ last_edge edges (f ∷ p) e from to path =
 
 -- ---- a node with a flat disk
 
-module _ (t : Table) (nodes : Nodes) (joined : IsJoined nodes) (are : AreNodesOf t nodes) (stands : TableStands t)
-    (node : ℕ) (row : NodeRecord) (at : node_at t node ≡ Some row) (held : Contains t.nodes row) (id_is : row.id ≡ node) (has : HasDisk row) where
+module _ (t : RunTable) (nodes : Nodes) (joined : IsJoined nodes) (are : AreNodesOf t nodes) (stands : TableStands t)
+    (node : ℕ) (row : NodeRecord) (at : node_by_id t node ≡ Some row) (held : Contains t.nodes row) (id_is : row.id ≡ node) (has : HasDisk row) where
   -- what is over it by an edge to its file is a filter
   pub filters : OnlyFilters t nodes joined are stands row
   filters over file = by_name row.filename refl
@@ -101,7 +101,7 @@ module _ (t : Table) (nodes : Nodes) (joined : IsJoined nodes) (are : AreNodesOf
   over_file : (file : ℕ) → child t node File ≡ Some file → IsOverFile file
   over_file file is =
       let e = role_edge (Node node) File t.edges file is in
-      let under = row_there t file (subst (λ (n : ℕ). IsSome (node_at t n)) e.to (stands.edges e.edge e.there).child) in
+      let under = row_there t file (subst (λ (n : ℕ). IsSome (node_by_id t n)) e.to (stands.edges e.edge e.there).child) in
       let below : LeadsToFile t row under.row = record {
         over_there = held;
         under_there = under.held;
@@ -169,7 +169,7 @@ module _ (t : Table) (nodes : Nodes) (joined : IsJoined nodes) (are : AreNodesOf
     can_write (drivers.Raw part) is = tt
     can_write (drivers.Qcow2 image) is = over_apart
     can_write drivers.CopyOnRead is =
-        let kind = alike.kind ∙ ap kind_of is in
+        let kind = alike.kind ∙ ap driver_kind is in
         let bad : Some File ≡ None = sym (ap filter_role kind) ∙ has.own in
         cc bad
 
@@ -196,7 +196,7 @@ module _ (t : Table) (nodes : Nodes) (joined : IsJoined nodes) (are : AreNodesOf
         let over_own = own_row t nodes joined are stands other over.row over.there in
         let same : over_own.0 ≡ has_image.row = cc in
         let kind : filter_role over.row.kind ≡ None =
-        ap filter_role (over_own.2.kind ∙ ap (λ (r : Row). kind_of r.driver) same ∙ ap kind_of has_image.driver) in
+        ap filter_role (over_own.2.kind ∙ ap (λ (r : Row). driver_kind r.driver) same ∙ ap driver_kind has_image.driver) in
         absurd (false≢true (subst IsSome kind (filters over.row file)))
 
     owns_by : (d : Driver) (file : ℕ) → own_file nodes node d ≡ Some file → OwnsFile nodes node file
@@ -205,7 +205,7 @@ module _ (t : Table) (nodes : Nodes) (joined : IsJoined nodes) (are : AreNodesOf
     owns_by (drivers.Qcow2 image) file is = image_under file (sym (in_table node) ∙ is)
     owns_by drivers.CopyOnRead file is = absurd (let bad : ⊥ = cc is in bad)
 
-    pub may_write : row.read_only ≡ false → MayWrite nodes node
+    pub may_write : row.read_only ≡ false → MayWriteThrough nodes node
     may_write writable = record {
       row = own;
       there = own_at;
@@ -256,26 +256,26 @@ module _ (t : Table) (nodes : Nodes) (joined : IsJoined nodes) (are : AreNodesOf
 
 -- ---- a filter has its child's size, and its child's disk
 
-module _ (t : Table) (nodes : Nodes) (joined : IsJoined nodes) (are : AreNodesOf t nodes) (stands : TableStands t) where
+module _ (t : RunTable) (nodes : Nodes) (joined : IsJoined nodes) (are : AreNodesOf t nodes) (stands : TableStands t) where
   in_filter : (a c : ℕ) → child t a File ≡ Some c → file_of nodes a ≡ Some c
   in_filter a c is = ap (child_of (Node a) File) are.edges ∙ is
 
-  size_below : (a c : ℕ) → filtered t a ≡ Some c → size_in nodes c ≡ size_in nodes a
+  size_below : (a c : ℕ) → filtered t a ≡ Some c → node_size nodes c ≡ node_size nodes a
   size_below a c is =
       let e = filter_edge t nodes joined are stands a c is in
       let below : IsCopying nodes a e.over.size = subst (HasBelow nodes a e.over.size) e.copying (joined.below a e.over e.over_at) in
       let same : below.child ≡ c = (let both : Some below.child ≡ Some c = sym below.edge ∙ in_filter a c e.under in cc both) in
-      ap (size_in nodes) (sym same) ∙ ap size_by below.same.there ∙ below.same.is ∙ sym (ap size_by e.over_at)
+      ap (node_size nodes) (sym same) ∙ ap size_by below.same.there ∙ below.same.is ∙ sym (ap size_by e.over_at)
 
-  disk_size : (drive : ℕ) → size_in nodes (disk_node t drive) ≡ size_in nodes drive
+  disk_size : (drive : ℕ) → node_size nodes (disk_node t drive) ≡ node_size nodes drive
   disk_size drive =
-      down_disk t nodes joined are stands (λ n. size_in nodes n ≡ size_in nodes drive) (λ a c is so_far. size_below a c is ∙ so_far) drive refl
+      down_disk t nodes joined are stands (λ n. node_size nodes n ≡ node_size nodes drive) (λ a c is so_far. size_below a c is ∙ so_far) drive refl
 
   module _ (unfolds : Unfolds nodes) where
     disk_below : (a c : ℕ) → filtered t a ≡ Some c → disk_of nodes c ≡ disk_of nodes a
     disk_below a c is =
         let e = filter_edge t nodes joined are stands a c is in
-        sym (unfolds a e.over e.over_at ∙ ap (disk_by nodes (disk_of nodes) a) e.copying ∙ ap (below (disk_of nodes)) (in_filter a c e.under))
+        sym (unfolds a e.over e.over_at ∙ ap (disk_by nodes (disk_of nodes) a) e.copying ∙ ap (disk_under (disk_of nodes)) (in_filter a c e.under))
 
     pub disk_read : (drive : ℕ) → disk_of nodes (disk_node t drive) ≡ disk_of nodes drive
     disk_read drive =
@@ -309,12 +309,12 @@ not_forbidden op true changes allowed = absurd (allowed changes)
 -- ---- a guest's disk
 
 -- the node that a guest's drive reads as, with its row
-pub record IsGuestDisk (t : Table) (nodes : Nodes) (g node : ℕ) : Type 0 where
+pub record IsGuestDisk (t : RunTable) (nodes : Nodes) (g node : ℕ) : Type 0 where
   pub drive : ℕ
   pub on : drive_of t g ≡ Some drive
   pub node_is : node ≡ disk_node t drive
   pub row : NodeRecord
-  pub at : node_at t node ≡ Some row
+  pub at : node_by_id t node ≡ Some row
   pub held : Contains t.nodes row
   pub id_is : row.id ≡ node
   pub has : HasDisk row
@@ -322,12 +322,12 @@ pub record IsGuestDisk (t : Table) (nodes : Nodes) (g node : ℕ) : Type 0 where
   pub own_at : row_at nodes node ≡ Some own
   pub alike : IsRowOf row own
 
-module _ (t : Table) (nodes : Nodes) (joined : IsJoined nodes) where
-  pub guest_disk : (g drive : ℕ) → AreNodesOf t nodes → TableStands t → With (node_at t (disk_node t drive)) HasDisk → drive_of t g ≡ Some drive
+module _ (t : RunTable) (nodes : Nodes) (joined : IsJoined nodes) where
+  pub guest_disk : (g drive : ℕ) → AreNodesOf t nodes → TableStands t → With (node_by_id t (disk_node t drive)) HasDisk → drive_of t g ≡ Some drive
       → IsGuestDisk t nodes g (disk_node t drive)
-  guest_disk g drive are stands has on = by_row (node_at t (disk_node t drive)) refl has
+  guest_disk g drive are stands has on = by_row (node_by_id t (disk_node t drive)) refl has
     where
-      by_row : (found : Option NodeRecord) → node_at t (disk_node t drive) ≡ found → With found HasDisk → IsGuestDisk t nodes g (disk_node t drive)
+      by_row : (found : Option NodeRecord) → node_by_id t (disk_node t drive) ≡ found → With found HasDisk → IsGuestDisk t nodes g (disk_node t drive)
       by_row None is never = absurd never
       by_row (Some row) is disk =
           let there = row_there t (disk_node t drive) (subst IsSome (sym is) refl) in
@@ -347,27 +347,27 @@ module _ (t : Table) (nodes : Nodes) (joined : IsJoined nodes) where
             alike = own.2;
           }
 
-module _ (t : Table) (nodes : Nodes) (joined : IsJoined nodes) (stands : TableStands t) (are : AreNodesOf t nodes) where
+module _ (t : RunTable) (nodes : Nodes) (joined : IsJoined nodes) (stands : TableStands t) (are : AreNodesOf t nodes) where
   -- where the drive's row isn't read-only, its disk's isn't
-  disk_writable : (g node : ℕ) (d : IsGuestDisk t nodes g node) → With (node_at t d.drive) (λ row. row.read_only ≡ false) → d.row.read_only ≡ false
-  disk_writable g node d open_drive = by_row (node_at t d.drive) refl open_drive
+  disk_writable : (g node : ℕ) (d : IsGuestDisk t nodes g node) → With (node_by_id t d.drive) (λ row. row.read_only ≡ false) → d.row.read_only ≡ false
+  disk_writable g node d open_drive = by_row (node_by_id t d.drive) refl open_drive
     where
-      by_row : (found : Option NodeRecord) → node_at t d.drive ≡ found → With found (λ row. row.read_only ≡ false) → d.row.read_only ≡ false
+      by_row : (found : Option NodeRecord) → node_by_id t d.drive ≡ found → With found (λ row. row.read_only ≡ false) → d.row.read_only ≡ false
       by_row None is never = absurd never
       by_row (Some top) is writable =
-          let at : node_at t (disk_node t d.drive) ≡ Some d.row = subst (λ (n : ℕ). node_at t n ≡ Some d.row) d.node_is d.at in
-          let disk : IsDiskOf t top d.row = with-at (node_at t (disk_node t d.drive)) d.row (IsDiskOf t top) at (stands.reads d.drive top is) in
+          let at : node_by_id t (disk_node t d.drive) ≡ Some d.row = subst (λ (n : ℕ). node_by_id t n ≡ Some d.row) d.node_is d.at in
+          let disk : IsDiskOf t top d.row = with-at (node_by_id t (disk_node t d.drive)) d.row (IsDiskOf t top) at (stands.reads d.drive top is) in
           disk.writable (or-left (not top.read_only) (copies_through t top.id) (ap not writable))
 
-  pub size_there : (g node : ℕ) (d : IsGuestDisk t nodes g node) → size_of t node ≡ size_in nodes node
+  pub size_there : (g node : ℕ) (d : IsGuestDisk t nodes g node) → size_by_id t node ≡ node_size nodes node
   size_there g node d =
       ap (λ (found : Option NodeRecord). unwrap_or (option_map (λ (r : NodeRecord). r.size) found) 0) d.at
       ∙ d.alike.size ∙ sym (ap size_by d.own_at)
 
 -- A guest's disk can be asked for the next piece of its request in flight.
-module _ (t : Table) (nodes : Nodes) (p : Progress) (joined : IsJoined nodes) where
-  pub device_there : (g : ℕ) (f : Flight) (device : Option Device) → device_at t g ≡ device → With device (λ d. IsForbidden f.op d.read_only → ⊥) → is_write f.op ≡ true
-      → (d : Device) × (device_at t g ≡ Some d) × (d.read_only ≡ false)
+module _ (t : RunTable) (nodes : Nodes) (p : Progress) (joined : IsJoined nodes) where
+  pub device_there : (g : ℕ) (f : Flight) (device : Option Device) → device_by_number t g ≡ device → With device (λ d. IsForbidden f.op d.read_only → ⊥) → is_write f.op ≡ true
+      → (d : Device) × (device_by_number t g ≡ Some d) × (d.read_only ≡ false)
   device_there g f None is never changes = absurd never
   device_there g f (Some device) is allowed changes = (device, is, not_forbidden f.op device.read_only changes allowed)
 
@@ -378,32 +378,32 @@ module _ (t : Table) (nodes : Nodes) (p : Progress) (joined : IsJoined nodes) wh
     pub node_on : disk_of_guest t g ≡ Some (disk_node t drive)
     node_on = ap (option_map (disk_node t)) on
 
-    pub writer : is_write f.op ≡ true → (d : Device) × (device_at t g ≡ Some d) × (d.read_only ≡ false)
-    writer changes = device_there g f (device_at t g) refl (was.allowed g f flies) changes
+    pub writer : is_write f.op ≡ true → (d : Device) × (device_by_number t g ≡ Some d) × (d.read_only ≡ false)
+    writer changes = device_there g f (device_by_number t g) refl (was.allowed g f flies) changes
 
     pub writable_row : is_write f.op ≡ true → disk_is.row.read_only ≡ false
     writable_row changes =
         let by = writer changes in
         disk_writable t nodes joined was.table.stands was.alike g (disk_node t drive) disk_is (was.writable g disk_is.drive by.0 by.1 by.2 disk_is.on)
 
-    may_disk : disk_is.row.read_only ≡ false → MayWrite nodes (disk_node t drive)
+    may_disk : disk_is.row.read_only ≡ false → MayWriteThrough nodes (disk_node t drive)
     may_disk =
         may_write t nodes joined was.alike was.table.stands (disk_node t drive) disk_is.row disk_is.at disk_is.held disk_is.id_is disk_is.has disk_is.own disk_is.own_at
         disk_is.alike
 
     -- an image below a copy-on-read may be written, whatever the guest may
-    may_copy : (place : ℕ) → AtEach (MayWrite nodes) (images_met nodes drive place)
+    may_copy : (place : ℕ) → AtEach (MayWriteThrough nodes) (images_met nodes drive place)
     may_copy place = by_images (images_of t nodes joined was.alike was.table.stands drive place)
       where
-        by_images : IsMet t nodes drive place → AtEach (MayWrite nodes) (images_met nodes drive place)
-        by_images (inl none) = subst (AtEach (MayWrite nodes)) (sym none) tt
+        by_images : IsMet t nodes drive place → AtEach (MayWriteThrough nodes) (images_met nodes drive place)
+        by_images (inl none) = subst (AtEach (MayWriteThrough nodes)) (sym none) tt
         by_images (inr one) =
             let disk : IsDiskOf t one.top disk_is.row =
-            with-at (node_at t (disk_node t drive)) disk_is.row (IsDiskOf t one.top) disk_is.at (was.table.stands.reads drive one.top one.top_at) in
+            with-at (node_by_id t (disk_node t drive)) disk_is.row (IsDiskOf t one.top) disk_is.at (was.table.stands.reads drive one.top one.top_at) in
             let writable = disk.writable (or-right (not one.top.read_only) (copies_through t one.top.id) (ap (copies_through t) one.top_id ∙ one.copies)) in
-            subst (AtEach (MayWrite nodes)) (sym one.met) (may_disk writable, tt)
+            subst (AtEach (MayWriteThrough nodes)) (sym one.met) (may_disk writable, tt)
 
-    can_read : (op : Op) (part : Extent) → end_of part ≤ size_in nodes (disk_node t drive) → CanReadFor op nodes drive part
+    can_read : (op : Op) (part : Extent) → end_of part ≤ node_size nodes (disk_node t drive) → CanReadFor op nodes drive part
     can_read (Read span) part inside =
         let size = disk_size t nodes joined was.alike was.table.stands drive in
         record { inside = omega (arith, inside, size); may = may_copy part.start }
@@ -414,10 +414,10 @@ module _ (t : Table) (nodes : Nodes) (p : Progress) (joined : IsJoined nodes) wh
 
     pub can_transfer : HasNext f → CanTransfer nodes drive (disk_node t drive) f.op (part_of f)
     can_transfer next =
-        let within = with-at (disk_of_guest t g) (disk_node t drive) (λ node. end_of (span_of f.op) ≤ size_of t node) node_on (was.within g f flies) in
+        let within = with-at (disk_of_guest t g) (disk_node t drive) (λ node. end_of (span_of f.op) ≤ size_by_id t node) node_on (was.within g f flies) in
         let size = size_there t nodes joined was.table.stands was.alike g (disk_node t drive) disk_is in
         let piece_in = piece_inside f.op f.next next.next in
-        let inside : end_of (part_of f) ≤ size_in nodes (disk_node t drive) = omega (arith, within, size, piece_in) in
+        let inside : end_of (part_of f) ≤ node_size nodes (disk_node t drive) = omega (arith, within, size, piece_in) in
         record {
           there = joined.only (disk_node t drive) (subst IsSome (sym disk_is.own_at) refl);
           inside = inside;

@@ -13,11 +13,11 @@ use Rattle.blk_history.specs.Machine.{Flight, done_by}
 use Rattle.blk_history.specs.declared.event.Event.{Event}
 use Rattle.blk_history.specs.declared.event.Event.TheVariants.{Piece}
 use Rattle.qmp_rules.specs.Chains.{disk_node, written_under}
-use Rattle.qmp_rules.specs.Table.{Table, child}
+use Rattle.qmp_rules.specs.Table.{RunTable, child}
 use Rattle.flat_machine.specs.Agreement.{Agrees}
 use Rattle.flat_machine.specs.Final.{bytes_named}
 use Rattle.flat_machine.specs.Jobs.{unsure}
-use Rattle.flat_machine.specs.Machine.{after, with_guest, with_part, with_piece, with_disk, past_piece, flight_of, note, noted, is_noted, path, written, read_through, copies_through}
+use Rattle.flat_machine.specs.Machine.{after, with_guest, with_part, with_piece, with_disk, past_piece, flight_of, note, noted, is_noted, path, node_written, read_through, copies_through}
 use Rattle.flat_machine.specs.Performing.{IsQuiet}
 use Rattle.flat_machine.specs.State.{State, drive_of}
 use Rattle.flat_machine.specs.Writing.{PieceDone, ReadDone, Copies, CanWrite, WritesDisks, ReadsWritten, written_file}
@@ -33,7 +33,7 @@ use Rattle.blk_nodes.specs.Writing.{IsApartFrom}
 use Rattle.world_commands.specs.Comes.{ShowsState}
 use Rattle.flat_machine.specs.Recording.{dirty_by}
 use Rattle.flat_machine.proofs.Recorded.{part-dirty}
-use Rattle.world_parts.specs.Face.{Face, dirty_of, held, contents_of}
+use Rattle.world_parts.specs.Face.{WorldSeen, dirty_of, held, contents_of}
 use Rattle.blk_pieces.specs.Pieces.{ReadsPart, Transfers, PutsPart}
 use Rattle.blk_pieces.proofs.Payloads.{IsPutting, taken_is}
 use Rattle.world_commands.specs.Piecing.{table_after}
@@ -44,7 +44,7 @@ use Rattle.blk_world.proofs.PieceCopied.{IsMet, writes_file}
 -- ---- what stands beside the disks
 
 -- a state after a piece on a drive
-pub record LeavesBeside (s now : State) (t : Table) : Type 0 where
+pub record LeavesBeside (s now : State) (t : RunTable) : Type 0 where
   pub room : now.room ≡ s.room
   pub table_is : now.table ≡ t
   pub started : now.starts ≡ s.starts
@@ -52,7 +52,7 @@ pub record LeavesBeside (s now : State) (t : Table) : Type 0 where
   pub ended : now.ended ≡ s.ended
   pub guests : now.guests ≡ s.guests
 
-note_part : (outcome : Outcome) (part : Extent) (drive : ℕ) (s now : State) (t : Table) → LeavesBeside s now t → LeavesBeside s (note outcome part drive now) t
+note_part : (outcome : Outcome) (part : Extent) (drive : ℕ) (s now : State) (t : RunTable) → LeavesBeside s now t → LeavesBeside s (note outcome part drive now) t
 note_part outcome part drive s now t is = by_test (is_noted outcome)
   where
     by_test : (b : Bool) → LeavesBeside s (cond b (record now { dirty = noted now.table part now.dirty (path now.table drive) }) now) t
@@ -66,7 +66,7 @@ note_part outcome part drive s now t is = by_test (is_noted outcome)
     }
     by_test false = is
 
-read_part : (drive : ℕ) (s now : State) (t : Table) → LeavesBeside s now t → LeavesBeside s (read_through drive now) t
+read_part : (drive : ℕ) (s now : State) (t : RunTable) → LeavesBeside s now t → LeavesBeside s (read_through drive now) t
 read_part drive s now t is = by_test (copies_through now.table drive)
   where
     by_test : (b : Bool) → LeavesBeside s (cond b (record now { images = map (unsure (disk_node now.table drive ∷ [])) now.images }) now) t
@@ -82,19 +82,19 @@ part_is s drive op outcome part = by_op op
     itself : (o : Op) → LeavesBeside s (done o) s.table
     itself o = record { room = refl; table_is = refl; started = refl; ending = refl; ended = refl; guests = refl }
 
-    was_written : (o : Op) → LeavesBeside s (written (disk_node s.table drive) (done o)) (written_under (disk_node s.table drive) s.table)
+    was_written : (o : Op) → LeavesBeside s (node_written (disk_node s.table drive) (done o)) (written_under (disk_node s.table drive) s.table)
     was_written o = record { room = refl; table_is = refl; started = refl; ending = refl; ended = refl; guests = refl }
 
     by_op : (o : Op) → LeavesBeside s (with_part drive o outcome part s) (table_after o (disk_node s.table drive) s.table)
     by_op (Read span) = read_part drive s (done (Read span)) s.table (itself (Read span))
     by_op (Write span payload) =
-        note_part outcome part drive s (written (disk_node s.table drive) (done (Write span payload))) (written_under (disk_node s.table drive) s.table) (was_written (Write span payload))
+        note_part outcome part drive s (node_written (disk_node s.table drive) (done (Write span payload))) (written_under (disk_node s.table drive) s.table) (was_written (Write span payload))
     by_op (Zero span) =
-        note_part outcome part drive s (written (disk_node s.table drive) (done (Zero span))) (written_under (disk_node s.table drive) s.table) (was_written (Zero span))
+        note_part outcome part drive s (node_written (disk_node s.table drive) (done (Zero span))) (written_under (disk_node s.table drive) s.table) (was_written (Zero span))
     by_op Flush = itself Flush
     by_op (Discard span) = itself (Discard span)
 
-started_after : (op : Op) (node : ℕ) (t : Table) → (table_after op node t).started ≡ t.started
+started_after : (op : Op) (node : ℕ) (t : RunTable) → (table_after op node t).started ≡ t.started
 unfolding written_under
 started_after (Read span) node t = refl
 started_after (Write span payload) node t = refl
@@ -105,7 +105,7 @@ started_after (Discard span) node t = refl
 -- ---- what is done
 
 -- what a piece leaves of contents, by what is asked
-module _ (t : Table) (w v : Face) (drive : ℕ) (op : Op) (outcome : Outcome) (part : Extent) (told : AreTold w.nodes.devices)
+module _ (t : RunTable) (w v : WorldSeen) (drive : ℕ) (op : Op) (outcome : Outcome) (part : Extent) (told : AreTold w.nodes.devices)
     (held_else : (name : List ℕ) → (writes_file t drive op ≡ true → written_file t (disk_node t drive) ≡ Some name → ⊥) → held v name ≡ held w name) where
   abbrev node : ℕ
   node = disk_node t drive
@@ -114,8 +114,8 @@ module _ (t : Table) (w v : Face) (drive : ℕ) (op : Op) (outcome : Outcome) (p
       → (s : State) → s.table ≡ t → WritesDisks s node op part (done_by outcome part) (contents_of w) (contents_of v)
   puts_done putting apart puts s table = record {
     written = puts.disk told ∙ ap (with_bytes (disk_of w.nodes node) part.start) (taken_is op part outcome putting);
-    nodes = λ other none. puts.others other (apart other (subst (λ (u : Table). ReadsWritten u node other → ⊥) table none));
-    files = λ name none. held_else name (λ c is. none (subst (λ (u : Table). written_file u node ≡ Some name) (sym table) is));
+    nodes = λ other none. puts.others other (apart other (subst (λ (u : RunTable). ReadsWritten u node other → ⊥) table none));
+    files = λ name none. held_else name (λ c is. none (subst (λ (u : RunTable). written_file u node ≡ Some name) (sym table) is));
   }
 
   quiet_done : ((other : ℕ) → disk_of v.nodes other ≡ disk_of w.nodes other) → (writes_file t drive op ≡ true → ⊥) → IsQuiet (contents_of w) (contents_of v)
@@ -125,7 +125,7 @@ module _ (t : Table) (w v : Face) (drive : ℕ) (op : Op) (outcome : Outcome) (p
   }
 
 -- A read leaves what all nodes read as, but for the `file` node below an image into which a copy-on-read puts it.
-module _ (t : Table) (w v : Face) (drive : ℕ) (outcome : Outcome) (part : Extent) (buffer : List ℕ) (told : AreTold w.nodes.devices)
+module _ (t : RunTable) (w v : WorldSeen) (drive : ℕ) (outcome : Outcome) (part : Extent) (buffer : List ℕ) (told : AreTold w.nodes.devices)
     (held_else : (name : List ℕ) → (copies_through t drive ≡ true → written_file t (disk_node t drive) ≡ Some name → ⊥) → held v name ≡ held w name)
     (did : ReadsPart w.nodes v.nodes drive part outcome buffer) (met : IsMet t w.nodes drive part.start)
     (beside : (other : ℕ) → (child t (disk_node t drive) File ≡ Some other → ⊥) → IsBeside w.nodes other (disk_node t drive)) where
@@ -138,8 +138,8 @@ module _ (t : Table) (w v : Face) (drive : ℕ) (outcome : Outcome) (part : Exte
 
   copies_done : (s : State) → s.table ≡ t → Copies s (disk_node t drive) (contents_of w) (contents_of v)
   copies_done s table = record {
-    nodes = λ other none. stays other (λ c. beside other (subst (λ (u : Table). child u (disk_node t drive) File ≡ Some other → ⊥) table none));
-    files = λ name none. held_else name (λ c is. none (subst (λ (u : Table). written_file u (disk_node t drive) ≡ Some name) (sym table) is));
+    nodes = λ other none. stays other (λ c. beside other (subst (λ (u : RunTable). child u (disk_node t drive) File ≡ Some other → ⊥) table none));
+    files = λ name none. held_else name (λ c is. none (subst (λ (u : RunTable). written_file u (disk_node t drive) ≡ Some name) (sym table) is));
   }
 
   read_done : (s : State) → s.table ≡ t → ReadDone s drive (contents_of w) (contents_of v)
@@ -147,8 +147,8 @@ module _ (t : Table) (w v : Face) (drive : ℕ) (outcome : Outcome) (part : Exte
     where
       by_test : (b : Bool) → copies_through t drive ≡ b → ReadDone s drive (contents_of w) (contents_of v)
       by_test true is = inr (
-        ap (λ (u : Table). copies_through u drive) table ∙ is,
-        subst (λ (u : Table). Copies s (disk_node u drive) (contents_of w) (contents_of v)) (sym table) (copies_done s table),
+        ap (λ (u : RunTable). copies_through u drive) table ∙ is,
+        subst (λ (u : RunTable). Copies s (disk_node u drive) (contents_of w) (contents_of v)) (sym table) (copies_done s table),
       )
       by_test false is =
           let none : copies_through t drive ≡ true → ⊥ = λ c. false≢true (sym is ∙ c) in
@@ -157,7 +157,7 @@ module _ (t : Table) (w v : Face) (drive : ℕ) (outcome : Outcome) (part : Exte
             files = λ name never. held_else name (λ c held. none c);
           })
 
-pub piece_done : (s : State) (t : Table) (w v : Face) (drive : ℕ) (op : Op) (outcome : Outcome) (part : Extent) (buffer : List ℕ) → s.table ≡ t
+pub piece_done : (s : State) (t : RunTable) (w v : WorldSeen) (drive : ℕ) (op : Op) (outcome : Outcome) (part : Extent) (buffer : List ℕ) → s.table ≡ t
     → Transfers op w.nodes v.nodes drive (disk_node t drive) part outcome buffer
     → IsMet t w.nodes drive part.start
     → ((other : ℕ) → (child t (disk_node t drive) File ≡ Some other → ⊥) → IsBeside w.nodes other (disk_node t drive))
@@ -168,10 +168,10 @@ pub piece_done : (s : State) (t : Table) (w v : Face) (drive : ℕ) (op : Op) (o
 piece_done s t w v drive (Read span) outcome part buffer table did met beside apart told held_else =
     read_done t w v drive outcome part buffer told held_else did met beside s table
 piece_done s t w v drive (Write span payload) outcome part buffer table did met beside apart told held_else =
-    subst (λ (u : Table). WritesDisks s (disk_node u drive) (Write span payload) part (done_by outcome part) (contents_of w) (contents_of v)) (sym table)
+    subst (λ (u : RunTable). WritesDisks s (disk_node u drive) (Write span payload) part (done_by outcome part) (contents_of w) (contents_of v)) (sym table)
     (puts_done t w v drive (Write span payload) outcome part told held_else tt apart did.1 s table)
 piece_done s t w v drive (Zero span) outcome part buffer table did met beside apart told held_else =
-    subst (λ (u : Table). WritesDisks s (disk_node u drive) (Zero span) part (done_by outcome part) (contents_of w) (contents_of v)) (sym table)
+    subst (λ (u : RunTable). WritesDisks s (disk_node u drive) (Zero span) part (done_by outcome part) (contents_of w) (contents_of v)) (sym table)
     (puts_done t w v drive (Zero span) outcome part told held_else tt apart did.1 s table)
 piece_done s t w v drive Flush outcome part buffer table did met beside apart told held_else =
     quiet_done t w v drive Flush outcome part told held_else did.disks (λ bad. let e : ⊥ = cc bad in e)
@@ -179,7 +179,7 @@ piece_done s t w v drive (Discard span) outcome part buffer table did met beside
 
 -- ---- what is shown
 
-module _ (o : Opening) (s : State) (w v : Face) (g k drive : ℕ) (f : Flight) (outcome : Outcome) (e : Event) (r : ℕ) (got : List ℕ) (e_is : e ≡ Piece g r k outcome got)
+module _ (o : Opening) (s : State) (w v : WorldSeen) (g k drive : ℕ) (f : Flight) (outcome : Outcome) (e : Event) (r : ℕ) (got : List ℕ) (e_is : e ≡ Piece g r k outcome got)
     (shows : ShowsState o s w) (on : drive_of s.table g ≡ Some drive) (flies : flight_of s g ≡ Some f) where
   abbrev now : State
   now = with_part drive f.op outcome (piece f.op k) s
@@ -209,15 +209,15 @@ module _ (o : Opening) (s : State) (w v : Face) (g k drive : ℕ) (f : Flight) (
       stands = stands-onward now (change g (past_piece outcome) now.guests) now.ended (piece_rests s drive f.op outcome (piece f.op k) shows.stands);
       dirty =
           part-dirty s drive f.op outcome (piece f.op k)
-          ∙ ap (λ (t : Table). dirty_by f.op outcome (piece f.op k) drive t s.dirty) part.table_is
-          ∙ ap (λ (t : Table). dirty_by f.op outcome (piece f.op k) drive (table_after f.op (disk_node t drive) t) s.dirty) shows.table.table_is
-          ∙ ap (λ (t : Table). dirty_by f.op outcome (piece f.op k) drive t s.dirty) (sym table)
+          ∙ ap (λ (t : RunTable). dirty_by f.op outcome (piece f.op k) drive t s.dirty) part.table_is
+          ∙ ap (λ (t : RunTable). dirty_by f.op outcome (piece f.op k) drive (table_after f.op (disk_node t drive) t) s.dirty) shows.table.table_is
+          ∙ ap (λ (t : RunTable). dirty_by f.op outcome (piece f.op k) drive t s.dirty) (sym table)
           ∙ ap (dirty_by f.op outcome (piece f.op k) drive v.table) shows.dirty ∙ sym dirty;
       table = record {
         room_is = part.room ∙ shows.table.room_is ∙ sym room;
-        table_is = part.table_is ∙ ap (λ (u : Table). table_after f.op (disk_node u drive) u) shows.table.table_is ∙ sym table;
+        table_is = part.table_is ∙ ap (λ (u : RunTable). table_after f.op (disk_node u drive) u) shows.table.table_is ∙ sym table;
         rest = record {
-          started = part.started ∙ shows.table.rest.started ∙ sym (started_after f.op (disk_node s.table drive) s.table) ∙ sym (ap (λ (u : Table). u.started) part.table_is);
+          started = part.started ∙ shows.table.rest.started ∙ sym (started_after f.op (disk_node s.table drive) s.table) ∙ sym (ap (λ (u : RunTable). u.started) part.table_is);
           ended = part.ending ∙ shows.table.rest.ended;
         };
       };

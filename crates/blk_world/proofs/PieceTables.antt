@@ -16,12 +16,12 @@ use Rattle.blk_history.specs.Disk.{span_of, is_write}
 use Rattle.blk_history.specs.Fold.{With}
 use Rattle.qmp_rules.specs.Changes.{unsettled}
 use Rattle.qmp_rules.specs.Chains.{filter_role, filtered, disk_node, is_over, unsettled_over, written_under}
-use Rattle.qmp_rules.specs.Table.{Table, node_at, device_at, child}
+use Rattle.qmp_rules.specs.Table.{RunTable, node_by_id, device_by_number, child}
 use Rattle.qmp_rules.specs.declared.rows.Device.{Device}
 use Rattle.qmp_rules.specs.declared.rows.NodeRecord.{NodeRecord}
 use Rattle.flat_machine.specs.Agreement.{HasDisk}
 use Rattle.flat_machine.specs.Legal.{IsForbidden}
-use Rattle.flat_machine.specs.State.{drive_of, disk_of_guest, size_of}
+use Rattle.flat_machine.specs.State.{drive_of, disk_of_guest, size_by_id}
 use Rattle.flat_machine.specs.Wiring.{TableAtRest}
 use Rattle.flat_machine.proofs.Rows.{disk_node-same}
 use Rattle.flat_machine.proofs.TableRests.{written_rests}
@@ -37,26 +37,26 @@ use Rattle.blk_world.proofs.PieceWriters.{none_over}
 
 -- ---- tables in which rows may have lost their flat disks
 
-module _ (t now : Table) (e : IsEased t now) where
+module _ (t now : RunTable) (e : IsEased t now) where
   -- what doesn't speak of flat disks is the same of a row
   pub row_same : {A : Type 0} (g : NodeRecord → A) → ((row : NodeRecord) → g (unsettled row) ≡ g row) → (row : NodeRecord) → g (e.f row) ≡ g row
   row_same g blind row = elim (e.only row) [ inl same ↦ ap g same | inr lost ↦ ap g lost ∙ blind row ]
 
-  found_same : {A : Type 0} (g : NodeRecord → A) → ((row : NodeRecord) → g (unsettled row) ≡ g row) → (id : ℕ) → option_map g (node_at now id) ≡ option_map g (node_at t id)
-  found_same g blind id = ap (option_map g) (eased_at t now e id) ∙ by_row (node_at t id)
+  found_same : {A : Type 0} (g : NodeRecord → A) → ((row : NodeRecord) → g (unsettled row) ≡ g row) → (id : ℕ) → option_map g (node_by_id now id) ≡ option_map g (node_by_id t id)
+  found_same g blind id = ap (option_map g) (eased_at t now e id) ∙ by_row (node_by_id t id)
     where
       by_row : (found : Option NodeRecord) → option_map g (option_map e.f found) ≡ option_map g found
       by_row None = refl
       by_row (Some row) = ap Some (row_same g blind row)
 
-  device_same : (g : ℕ) → device_at now g ≡ device_at t g
+  device_same : (g : ℕ) → device_by_number now g ≡ device_by_number t g
   device_same g = ap (find (λ (device : Device). device.number == g)) e.devices
 
   drive_same : (g : ℕ) → drive_of now g ≡ drive_of t g
   drive_same g = ap (child_of (GuestOf g) Drive) e.edges
 
   filtered_same : (id : ℕ) → filtered now id ≡ filtered t id
-  filtered_same id = ap (λ (found : Option NodeRecord). option_and_then (child now id) (option_and_then (λ (row : NodeRecord). filter_role row.kind) found)) (eased_at t now e id) ∙ by_row (node_at t id)
+  filtered_same id = ap (λ (found : Option NodeRecord). option_and_then (child now id) (option_and_then (λ (row : NodeRecord). filter_role row.kind) found)) (eased_at t now e id) ∙ by_row (node_by_id t id)
     where
       by_role : (role : Option Role) → option_and_then (child now id) role ≡ option_and_then (child t id) role
       by_role None = refl
@@ -70,7 +70,7 @@ module _ (t now : Table) (e : IsEased t now) where
   pub disk_same : (id : ℕ) → disk_node now id ≡ disk_node t id
   disk_same id = disk_node-same t now (λ n. Unit {0}) (λ n here. filtered_same n) (λ n c here at. tt) id tt
 
-  pub size_same : (id : ℕ) → size_of now id ≡ size_of t id
+  pub size_same : (id : ℕ) → size_by_id now id ≡ size_by_id t id
   size_same id = ap (λ (size : Option ℕ). unwrap_or size 0) (found_same (λ r. r.size) (λ r. refl) id)
 
   pub guest_disk_same : (g : ℕ) → disk_of_guest now g ≡ disk_of_guest t g
@@ -80,7 +80,7 @@ module _ (t now : Table) (e : IsEased t now) where
       by_drive None = refl
       by_drive (Some node) = ap Some (disk_same node)
 
-  within_same : (disk : Option ℕ) (end : ℕ) → With disk (λ node. end ≤ size_of t node) → With disk (λ node. end ≤ size_of now node)
+  within_same : (disk : Option ℕ) (end : ℕ) → With disk (λ node. end ≤ size_by_id t node) → With disk (λ node. end ≤ size_by_id now node)
   within_same None end never = absurd never
   within_same (Some node) end fits = subst (λ size. end ≤ size) (sym (size_same node)) fits
 
@@ -99,9 +99,9 @@ module _ (t now : Table) (e : IsEased t now) where
           was.asks g device edge (sym (device_same g) ∙ there) writes (subst (λ (es : List Edge). Contains es edge) e.edges on) from;
       writable = λ g node device there writes on.
           subst (λ (row : Option NodeRecord). With row (λ r. r.read_only ≡ false)) (sym (eased_at t now e node))
-          (writable_same (node_at t node) (was.writable g node device (sym (device_same g) ∙ there) writes (sym (drive_same g) ∙ on)));
+          (writable_same (node_by_id t node) (was.writable g node device (sym (device_same g) ∙ there) writes (sym (drive_same g) ∙ on)));
       within = λ g f flies.
-          subst (λ (disk : Option ℕ). With disk (λ node. end_of (span_of f.op) ≤ size_of now node)) (sym (guest_disk_same g))
+          subst (λ (disk : Option ℕ). With disk (λ node. end_of (span_of f.op) ≤ size_by_id now node)) (sym (guest_disk_same g))
           (within_same (disk_of_guest t g) (end_of (span_of f.op)) (was.within g f flies));
       allowed = λ g f flies.
           subst (λ (device : Option Device). With device (λ d. IsForbidden f.op d.read_only → ⊥)) (sym (device_same g)) (was.allowed g f flies);
@@ -116,7 +116,7 @@ over_by : (b : Bool) (row : NodeRecord) → (cond b (unsettled row) row ≡ row)
 over_by true row = inr refl
 over_by false row = inl refl
 
-pub eased_written : (t : Table) (node : ℕ) → IsEased t (written_under node t)
+pub eased_written : (t : RunTable) (node : ℕ) → IsEased t (written_under node t)
 unfolding written_under
 eased_written t node = record {
   f = unsettled_over t node;
@@ -128,14 +128,14 @@ eased_written t node = record {
   jobs = refl;
 }
 
-pub eased_after : (op : Op) (node : ℕ) (t : Table) → IsEased t (table_after op node t)
+pub eased_after : (op : Op) (node : ℕ) (t : RunTable) → IsEased t (table_after op node t)
 eased_after (Read span) node t = kept_rows t t refl refl refl refl refl
 eased_after (Write span payload) node t = eased_written t node
 eased_after (Zero span) node t = eased_written t node
 eased_after Flush node t = kept_rows t t refl refl refl refl refl
 eased_after (Discard span) node t = kept_rows t t refl refl refl refl refl
 
-pub rests_after : (op : Op) (node : ℕ) (t : Table) → TableAtRest t → TableAtRest (table_after op node t)
+pub rests_after : (op : Op) (node : ℕ) (t : RunTable) → TableAtRest t → TableAtRest (table_after op node t)
 rests_after (Read span) node t rests = rests
 rests_after (Write span payload) node t rests = written_rests t node rests
 rests_after (Zero span) node t rests = written_rests t node rests
@@ -145,30 +145,30 @@ rests_after (Discard span) node t rests = rests
 -- ---- guests' disks keep their bytes
 
 -- a row over which nothing is lost
-module _ (t : Table) (node : ℕ) where
+module _ (t : RunTable) (node : ℕ) where
   kept_over : (row : NodeRecord) → is_over t node row.id ≡ false → unsettled_over t node row ≡ row
   kept_over row apart = ap (λ (b : Bool). cond b (unsettled row) row) apart
 
-  kept_at : (id : ℕ) → is_over t node id ≡ false → (found : Option NodeRecord) → node_at t id ≡ found → With found HasDisk → With (option_map (unsettled_over t node) found) HasDisk
+  kept_at : (id : ℕ) → is_over t node id ≡ false → (found : Option NodeRecord) → node_by_id t id ≡ found → With found HasDisk → With (option_map (unsettled_over t node) found) HasDisk
   kept_at id apart None at never = absurd never
   kept_at id apart (Some row) at has =
       let same : row.id ≡ id = eqb-true row.id id (find-Some (λ (r : NodeRecord). r.id == id) t.nodes row at).1 in
       subst HasDisk (sym (kept_over row (subst (λ (n : ℕ). is_over t node n ≡ false) (sym same) apart))) has
 
-module _ (t : Table) (nodes : Nodes) (opened : List Opened) (p : Progress) (joined : IsJoined nodes) (was : IsCoherent t nodes opened p)
+module _ (t : RunTable) (nodes : Nodes) (opened : List Opened) (p : Progress) (joined : IsJoined nodes) (was : IsCoherent t nodes opened p)
     (writer drive : ℕ) (on : drive_of t writer ≡ Some drive) where
-  written_disks : (device : Device) → device_at t writer ≡ Some device → device.read_only ≡ false → AreOnDisks (written_under (disk_node t drive) t)
+  written_disks : (device : Device) → device_by_number t writer ≡ Some device → device.read_only ≡ false → AreOnDisks (written_under (disk_node t drive) t)
   unfolding written_under eased_written
   written_disks device there writes g other is =
       let node : ℕ = disk_node t drive in
       let e = eased_written t node in
       let apart = none_over t nodes joined was.alike was.table.stands writer g drive other device was.asks there writes on is in
       let same = disk_same t (written_under node t) e other in
-      subst (λ (id : ℕ). With (node_at (written_under node t) id) HasDisk) (sym same)
+      subst (λ (id : ℕ). With (node_by_id (written_under node t) id) HasDisk) (sym same)
       (subst (λ (row : Option NodeRecord). With row HasDisk) (sym (eased_at t (written_under node t) e (disk_node t other)))
-      (kept_at t node (disk_node t other) apart (node_at t (disk_node t other)) refl (was.disks g other is)))
+      (kept_at t node (disk_node t other) apart (node_by_id t (disk_node t other)) refl (was.disks g other is)))
 
-  pub disks_after : (op : Op) → (is_write op ≡ true → (d : Device) × (device_at t writer ≡ Some d) × (d.read_only ≡ false)) → AreOnDisks (table_after op (disk_node t drive) t)
+  pub disks_after : (op : Op) → (is_write op ≡ true → (d : Device) × (device_by_number t writer ≡ Some d) × (d.read_only ≡ false)) → AreOnDisks (table_after op (disk_node t drive) t)
   disks_after (Read span) by = was.disks
   disks_after (Write span payload) by = let d = by refl in written_disks d.0 d.1 d.2
   disks_after (Zero span) by = let d = by refl in written_disks d.0 d.1 d.2

@@ -11,39 +11,39 @@ use Rattle.blk_graph.proofs.RoleLemmas.{tail_pairs, head_pairs}
 use Rattle.blk_history.specs.Disk.{payload_in}
 use Rattle.blk_nodes.specs.Flushing.{base_of, IsFlushAt}
 use Rattle.blk_nodes.specs.Joined.{IsJoined, DifferInNode}
-use Rattle.blk_nodes.specs.Nodes.{Nodes, DeviceState, AreTold, device_in}
+use Rattle.blk_nodes.specs.Nodes.{Nodes, DeviceSeen, AreTold, device_in}
 use Rattle.blk_nodes.specs.Reading.{OnlyAt}
 use Rattle.blk_nodes.specs.Writing.{WritesFile, WritesImage, WritesBy, ZerosBy}
 use Rattle.blk_nodes.specs.declared.row.Driver.{Driver}
 use Rattle.blk_nodes.specs.declared.row.Driver.TheVariants as drivers
 use Rattle.world_commands.specs.Counting.{AreSameDevices}
-use Rattle.qmp_rules.specs.Table.{Table}
+use Rattle.qmp_rules.specs.Table.{RunTable}
 use Rattle.world_commands.proofs.CountLemmas.{found-before}
 use Rattle.blk_world.proofs.PieceContents.{content_in, risen_content, only_content}
 use Rattle.blk_world.proofs.PieceCopied.{ReadWent, Went, into_image}
 
 -- a device stands at its node
-pub noded : (devices : List DeviceState) (x : DeviceState) → AllPairs DifferInNode devices → Contains devices x → device_in devices x.node ≡ Some x
+pub noded : (devices : List DeviceSeen) (x : DeviceSeen) → AllPairs DifferInNode devices → Contains devices x → device_in devices x.node ≡ Some x
 noded [] x once there = absurd (Contains-nil x there)
 noded (d ∷ devices) x once there = elim (Contains-cases d devices x there) [
-  | inl here ↦ let at : (d.node == x.node) ≡ true = eq-eqb d.node x.node (ap (λ (y : DeviceState). y.node) (sym here)) in rw at (ap Some (sym here))
+  | inl here ↦ let at : (d.node == x.node) ≡ true = eq-eqb d.node x.node (ap (λ (y : DeviceSeen). y.node) (sym here)) in rw at (ap Some (sym here))
   | inr later ↦
       let past : (d.node == x.node) ≡ false = ne_eqb d.node x.node (head_pairs DifferInNode d devices once x later) in
       rw past (noded devices x (tail_pairs DifferInNode d devices once) later)
 ]
 
 -- whether a node's device tells its bytes
-abbrev pub is_told : List DeviceState → ℕ → Bool
+abbrev pub is_told : List DeviceSeen → ℕ → Bool
 is_told devices n = is_some (content_in devices n)
 
-pub only_told : (file : ℕ) (old new : List DeviceState) (before after : DeviceState) → OnlyAt file old new → device_in old file ≡ Some before → device_in new file ≡ Some after
+pub only_told : (file : ℕ) (old new : List DeviceSeen) (before after : DeviceSeen) → OnlyAt file old new → device_in old file ≡ Some before → device_in new file ≡ Some after
     → is_some after.content ≡ is_some before.content → (n : ℕ) → is_told new n ≡ is_told old n
 only_told file old new before after only held left same n = by_node (cases_eq n file)
   where
     by_node : (n ≡ file) ⊎ (n ≢ file) → is_told new n ≡ is_told old n
     by_node (inl equal) =
-        ap (is_told new) equal ∙ ap (λ (d : Option DeviceState). is_some (option_and_then (λ (x : DeviceState). x.content) d)) left ∙ same
-        ∙ sym (ap (is_told old) equal ∙ ap (λ (d : Option DeviceState). is_some (option_and_then (λ (x : DeviceState). x.content) d)) held)
+        ap (is_told new) equal ∙ ap (λ (d : Option DeviceSeen). is_some (option_and_then (λ (x : DeviceSeen). x.content) d)) left ∙ same
+        ∙ sym (ap (is_told old) equal ∙ ap (λ (d : Option DeviceSeen). is_some (option_and_then (λ (x : DeviceSeen). x.content) d)) held)
     by_node (inr apart) = ap is_some (only_content file old new only n apart)
 
 some_mapped : (f : List ℕ → List ℕ) (content : Option (List ℕ)) → is_some (option_map f content) ≡ is_some content
@@ -77,9 +77,9 @@ module _ (old new : Nodes) (n : ℕ) where
   flush_told : (file : ℕ) (outcome : Outcome) → IsFlushAt file old.devices new.devices outcome → is_told new.devices n ≡ is_told old.devices n
   flush_told file outcome flushed =
       only_told file old.devices new.devices flushed.before flushed.after flushed.only flushed.held flushed.left
-      (ap (λ (d : DeviceState). is_some d.content) flushed.flush.is) n
+      (ap (λ (d : DeviceSeen). is_some d.content) flushed.flush.is) n
 
-  module _ (t : Table) (drive node : ℕ) (part : Extent) (outcome : Outcome) (buffer : List ℕ) where
+  module _ (t : RunTable) (drive node : ℕ) (part : Extent) (outcome : Outcome) (buffer : List ℕ) where
     read_told : ReadWent t old new drive node part outcome buffer → is_told new.devices n ≡ is_told old.devices n
     read_told (inl only) = ap is_some (risen_content old.devices new.devices only.devices n)
     read_told (inr (inl full)) = ap (λ (ns : Nodes). is_told ns.devices n) full.room.same
@@ -92,15 +92,15 @@ module _ (old new : Nodes) (n : ℕ) where
     told_same Flush went = flush_told (base_of old node) outcome went.flushed
     told_same (Discard span) went = absurd went
 
-pub told_after : (t : Table) (op : Op) (old new : Nodes) (drive node : ℕ) (part : Extent) (outcome : Outcome) (buffer : List ℕ) → IsJoined old → IsJoined new
+pub told_after : (t : RunTable) (op : Op) (old new : Nodes) (drive node : ℕ) (part : Extent) (outcome : Outcome) (buffer : List ℕ) → IsJoined old → IsJoined new
     → AreSameDevices old.devices new.devices → Went t op old new drive node part outcome buffer → AreTold old.devices → AreTold new.devices
 told_after t op old new drive node part outcome buffer joined now same went told device there =
     let before = found-before old.devices new.devices device same there in
     let held : device_in old.devices before.0.node ≡ Some before.0 = noded old.devices before.0 joined.once before.1 in
     let here : device_in new.devices device.node ≡ Some device = noded new.devices device now.once there in
-    let tells : List DeviceState → ℕ → Bool = λ devices n. is_some (content_in devices n) in
-    sym (ap (λ (d : Option DeviceState). is_some (option_and_then (λ (x : DeviceState). x.content) d)) here)
+    let tells : List DeviceSeen → ℕ → Bool = λ devices n. is_some (content_in devices n) in
+    sym (ap (λ (d : Option DeviceSeen). is_some (option_and_then (λ (x : DeviceSeen). x.content) d)) here)
     ∙ told_same old new device.node t drive node part outcome buffer op went
     ∙ ap (tells old.devices) before.2.node
-    ∙ ap (λ (d : Option DeviceState). is_some (option_and_then (λ (x : DeviceState). x.content) d)) held
+    ∙ ap (λ (d : Option DeviceSeen). is_some (option_and_then (λ (x : DeviceSeen). x.content) d)) held
     ∙ told before.0 before.1

@@ -17,14 +17,14 @@ use Rattle.blk_graph.specs.declared.kind.Kind.TheVariants.{Qcow2, CopyOnRead}
 use Rattle.blk_graph.specs.declared.kind.NodeKind.{NodeKind}
 use Rattle.blk_graph.proofs.ChildLemmas.{child-edge}
 use Rattle.blk_graph.proofs.Members.{Contains-nil, Contains-cases}
-use Rattle.qmp_rules.specs.Chains.{filter_role, filtered, disk_from, disk_node, chain_from, chain, has_id, is_over}
-use Rattle.qmp_rules.specs.Table.{Table, node_at, device_at, child}
+use Rattle.qmp_rules.specs.Chains.{filter_role, filtered, disk_from, disk_node, chain_from, chain, is_listed, is_over}
+use Rattle.qmp_rules.specs.Table.{RunTable, node_by_id, device_by_number, child}
 use Rattle.qmp_rules.specs.declared.rows.Device.{Device}
 use Rattle.qmp_rules.specs.declared.rows.NodeRecord.{NodeRecord}
 use Rattle.flat_machine.specs.State.{drive_of}
 use Rattle.flat_machine.specs.Wiring.{TableStands}
 use Rattle.blk_nodes.specs.Joined.{IsJoined}
-use Rattle.blk_nodes.specs.Nodes.{Nodes, row_at, kind_of}
+use Rattle.blk_nodes.specs.Nodes.{Nodes, row_at, driver_kind}
 use Rattle.blk_nodes.specs.declared.row.Driver.{Driver}
 use Rattle.blk_nodes.specs.declared.row.Driver.TheVariants as drivers
 use Rattle.blk_nodes.specs.declared.row.Row.{Row}
@@ -100,26 +100,26 @@ rule_for edges w e rule held_w held_e same asks shut = elim (cases_eq held_w.0 h
 perm_with : (e : Edge) (u : Uses) → with_uses e (Some u) ≡ e → (e.perm ≡ u.perm) × (e.shared ≡ u.shared)
 perm_with e u is = (ap (λ (x : Edge). x.perm) (sym is), ap (λ (x : Edge). x.shared) (sym is))
 
-only_qcow2 : (d : Driver) → has_role (kind_of d) Backing ≡ true → kind_of d ≡ Qcow2
+only_qcow2 : (d : Driver) → has_role (driver_kind d) Backing ≡ true → driver_kind d ≡ Qcow2
 only_qcow2 drivers.File h = absurd (false≢true h)
 only_qcow2 (drivers.Raw part) h = absurd (false≢true h)
 only_qcow2 (drivers.Qcow2 image) h = refl
 only_qcow2 drivers.CopyOnRead h = absurd (false≢true h)
 
-only_copying : (d : Driver) (role : Role) → filter_role (kind_of d) ≡ Some role → (kind_of d ≡ CopyOnRead) × (role ≡ File)
+only_copying : (d : Driver) (role : Role) → filter_role (driver_kind d) ≡ Some role → (driver_kind d ≡ CopyOnRead) × (role ≡ File)
 only_copying drivers.File role h = absurd (let bad : ⊥ = cc h in bad)
 only_copying (drivers.Raw part) role h = absurd (let bad : ⊥ = cc h in bad)
 only_copying (drivers.Qcow2 image) role h = absurd (let bad : ⊥ = cc h in bad)
 only_copying drivers.CopyOnRead role h = (refl, cc h)
 
-copying_driver : (d : Driver) → kind_of d ≡ CopyOnRead → d ≡ drivers.CopyOnRead
+copying_driver : (d : Driver) → driver_kind d ≡ CopyOnRead → d ≡ drivers.CopyOnRead
 copying_driver drivers.File bad = absurd (let e : ⊥ = cc bad in e)
 copying_driver (drivers.Raw part) bad = absurd (let e : ⊥ = cc bad in e)
 copying_driver (drivers.Qcow2 image) bad = absurd (let e : ⊥ = cc bad in e)
 copying_driver drivers.CopyOnRead is = refl
 
-module _ (t : Table) (nodes : Nodes) (joined : IsJoined nodes) (are : AreNodesOf t nodes) (stands : TableStands t) where
-  pub own_row : (a : ℕ) (row : NodeRecord) → node_at t a ≡ Some row → (own : Row) × (row_at nodes a ≡ Some own) × IsRowOf row own
+module _ (t : RunTable) (nodes : Nodes) (joined : IsJoined nodes) (are : AreNodesOf t nodes) (stands : TableStands t) where
+  pub own_row : (a : ℕ) (row : NodeRecord) → node_by_id t a ≡ Some row → (own : Row) × (row_at nodes a ≡ Some own) × IsRowOf row own
   own_row a row is = by_own (row_at nodes a) refl (subst (λ (found : Option NodeRecord). AreAlike found (row_at nodes a)) is (are.rows a))
     where
       by_own : (found : Option Row) → row_at nodes a ≡ found → AreAlike (Some row) found → (own : Row) × (row_at nodes a ≡ Some own) × IsRowOf row own
@@ -128,7 +128,7 @@ module _ (t : Table) (nodes : Nodes) (joined : IsJoined nodes) (are : AreNodesOf
 
   -- it is as the table of permissions says
   ruled_here : (a : ℕ) (e : Edge) (own : Row) → Contains t.edges e → e.parent ≡ Node a → row_at nodes a ≡ Some own
-      → with_uses e (derived_uses (kind_of own.driver) e.role (not own.is_read_only) (uses_into t.edges a)) ≡ e
+      → with_uses e (derived_uses (driver_kind own.driver) e.role (not own.is_read_only) (uses_into t.edges a)) ≡ e
   ruled_here a e own there from is =
       let kinds : List NodeKind = nodes.graph.kinds in
       let all : IsRefreshed kinds t.edges = subst (IsRefreshed kinds) are.edges joined.sound.just.refreshed in
@@ -149,7 +149,7 @@ module _ (t : Table) (nodes : Nodes) (joined : IsJoined nodes) (are : AreNodesOf
     pub copying : over.driver ≡ drivers.CopyOnRead
 
   pub filter_edge : (a c : ℕ) → filtered t a ≡ Some c → IsFilterEdge a c
-  filter_edge a c is = by_row (node_at t a) refl is
+  filter_edge a c is = by_row (node_by_id t a) refl is
     where
       by_kind : (row : NodeRecord) (own : Row) (role : Role) → row_at nodes a ≡ Some own → IsRowOf row own → filter_role row.kind ≡ Some role
           → child t a role ≡ Some c → IsFilterEdge a c
@@ -175,11 +175,11 @@ module _ (t : Table) (nodes : Nodes) (joined : IsJoined nodes) (are : AreNodesOf
             copying = copying_driver own.driver is.0;
           }
 
-      by_role : (row : NodeRecord) (role : Option Role) → node_at t a ≡ Some row → filter_role row.kind ≡ role → option_and_then (child t a) role ≡ Some c → IsFilterEdge a c
+      by_role : (row : NodeRecord) (role : Option Role) → node_by_id t a ≡ Some row → filter_role row.kind ≡ role → option_and_then (child t a) role ≡ Some c → IsFilterEdge a c
       by_role row None found is_filter under = absurd (let bad : ⊥ = cc under in bad)
       by_role row (Some role) found is_filter under = let own = own_row a row found in by_kind row own.0 role own.1 own.2 is_filter under
 
-      by_row : (found : Option NodeRecord) → node_at t a ≡ found → option_and_then (child t a) (option_and_then (λ (row : NodeRecord). filter_role row.kind) found) ≡ Some c → IsFilterEdge a c
+      by_row : (found : Option NodeRecord) → node_by_id t a ≡ found → option_and_then (child t a) (option_and_then (λ (row : NodeRecord). filter_role row.kind) found) ≡ Some c → IsFilterEdge a c
       by_row None at under = absurd (let bad : ⊥ = cc under in bad)
       by_row (Some row) at under = by_role row (filter_role row.kind) at refl under
 
@@ -199,7 +199,7 @@ module _ (t : Table) (nodes : Nodes) (joined : IsJoined nodes) (are : AreNodesOf
       let own = own_row a row.row row.there in
       let may : has_role row.row.kind Backing ≡ true =
       subst (λ (r : Role). has_role row.row.kind r ≡ true) e.role_is (stands.roles e.edge row.row e.there row.held (e.from ∙ ap Node (sym row.id_is))) in
-      let kind : kind_of own.0.driver ≡ Qcow2 = only_qcow2 own.0.driver (subst (λ (k : Kind). has_role k Backing ≡ true) own.2.kind may) in
+      let kind : driver_kind own.0.driver ≡ Qcow2 = only_qcow2 own.0.driver (subst (λ (k : Kind). has_role k Backing ≡ true) own.2.kind may) in
       let rule = ruled_here a e.edge own.0 e.there e.from own.1 in
       let as_image : with_uses e.edge (derived_uses Qcow2 Backing (not own.0.is_read_only) (uses_into t.edges a)) ≡ e.edge =
       subst (λ (r : Role). with_uses e.edge (derived_uses Qcow2 r (not own.0.is_read_only) (uses_into t.edges a)) ≡ e.edge) e.role_is
@@ -280,7 +280,7 @@ module _ (t : Table) (nodes : Nodes) (joined : IsJoined nodes) (are : AreNodesOf
     down_disk a is = down_from 64 a is
 
   -- all below a node that is read is closed
-  closed_below : (n a b : ℕ) → IsRead a → has_id b (drop 1 (chain_from n t a)) ≡ true → IsClosed b
+  closed_below : (n a b : ℕ) → IsRead a → is_listed b (drop 1 (chain_from n t a)) ≡ true → IsClosed b
   closed_below zero a b read is = absurd (false≢true is)
   closed_below (suc m) a b read is = by_child (child t a Backing) refl is (closed_below m)
     where
@@ -288,20 +288,20 @@ module _ (t : Table) (nodes : Nodes) (joined : IsJoined nodes) (are : AreNodesOf
       begins zero u = refl
       begins (suc n) u = refl
 
-      by_head : (u : ℕ) (test : Bool) → (u == b) ≡ test → IsClosed u → (has_id b (drop 1 (chain_from m t u)) ≡ true → IsClosed b)
-          → (test || has_id b (drop 1 (chain_from m t u))) ≡ true → IsClosed b
+      by_head : (u : ℕ) (test : Bool) → (u == b) ≡ test → IsClosed u → (is_listed b (drop 1 (chain_from m t u)) ≡ true → IsClosed b)
+          → (test || is_listed b (drop 1 (chain_from m t u))) ≡ true → IsClosed b
       by_head u true same closed rest is_in = subst IsClosed (eqb-true u b same) closed
       by_head u false same closed rest is_in = rest is_in
 
       by_child : (found : Option ℕ) → child t a Backing ≡ found
-          → has_id b (elim (option_map (disk_node t) found) as (λ _. List ℕ) [ None ↦ [] | Some u ↦ chain_from m t u ]) ≡ true
-          → ((u v : ℕ) → IsRead u → has_id v (drop 1 (chain_from m t u)) ≡ true → IsClosed v) → IsClosed b
+          → is_listed b (elim (option_map (disk_node t) found) as (λ _. List ℕ) [ None ↦ [] | Some u ↦ chain_from m t u ]) ≡ true
+          → ((u v : ℕ) → IsRead u → is_listed v (drop 1 (chain_from m t u)) ≡ true → IsClosed v) → IsClosed b
       by_child None at is_in rest = absurd (false≢true is_in)
       by_child (Some c) at is_in rest =
           let both = read_backing a c at read in
           let u : ℕ = disk_node t c in
           by_head u (u == b) refl (down_disk IsClosed closed_filter c both.1)
-          (rest u b (down_disk IsRead read_filter c both.0)) (ap (has_id b) (sym (begins m u)) ∙ is_in)
+          (rest u b (down_disk IsRead read_filter c both.0)) (ap (is_listed b) (sym (begins m u)) ∙ is_in)
 
   -- ---- writers
 
@@ -352,7 +352,7 @@ module _ (t : Table) (nodes : Nodes) (joined : IsJoined nodes) (are : AreNodesOf
       let e = guest_edge g drive is in
       record { edge = e.0; there = e.1; to = e.3; asks = ap (λ (x : Edge). x.perm.read) e.4.is }
 
-  pub guest_writes : (g drive : ℕ) (device : Device) → AskToWrite t → device_at t g ≡ Some device → device.read_only ≡ false → drive_of t g ≡ Some drive → IsWritten drive
+  pub guest_writes : (g drive : ℕ) (device : Device) → AskToWrite t → device_by_number t g ≡ Some device → device.read_only ≡ false → drive_of t g ≡ Some drive → IsWritten drive
   guest_writes g drive device ask there writes is =
       let e = guest_edge g drive is in
       record {
@@ -365,7 +365,7 @@ module _ (t : Table) (nodes : Nodes) (joined : IsJoined nodes) (are : AreNodesOf
       }
 
   -- no guest's disk is over one that another guest may write
-  pub none_over : (writer reader drive other : ℕ) (device : Device) → AskToWrite t → device_at t writer ≡ Some device → device.read_only ≡ false → drive_of t writer ≡ Some drive
+  pub none_over : (writer reader drive other : ℕ) (device : Device) → AskToWrite t → device_by_number t writer ≡ Some device → device.read_only ≡ false → drive_of t writer ≡ Some drive
       → drive_of t reader ≡ Some other → is_over t (disk_node t drive) (disk_node t other) ≡ false
   unfolding chain
   none_over writer reader drive other device ask there writes on on_other =
@@ -377,7 +377,7 @@ module _ (t : Table) (nodes : Nodes) (joined : IsJoined nodes) (are : AreNodesOf
       read : IsRead (disk_node t (disk_node t other))
       read = down_disk IsRead read_filter (disk_node t other) (down_disk IsRead read_filter other (guest_reads reader other on_other))
 
-      by_test : (b : Bool) → has_id (disk_node t drive) (drop 1 (chain_from 64 t (disk_node t (disk_node t other)))) ≡ b → b ≡ false
+      by_test : (b : Bool) → is_listed (disk_node t drive) (drop 1 (chain_from 64 t (disk_node t (disk_node t other)))) ≡ b → b ≡ false
       by_test false is = refl
       by_test true is =
           let closed = closed_below 64 (disk_node t (disk_node t other)) (disk_node t drive) read is in

@@ -6,17 +6,17 @@ use Rattle.blk_base.specs.declared.file.File.{File}
 use Rattle.q2_format.specs.Sound.{IsSound}
 use Rattle.blk_history.specs.Fold.{With}
 use Rattle.blk_nodes.specs.Joined.{IsJoined}
-use Rattle.blk_nodes.specs.Nodes.{DeviceState, AreTold, device_in}
+use Rattle.blk_nodes.specs.Nodes.{DeviceSeen, AreTold, device_in}
 use Rattle.flat_machine.specs.Final.{bytes_named}
 use Rattle.flat_machine.specs.Imaging.{ImagesAreSound}
 use Rattle.flat_machine.specs.Writing.{written_file}
 use Rattle.flat_machine.proofs.ImagesKept.{sound_same}
 use Rattle.world_parts.specs.Coherent.{IsCoherent}
-use Rattle.world_parts.specs.Face.{Face, held, told_bytes}
+use Rattle.world_parts.specs.Face.{WorldSeen, held, told_bytes}
 use Rattle.world_commands.proofs.ImageRows.{HasImageFile, image_file, image_written}
 use Rattle.blk_world.proofs.ImageTold.{told-device, held-is}
 
-module _ (w : Face) (joined : IsJoined w.nodes) (coherent : IsCoherent w.table w.nodes w.opened w.progress) (told : AreTold w.nodes.devices) where
+module _ (w : WorldSeen) (joined : IsJoined w.nodes) (coherent : IsCoherent w.table w.nodes w.opened w.progress) (told : AreTold w.nodes.devices) where
   pub images-sound : ImagesAreSound w.table (held w)
   images-sound node image =
       subst (λ (x : Option (List ℕ)). With x (λ n. With (held w n) IsSound)) (sym name.1)
@@ -29,11 +29,11 @@ module _ (w : Face) (joined : IsJoined w.nodes) (coherent : IsCoherent w.table w
       of : HasImageFile w.table w.nodes node name.0
       of = image_file w.table w.nodes coherent.alike joined coherent.table.stands node name.0 image name.1
 
-      at : (d : DeviceState) × (bytes : List ℕ) × (device_in w.nodes.devices of.file ≡ Some d) × (d.content ≡ Some bytes)
+      at : (d : DeviceSeen) × (bytes : List ℕ) × (device_in w.nodes.devices of.file ≡ Some d) × (d.content ≡ Some bytes)
       at = told-device w.nodes.devices told of.file of.has_device
 
 -- as the store tells its files at the end
-pub all-sound : (w : Face) (files : Option (List File)) → is_some files ≡ true → ((name : List ℕ) → told_bytes files name ≡ held w name) → ImagesAreSound w.table (held w)
+pub all-sound : (w : WorldSeen) (files : Option (List File)) → is_some files ≡ true → ((name : List ℕ) → told_bytes files name ≡ held w name) → ImagesAreSound w.table (held w)
     → With files (λ fs. ImagesAreSound w.table (bytes_named fs))
 all-sound w None some holds sound = absurd (false≢true some)
 all-sound w (Some files) some holds sound = sound_same w.table w.table (held w) (bytes_named files) refl holds sound

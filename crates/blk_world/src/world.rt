@@ -42,10 +42,10 @@ pub struct World<S: Store> {
 }
 
 impl<S: Store> Model for World<S> {
-    ghost use Rattle.world_parts.specs.Face.{Face, face_of};
+    ghost use Rattle.world_parts.specs.Face.{WorldSeen, face_of};
     ghost use Rattle.world_parts.specs.Coherent.{IsWholeWorld};
 
-    ghost Value = { Face };
+    ghost Value = { WorldSeen };
 
     ghost view = { λ w. face_of w.store w.first_faults w.nodes w.names.table w.progress w.drained
         w.bitmaps };
@@ -104,7 +104,7 @@ impl<S: Store> World<S> {
     ghost use Rattle.world_parts.specs.Face.{held, seen_state};
     ghost use Rattle.world_commands.specs.Comes.{Comes};
     ghost use Rattle.world_parts.specs.Progress.{IsFree, HasRoomFor, flight_at, answered_in, with_retirement};
-    ghost use Rattle.world_parts.specs.Steps.{new_world, seen_store, IsOpeningOf, onward, after_admission, IsAnswered, after_wait, after_end, IsActorIdle};
+    ghost use Rattle.world_parts.specs.Steps.{new_world, seen_store, IsOpeningOf, with_history, after_admission, IsAnswered, after_wait, after_actor_end, IsActorIdle};
 
     /// A world over a store, with guests that have asked for nothing yet and room for what a run adds to its history.
     fn put_world(alloc: Global, store: S, guests: Names1, room: Room) -> Result<Self, (NoMemory, S)>
@@ -200,7 +200,7 @@ impl<S: Store> World<S> {
     /// Ends a request.
     fn put_retirement(&mut self, guest: u32)
         requires { With (flight_at self.old.progress.guests guest) IsOver }
-        ensures { self.new ≡ onward self.old (with_retirement guest) }
+        ensures { self.new ≡ with_history self.old (with_retirement guest) }
     {
         self.progress.retire(guest);
     }
@@ -208,7 +208,7 @@ impl<S: Store> World<S> {
     /// Ends a request of which all pieces are done, or the last wasn't good. Takes no memory.
     pub fn retire(&mut self, guest: u32)
         requires { With (flight_at self.old.progress.guests guest) IsOver }
-        ensures kept { self.new ≡ onward self.old (with_retirement guest) }
+        ensures kept { self.new ≡ with_history self.old (with_retirement guest) }
         ensures comes { (o : Opening) → Comes o self.old → Comes o self.new }
     {
         self.put_retirement(guest);
@@ -270,7 +270,7 @@ impl<S: Store> World<S> {
     fn put_end(&mut self, actor: u32)
         requires known { actor ≤ length self.old.progress.guests }
         requires room { 0 < self.old.progress.spare.entries }
-        ensures { self.new ≡ after_end self.old actor }
+        ensures { self.new ≡ after_actor_end self.old actor }
     {
         self.progress.finish(actor);
     }
@@ -281,7 +281,7 @@ impl<S: Store> World<S> {
         requires open { IsNotDone (seen_state self.old) actor }
         requires idle { IsActorIdle self.old.progress.guests actor }
         requires room { 0 < self.old.progress.spare.entries }
-        ensures kept { self.new ≡ after_end self.old actor }
+        ensures kept { self.new ≡ after_actor_end self.old actor }
         ensures comes { (o : Opening) → Comes o self.old → Comes o self.new }
     {
         self.put_end(actor);

@@ -36,21 +36,21 @@ use Rattle.qmp_asks.specs.declared.look.Look.{Look}
 use Rattle.qmp_asks.specs.declared.look.Look.TheVariants as look
 use Rattle.qmp_rules.specs.declared.told.Stopped.{Stopped}
 use Rattle.qmp_rules.specs.declared.told.Told.{Told}
-use Rattle.qmp_rules.specs.Table.{Table, device_named, node_at, node_named, id_named, file_state, first_into}
+use Rattle.qmp_rules.specs.Table.{RunTable, device_named, node_by_id, node_named, id_named, file_state, first_into}
 use Rattle.qmp_rules.specs.Chains.{filter_role, is_settled, disk_node}
 use Rattle.qmp_rules.specs.Changes.{changed}
-use Rattle.qmp_rules.specs.Edits.{snapshot_edits, ids, free_id, next_free_id, file_row, inline_row, raw_edits, qcow2_edits, added_edits, add_edits, length_told, edits_of, uses, with_inline, goes_with_node, of_row, row_gone, file_under, created_change, create_edits, del_edits, device_uses, new_device, device_add_edits, device_del_edits, merges, merge_edits}
+use Rattle.qmp_rules.specs.Edits.{snapshot_edits, node_ids, free_id, next_free_id, file_row, inline_row, raw_edits, qcow2_edits, added_edits, add_edits, length_told, edits_of, file_uses, with_inline, goes_with_node, of_row, row_gone, file_under, created_change, create_edits, del_edits, device_uses, new_device, device_add_edits, device_del_edits, merges, merge_edits}
 use Rattle.qmp_asks.specs.NodeAsks.{snapshot_values, snapshot_names, snapshot_rest, add_asks, option_values, added_values, added_names, is_read_only, added_rest, raw_rest, qcow2_rest, copy_on_read_rest, is_added, backing_name}
-use Rattle.qmp_rules.specs.Looks.{absent, add_told, is_unopened}
+use Rattle.qmp_rules.specs.Looks.{absent_file, add_told, is_unopened}
 use Rattle.qmp_asks.specs.Asking.{Asking}
-use Rattle.qmp_rules.specs.Asks.{id_or, holds, first, takes, stands_for, is_lost, is_file, name_of_file, told_at}
+use Rattle.qmp_rules.specs.Asks.{id_or, holds, first_unmet_ask, takes, stands_for, is_lost, is_file, name_of_file, told_at}
 use Rattle.qmp_asks.specs.CommandAsks.{asks_of, negotiates}
-use Rattle.qmp_rules.specs.Answers.{unbuilt, out_of_turn, refusal_of, command_edits}
+use Rattle.qmp_rules.specs.Answers.{unbuilt, out_of_turn, refusal_to, command_edits}
 use Rattle.blk_history.specs.Fold.{With}
 use Rattle.flat_machine.specs.State.{State, Content, Bytes, Blank, Unknown, content_in}
 use Rattle.flat_machine.specs.Contents.{file_bytes}
 use Rattle.flat_machine.specs.Changed.{stepped, put, name_file, add_file, filename_or}
-use Rattle.flat_machine.specs.Sights.{told_by, MayStop, may_be_large, is_opened}
+use Rattle.flat_machine.specs.Sights.{told_for, MayStop, may_be_large, is_opened}
 use Rattle.flat_machine.specs.Agreement.{HasDisk}
 use Rattle.flat_machine.specs.Performing.{IsWholly, IsReadable, IsBacking, CanAddFile, Can, AllCan}
 use Rattle.flat_machine.specs.Wiring.{StandsFor}
@@ -62,26 +62,26 @@ use Rattle.flat_machine.proofs.Asked.{none-both, NoneHolds, none-holds, none-beh
 
 -- ---- ids
 
-pub free_fresh : (t : Table) → length t.nodes + 1 ≤ 64 → node_at t (free_id t) ≡ None
+pub free_fresh : (t : RunTable) → length t.nodes + 1 ≤ 64 → node_by_id t (free_id t) ≡ None
 free_fresh t room =
-    let same : length (ids t) ≡ length t.nodes = simp length-map in
-    let few : length (ids t) < 64 = omega arith in
-    free-row (free_id t) t.nodes (lowest_free-free (ids t) few)
+    let same : length (node_ids t) ≡ length t.nodes = simp length-map in
+    let few : length (node_ids t) < 64 = omega arith in
+    free-row (free_id t) t.nodes (lowest_free-free (node_ids t) few)
 
-pub next_fresh : (t : Table) (row : NodeRecord) → row.id ≡ free_id t → length t.nodes + 2 ≤ 64
+pub next_fresh : (t : RunTable) (row : NodeRecord) → row.id ≡ free_id t → length t.nodes + 2 ≤ 64
     → find (λ r. r.id == next_free_id t) (t.nodes ++ row ∷ []) ≡ None
 next_fresh t row is room =
-    let same : length (ids t) ≡ length t.nodes = simp length-map in
-    let few : length (ids t ++ free_id t ∷ []) < 64 = omega (arith, length-append (ids t) (free_id t ∷ [])) in
-    let taken : map (λ (r : NodeRecord). r.id) (t.nodes ++ row ∷ []) ≡ ids t ++ free_id t ∷ [] =
-    map-append (λ (r : NodeRecord). r.id) t.nodes (row ∷ []) ∙ ap (λ id. ids t ++ id ∷ []) is in
+    let same : length (node_ids t) ≡ length t.nodes = simp length-map in
+    let few : length (node_ids t ++ free_id t ∷ []) < 64 = omega (arith, length-append (node_ids t) (free_id t ∷ [])) in
+    let taken : map (λ (r : NodeRecord). r.id) (t.nodes ++ row ∷ []) ≡ node_ids t ++ free_id t ∷ [] =
+    map-append (λ (r : NodeRecord). r.id) t.nodes (row ∷ []) ∙ ap (λ id. node_ids t ++ id ∷ []) is in
     free-row (next_free_id t) (t.nodes ++ row ∷ [])
-    (subst (λ l. list_any (nat_eq (next_free_id t)) l ≡ false) (sym taken) (lowest_free-free (ids t ++ free_id t ∷ []) few))
+    (subst (λ l. list_any (nat_eq (next_free_id t)) l ≡ false) (sym taken) (lowest_free-free (node_ids t ++ free_id t ∷ []) few))
 
 -- ---- an absent file is refused
 
 -- a file that is not there is told as absent, whatever call fails
-told_absent : (s : State) (c : Cmd) (filename : List ℕ) (stopped : Option Stopped) → MayStop s c (absent filename) stopped
+told_absent : (s : State) (c : Cmd) (filename : List ℕ) (stopped : Option Stopped) → MayStop s c (absent_file filename) stopped
     → may_be_large s c ≡ false → is_opened c (refusal.File filename Absent) ≡ false
     → told_at look.File stopped ≡ Some (refusal.File filename Absent)
 told_absent s c filename stopped (inl same) large opened = rw same refl
@@ -92,7 +92,7 @@ told_absent s c filename stopped (inr (inr too_large)) large opened = let is = t
 -- ---- files that are known
 
 -- no row stands for a file for which no node does
-pub none-over : (t : Table) (name : List ℕ) → list_any (stands_for name) t.nodes ≡ false → (row : NodeRecord) → StandsFor t name row → ⊥
+pub none-over : (t : RunTable) (name : List ℕ) → list_any (stands_for name) t.nodes ≡ false → (row : NodeRecord) → StandsFor t name row → ⊥
 none-over t name none row over = by_rows t.nodes none over.there
   where
     this : (r : NodeRecord) → r ≡ row → stands_for name r ≡ true
@@ -131,7 +131,7 @@ wholly_known s name stands none lost (Some content) is there =
 -- ---- rows by name
 
 -- a row that has a name is found by its id
-pub row_at : (s : State) (name : List ℕ) (row : NodeRecord) → Stands s → node_named s.table name ≡ Some row → node_at s.table row.id ≡ Some row
+pub row_at : (s : State) (name : List ℕ) (row : NodeRecord) → Stands s → node_named s.table name ≡ Some row → node_by_id s.table row.id ≡ Some row
 row_at s name row stands found =
     stands.table.apart row (find-Some (λ r. bytes_eq r.name name) s.table.nodes row found).0
 
@@ -155,7 +155,7 @@ is_protocol Mirror h = absurd cc
 is_protocol Commit h = absurd cc
 
 -- a settled node that is no filter has a disk of its own
-has_disk : (t : Table) (row : NodeRecord) → node_at t row.id ≡ Some row → filter_role row.kind ≡ None → is_settled t row.id ≡ true
+has_disk : (t : RunTable) (row : NodeRecord) → node_by_id t row.id ≡ Some row → filter_role row.kind ≡ None → is_settled t row.id ≡ true
     → HasDisk row
 has_disk t row found own settled =
     let here : disk_node t row.id ≡ row.id = own_disk t row.id row found own in
@@ -202,32 +202,32 @@ file_disk_there s name row stands found driver lone lost =
 -- ---- additions: a file that is opened is there
 
 -- it is not opened where a node stands for it or it was used
-pub opened : (t : Table) (name : List ℕ) → list_any (stands_for name) t.nodes ≡ false → is_lost false (file_state t name) ≡ false
+pub opened : (t : RunTable) (name : List ℕ) → list_any (stands_for name) t.nodes ≡ false → is_lost false (file_state t name) ≡ false
     → is_unopened t name ≡ false
 opened t name none lost = rw (none, lost) refl
 
 pub file_told_absent : (s : State) (c : BlockdevAdd (List ℕ)) (filename : List ℕ) → c.driver ≡ added.File filename
     → is_unopened s.table filename ≡ false → content_in s.files filename ≡ None
-    → (told_by s (command.BlockdevAdd c)).stopped ≡ absent filename
+    → (told_for s (command.BlockdevAdd c)).stopped ≡ absent_file filename
 unfolding add_told
 file_told_absent s c filename driver closed none = rw (driver, closed, none) refl
 
 pub raw_told_absent : (s : State) (c : BlockdevAdd (List ℕ)) (raw : AddRaw (List ℕ)) (file : InlineFile (List ℕ)) → c.driver ≡ added.Raw raw
     → raw.file ≡ file_ref.Inline file → is_unopened s.table file.filename ≡ false → content_in s.files file.filename ≡ None
-    → (told_by s (command.BlockdevAdd c)).stopped ≡ absent file.filename
+    → (told_for s (command.BlockdevAdd c)).stopped ≡ absent_file file.filename
 unfolding add_told
 raw_told_absent s c raw file driver inline closed none = rw (driver, inline, closed, none) refl
 
 pub qcow2_told_absent : (s : State) (c : BlockdevAdd (List ℕ)) (image : AddQcow2 (List ℕ)) (file : InlineFile (List ℕ))
     → c.driver ≡ added.Qcow2 image → image.file ≡ file_ref.Inline file → is_unopened s.table file.filename ≡ false
-    → content_in s.files file.filename ≡ None → (told_by s (command.BlockdevAdd c)).stopped ≡ absent file.filename
+    → content_in s.files file.filename ≡ None → (told_for s (command.BlockdevAdd c)).stopped ≡ absent_file file.filename
 unfolding add_told
 qcow2_told_absent s c image file driver inline closed none = rw (driver, inline, closed, none) refl
 
 -- no refusal says that it is absent
 pub opened_there : (s : State) (c : BlockdevAdd (List ℕ)) (told : Told) (filename : List ℕ)
-    → MayStop s (command.BlockdevAdd c) (told_by s (command.BlockdevAdd c)).stopped told.stopped
-    → (content_in s.files filename ≡ None → (told_by s (command.BlockdevAdd c)).stopped ≡ absent filename)
+    → MayStop s (command.BlockdevAdd c) (told_for s (command.BlockdevAdd c)).stopped told.stopped
+    → (content_in s.files filename ≡ None → (told_for s (command.BlockdevAdd c)).stopped ≡ absent_file filename)
     → (content_in s.files filename ≡ None → may_be_large s (command.BlockdevAdd c) ≡ false)
     → told_at look.File told.stopped ≡ None → IsSome (content_in s.files filename)
 opened_there s c told filename may tells large quiet = by_content (content_in s.files filename) refl
@@ -243,18 +243,18 @@ opened_there s c told filename may tells large quiet = by_content (content_in s.
 
 pub backing_there : (s : State) (told : Told) (back : Option (List ℕ)) → Stands s → holds s.table told (ask.Found back) ≡ None
     → holds s.table told (ask.Drives back drivers.FileRawOrQcow2) ≡ None → holds s.table told (ask.Settled back) ≡ None
-    → (node : ℕ) → option_and_then (id_named s.table) back ≡ Some node → With (node_at s.table node) HasDisk
+    → (node : ℕ) → option_and_then (id_named s.table) back ≡ Some node → With (node_by_id s.table node) HasDisk
 backing_there s told None stands found drives settled node is = absurd cc
 backing_there s told (Some name) stands found drives settled node is = by_row (found-named s.table told name found)
   where
-    by_row : ((row : NodeRecord) × (node_named s.table name ≡ Some row)) → With (node_at s.table node) HasDisk
+    by_row : ((row : NodeRecord) × (node_named s.table name ≡ Some row)) → With (node_by_id s.table node) HasDisk
     by_row named =
         let row = named.0 in
         let at_id = row_at s name row stands named.1 in
         let own = no_filter row.kind (takes-driver s.table told name drivers.FileRawOrQcow2 row named.1 drives) in
         let disk = has_disk s.table row at_id own (settled-node s.table told name row named.1 settled) in
         let same : row.id ≡ node = id_is named.1 in
-        rw (subst (λ n. node_at s.table n ≡ Some row) same at_id) disk
+        rw (subst (λ n. node_by_id s.table n ≡ Some row) same at_id) disk
       where
         id_is : node_named s.table name ≡ Some named.0 → named.0.id ≡ node
         id_is e = let of_name = rw e at is in cc
@@ -269,15 +269,15 @@ backing_can s told back stands found drives settled = by_node (option_and_then (
     by_node (Some node) e = backing_there s told back stands found drives settled node e
 
 -- it is there with one node more
-pub backing_longer : (s : State) (row : NodeRecord) (t : Table) → t.nodes ≡ s.table.nodes ++ row ∷ [] → (now : State) → now.table ≡ t
+pub backing_longer : (s : State) (row : NodeRecord) (t : RunTable) → t.nodes ≡ s.table.nodes ++ row ∷ [] → (now : State) → now.table ≡ t
     → (backing : Option ℕ) → IsBacking s backing → IsBacking now backing
 backing_longer s row t nodes now same None h = tt
-backing_longer s row t nodes now same (Some node) h = by_row (node_at s.table node) refl h
+backing_longer s row t nodes now same (Some node) h = by_row (node_by_id s.table node) refl h
   where
-    longer : (r : NodeRecord) → node_at s.table node ≡ Some r → node_at now.table node ≡ Some r
+    longer : (r : NodeRecord) → node_by_id s.table node ≡ Some r → node_by_id now.table node ≡ Some r
     longer r e = rw (same, nodes) (found-longer (λ x. x.id == node) s.table.nodes row r e)
 
-    by_row : (found : Option NodeRecord) → node_at s.table node ≡ found → With found HasDisk → With (node_at now.table node) HasDisk
+    by_row : (found : Option NodeRecord) → node_by_id s.table node ≡ found → With found HasDisk → With (node_by_id now.table node) HasDisk
     by_row None e disk = absurd disk
     by_row (Some r) e disk = rw (longer r e) disk
 
@@ -288,7 +288,7 @@ less_lost is_raw (Some Made) h = refl
 less_lost is_raw (Some Formatted) h = refl
 less_lost is_raw (Some Used) h = absurd cc
 
-pub look-quiet : (t : Table) (told : Told) (what : Look) → holds t told (ask.Files what) ≡ None → told_at what told.stopped ≡ None
+pub look-quiet : (t : RunTable) (told : Told) (what : Look) → holds t told (ask.Files what) ≡ None → told_at what told.stopped ≡ None
 unfolding holds
 look-quiet t told what h = h
 
@@ -346,7 +346,7 @@ readable_whole (Some content) h = subst IsReadable (sym h.1) tt
 -- ---- each driver
 
 module _ (s : State) (told : Told) (c : BlockdevAdd (List ℕ)) (name : List ℕ) (read_only : Bool) (stands : Stands s)
-    (may : MayStop s (command.BlockdevAdd c) (told_by s (command.BlockdevAdd c)).stopped told.stopped) where
+    (may : MayStop s (command.BlockdevAdd c) (told_for s (command.BlockdevAdd c)).stopped told.stopped) where
   pub file_can : (filename : List ℕ) → c.driver ≡ added.File filename
       → NoneHolds s.table told (added_rest name read_only (added.File filename))
       → (len : ℕ) (flag : Bool) (own : List ℕ) → CanAddFile s (file_row (free_id s.table) own len flag filename None)
@@ -365,7 +365,7 @@ module _ (s : State) (told : Told) (c : BlockdevAdd (List ℕ)) (name : List ℕ
 
   pub inline_can : (file : InlineFile (List ℕ)) (is_raw : Bool)
       → (content_in s.files file.filename ≡ None → is_unopened s.table file.filename ≡ false
-      → (told_by s (command.BlockdevAdd c)).stopped ≡ absent file.filename)
+      → (told_for s (command.BlockdevAdd c)).stopped ≡ absent_file file.filename)
       → (content_in s.files file.filename ≡ None → may_be_large s (command.BlockdevAdd c) ≡ false)
       → length s.table.nodes + 2 ≤ 64 → holds s.table told (ask.Closed file.filename) ≡ None
       → holds s.table told (ask.Files look.File) ≡ None → holds s.table told (ask.Known file.filename is_raw) ≡ None
@@ -383,7 +383,7 @@ module _ (s : State) (told : Told) (c : BlockdevAdd (List ℕ)) (name : List ℕ
 
   -- the `file` node that was added before a format node
   pub inline_under : (now : State) (row : NodeRecord) → now.table.nodes ≡ s.table.nodes ++ row ∷ [] → row.id ≡ free_id s.table
-      → length s.table.nodes + 1 ≤ 64 → node_at now.table (free_id s.table) ≡ Some row
+      → length s.table.nodes + 1 ≤ 64 → node_by_id now.table (free_id s.table) ≡ Some row
   inline_under now row nodes is room =
       rw nodes (found-new (λ r. r.id == free_id s.table) s.table.nodes row (free_fresh s.table room) (eq-eqb row.id (free_id s.table) is))
 
@@ -512,7 +512,7 @@ module _ (s : State) (told : Told) (c : BlockdevAdd (List ℕ)) (name : List ℕ
 -- ---- commands
 
 add_can : (s : State) (told exp : Told) (c : BlockdevAdd (List ℕ)) → Stands s
-    → MayStop s (command.BlockdevAdd c) (told_by s (command.BlockdevAdd c)).stopped told.stopped
+    → MayStop s (command.BlockdevAdd c) (told_for s (command.BlockdevAdd c)).stopped told.stopped
     → NoneHolds s.table told (add_asks c) → AllCan s (add_edits s.table exp c)
 add_can s told exp c stands may asks =
     driver_can s told c c.node_name (is_read_only c.options) stands may c.driver refl
@@ -538,32 +538,32 @@ free_append : (xs ys : List Change) → AreFree xs → AreFree ys → AreFree (x
 free_append [] ys hx hy = hy
 free_append (c ∷ xs) ys hx hy = (hx.0, free_append xs ys hx.1 hy)
 
-free_uses : (name : Option (List ℕ)) → AreFree (uses name)
+free_uses : (name : Option (List ℕ)) → AreFree (file_uses name)
 free_uses None = tt
 free_uses (Some name) = (λ s. tt, tt)
 
-free_created : (t : Table) (options : Created (List ℕ)) → AreFree (created_change t options)
+free_created : (t : RunTable) (options : Created (List ℕ)) → AreFree (created_change t options)
 free_created t (created.File c) = (λ s. tt, tt)
 free_created t (created.Qcow2 c) = (λ s. tt, tt)
 free_created t created.Unknown = tt
 
-free_inline : (t : Table) (id : ℕ) → AreFree (with_inline t id)
+free_inline : (t : RunTable) (id : ℕ) → AreFree (with_inline t id)
 free_inline t id = by_row (find (goes_with_node id) t.nodes)
   where
     by_row : (found : Option NodeRecord) → AreFree (elim found as (λ _. List Change) [ None ↦ [] | Some row ↦ change.RemoveNode row.id ∷ [] ])
     by_row None = tt
     by_row (Some row) = (λ s. tt, tt)
 
-free_del : (t : Table) (found : Option NodeRecord) → AreFree (of_row (row_gone t) found)
+free_del : (t : RunTable) (found : Option NodeRecord) → AreFree (of_row (row_gone t) found)
 free_del t None = tt
-free_del t (Some row) = free_append (uses (file_under t row)) (change.RemoveNode row.id ∷ with_inline t row.id) (free_uses (file_under t row))
+free_del t (Some row) = free_append (file_uses (file_under t row)) (change.RemoveNode row.id ∷ with_inline t row.id) (free_uses (file_under t row))
     (λ s. tt, free_inline t row.id)
 
-free_device_uses : (row : NodeRecord) (b : Bool) → AreFree (if b then uses row.filename else [])
+free_device_uses : (row : NodeRecord) (b : Bool) → AreFree (if b then file_uses row.filename else [])
 free_device_uses row true = free_uses row.filename
 free_device_uses row false = tt
 
-free_device : (t : Table) (c : DeviceAdd (List ℕ)) (found : Option NodeRecord)
+free_device : (t : RunTable) (c : DeviceAdd (List ℕ)) (found : Option NodeRecord)
     → AreFree (of_row (λ row. device_uses row ++ change.AddDevice (new_device t c row) row.id ∷ []) found)
 free_device t c None = tt
 free_device t c (Some row) = free_append (device_uses row) (change.AddDevice (new_device t c row) row.id ∷ [])
@@ -578,28 +578,28 @@ snapshot_can s told c stands asks =
     backed : IsBacking s (id_named s.table c.node)
     backed = backing_can s told (Some c.node) stands asks.1.1.1.0 asks.1.1.1.1.1.0 asks.1.1.1.1.1.1.1.0
 
-    by_node : ((row : NodeRecord) × (node_named s.table c.node ≡ Some row)) → With (node_at s.table (id_or 0 s.table (Some c.node))) HasDisk
+    by_node : ((row : NodeRecord) × (node_named s.table c.node ≡ Some row)) → With (node_by_id s.table (id_or 0 s.table (Some c.node))) HasDisk
     by_node named = rw named.1 (rw named.1 at backed)
 
 free_gone : (found : Option Device) → AreFree (elim found as (λ _. List Change) [ None ↦ [] | Some device ↦ change.RemoveDevice device.number ∷ [] ])
 free_gone None = tt
 free_gone (Some device) = (λ s. tt, tt)
 
-free_merges : (t : Table) (node target : List ℕ) (sources : SeenSources) → AreFree (merges t node target sources)
+free_merges : (t : RunTable) (node target : List ℕ) (sources : SeenSources) → AreFree (merges t node target sources)
 free_merges t node target [] = tt
 free_merges t node target (source ∷ sources) = (λ s. tt, free_merges t node target sources)
 
 -- Where nothing refuses a command that is carried out, each of its changes can be made, whatever sizes are told of files.
-pub accepted_can : (s : State) (told exp : Told) (c : Cmd) → Stands s → MayStop s c (told_by s c).stopped told.stopped
-    → refusal_of s.table told c ≡ None → AllCan s (command_edits s.table exp c)
-unfolding refusal_of asks_of edits_of
+pub accepted_can : (s : State) (told exp : Told) (c : Cmd) → Stands s → MayStop s c (told_for s c).stopped told.stopped
+    → refusal_to s.table told c ≡ None → AllCan s (command_edits s.table exp c)
+unfolding refusal_to asks_of edits_of
 accepted_can s told exp c stands may h =
     let known = none-both (unbuilt c) _ h in
     let turn = none-both (out_of_turn (negotiates c) s.table.negotiated) _ known.1 in
-    let asks = none-both (first s.table told (asks_of c)) _ turn.1 in
+    let asks = none-both (first_unmet_ask s.table told (asks_of c)) _ turn.1 in
     by_command c stands may known.0 (none-holds s.table told (asks_of c) asks.0)
   where
-    by_command : (c : Cmd) → Stands s → MayStop s c (told_by s c).stopped told.stopped → unbuilt c ≡ None
+    by_command : (c : Cmd) → Stands s → MayStop s c (told_for s c).stopped told.stopped → unbuilt c ≡ None
         → NoneHolds s.table told (asks_of c) → AllCan s (command_edits s.table exp c)
     by_command (command.Capabilities enable) stands may is asks = (tt, tt)
     by_command (command.BlockdevCreate c) stands may is asks =

@@ -6,8 +6,8 @@ use Rattle.std.proofs.lemmas.Bool.{eqb-true, eq-eqb, ne_eqb, cases_eq}
 use Rattle.std.proofs.lemmas.List.Elements.{All-weaker, All-nil, All-cons, All-head, All-tail}
 use Rattle.blk_graph.proofs.Members.{find-Some, Contains-filter}
 use Rattle.qmp_rules.specs.declared.rows.NodeRecord.{NodeRecord}
-use Rattle.qmp_rules.specs.Table.{node_at, has_name}
-use Rattle.qmp_rules.specs.Changes.{node_changed, unsettled, writable, without_row}
+use Rattle.qmp_rules.specs.Table.{node_by_id, has_name}
+use Rattle.qmp_rules.specs.Changes.{node_changed, unsettled, writable, without_record}
 use Rattle.blk_history.specs.Fold.{With}
 use Rattle.flat_machine.specs.State.{State, Content, Left, bytes_in, content_in}
 use Rattle.flat_machine.specs.Changed.{with_bytes_of}
@@ -22,12 +22,12 @@ use Rattle.flat_machine.proofs.Finds.{find-push, find-map, find-filter, bytes_in
 -- a node with a flat disk had one before
 pub record HadDisk (s : State) (node : ℕ) : Type 0 where
   pub row : NodeRecord
-  pub found : node_at s.table node ≡ Some row
+  pub found : node_by_id s.table node ≡ Some row
   pub disk : HasDisk row
 
 -- each node with a flat disk but these had one before
 abbrev pub RowsBut : (ℕ → Type 0) → State → State → Type 0
-RowsBut but s now = (node : ℕ) (row : NodeRecord) → node_at now.table node ≡ Some row → HasDisk row → but node ⊎ HadDisk s node
+RowsBut but s now = (node : ℕ) (row : NodeRecord) → node_by_id now.table node ≡ Some row → HasDisk row → but node ⊎ HadDisk s node
 
 module _ (s now : State) where
   pub rows_same : now.table.nodes ≡ s.table.nodes → RowsBut Nothing s now
@@ -66,11 +66,11 @@ module _ (s now : State) where
           let is : f r ≡ row = cc in
           inr (record { row = r; found = was; disk = less r (subst HasDisk (sym is) disk) })
 
-  pub rows_dropped : (id : ℕ) → now.table.nodes ≡ without_row id s.table.nodes
-      → (node : ℕ) (row : NodeRecord) → node_at now.table node ≡ Some row → HasDisk row → (node ≢ id) × HadDisk s node
+  pub rows_dropped : (id : ℕ) → now.table.nodes ≡ without_record id s.table.nodes
+      → (node : ℕ) (row : NodeRecord) → node_by_id now.table node ≡ Some row → HasDisk row → (node ≢ id) × HadDisk s node
   rows_dropped id e node row found disk =
       let kept = subst (λ rows. find (λ r. r.id == node) rows ≡ Some row) e found in
-      let passed = find-Some (λ r. r.id == node) (without_row id s.table.nodes) row kept in
+      let passed = find-Some (λ r. r.id == node) (without_record id s.table.nodes) row kept in
       let stays = Contains-filter (λ r. not (r.id == id)) s.table.nodes row passed.0 in
       let is : row.id ≡ node = eqb-true row.id node passed.1 in
       let other : node ≢ id = λ same. gone (row.id == id) (eq-eqb row.id id (is ∙ same)) stays.1 in
@@ -122,7 +122,7 @@ module _ (s now : State) (old new : Contents) where
 
   -- one node may read otherwise: it has no flat disk
   pub disks_but : (but : ℕ → Type 0) → RowsBut Nothing s now
-      → ((node : ℕ) (row : NodeRecord) → node_at now.table node ≡ Some row → HasDisk row → but node → ⊥)
+      → ((node : ℕ) (row : NodeRecord) → node_by_id now.table node ≡ Some row → HasDisk row → but node → ⊥)
       → now.disks ≡ s.disks → ReadSame but old new → ReadAsDisks s old → ReadAsDisks now new
   disks_but but rows none same reads before node row found disk = elim (rows node row found disk) [
     | inl never ↦ absurd never
@@ -141,7 +141,7 @@ module _ (s now : State) (old new : Contents) where
       ]
 
   pub disks_dropped : (id : ℕ)
-      → ((node : ℕ) (row : NodeRecord) → node_at now.table node ≡ Some row → HasDisk row → (node ≢ id) × HadDisk s node)
+      → ((node : ℕ) (row : NodeRecord) → node_by_id now.table node ≡ Some row → HasDisk row → (node ≢ id) × HadDisk s node)
       → now.disks ≡ filter (λ d. not (d.node == id)) s.disks
       → ReadSame (λ node. node ≡ id) old new → ReadAsDisks s old → ReadAsDisks now new
   disks_dropped id rows dropped reads before node row found disk =

@@ -17,9 +17,9 @@ use Rattle.blk_base.specs.declared.fault.DevNo.{DevNo}
 use Rattle.blk_base.specs.declared.fault.FaultFrom.TheVariants as from
 use Rattle.qmp_rules.specs.declared.refusal.Refusal.TheVariants as refusal
 use Rattle.qmp_rules.specs.Refusals.{refusal_text}
-use Rattle.qmp_rules.specs.Table.{Table}
+use Rattle.qmp_rules.specs.Table.{RunTable}
 use Rattle.qmp_rules.specs.Edits.{edits_of, added_edits, raw_edits, qcow2_edits}
-use Rattle.qmp_rules.specs.Answers.{refusal_of, command_edits}
+use Rattle.qmp_rules.specs.Answers.{refusal_to, command_edits}
 use Rattle.qmp_asks.specs.NodeAsks.{is_read_only, backing_name}
 use Rattle.flat_machine.specs.State.{State}
 use Rattle.flat_machine.specs.Sights.{IsTold, expected}
@@ -44,7 +44,7 @@ reads_refused text (Some id) class desc h = (rw h refl, rw h refl)
 
 -- ---- changes by what is told
 
-module _ (t : Table) (told other : Told) (len : told.length ≡ other.length) (size : told.size ≡ other.size) where
+module _ (t : RunTable) (told other : Told) (len : told.length ≡ other.length) (size : told.size ≡ other.size) where
   same_raw : (name : List ℕ) (read_only : Bool) (raw : AddRaw (List ℕ)) (file : FileRef (List ℕ))
       → raw_edits t told name read_only raw file ≡ raw_edits t other name read_only raw file
   same_raw name read_only raw (file_ref.Name file) = refl
@@ -81,7 +81,7 @@ accepted_edits s told c text id d is_told h =
 
 -- It keeps what nodes read as and what files hold as the flat machine says, where its changes were performed.
 pub reply_keeps : (opening : List ℕ → Option (List ℕ)) (s : State) (told : Told) (c : Cmd) (given text : List ℕ) (id : Option Data) (d : Data)
-    (old new : Contents) → command_at given ≡ Ok c → Stands s → IsTold s c told → refusal_of s.table told c ≡ None
+    (old new : Contents) → command_at given ≡ Ok c → Stands s → IsTold s c told → refusal_to s.table told c ≡ None
     → read text ≡ Some (returned_data id d) → AllPerformed s (command_edits s.table told c) old new → Agrees opening s old
     → Agrees opening (replied s given text) new
 reply_keeps opening s told c given text id d old new line stands is_told quiet reads did h =

@@ -9,11 +9,11 @@ use Rattle.qmp_asks.specs.declared.ask.Drivers.{Drivers}
 use Rattle.qmp_rules.specs.declared.refusal.Refusal.{Refusal}
 use Rattle.qmp_rules.specs.declared.rows.NodeRecord.{NodeRecord}
 use Rattle.qmp_rules.specs.declared.told.Told.{Told}
-use Rattle.qmp_rules.specs.Table.{Table, node_named, file_state, first_into}
+use Rattle.qmp_rules.specs.Table.{RunTable, node_named, file_state, first_into}
 use Rattle.qmp_rules.specs.Chains.{is_settled}
 use Rattle.qmp_rules.specs.Refusals.{refused, or_else}
 use Rattle.qmp_asks.specs.Asking.{Asking}
-use Rattle.qmp_rules.specs.Asks.{holds, first, takes, stands_for, is_lost, is_file, name_of_file, in_use}
+use Rattle.qmp_rules.specs.Asks.{holds, first_unmet_ask, takes, stands_for, is_lost, is_file, name_of_file, in_use}
 
 -- ---- lists
 
@@ -22,14 +22,14 @@ none-both None b h = (refl, h)
 none-both (Some cause) b h = absurd cc
 
 -- none of them refuses
-abbrev pub NoneHolds : Table → Told → List Asking → Type 0
+abbrev pub NoneHolds : RunTable → Told → List Asking → Type 0
 NoneHolds t told [] = Unit {0}
 NoneHolds t told (asking ∷ asks) = (holds t told asking ≡ None) × NoneHolds t told asks
 
-pub none-holds : (t : Table) (told : Told) (asks : List Asking) → first t told asks ≡ None → NoneHolds t told asks
+pub none-holds : (t : RunTable) (told : Told) (asks : List Asking) → first_unmet_ask t told asks ≡ None → NoneHolds t told asks
 none-holds t told [] h = tt
 none-holds t told (asking ∷ asks) h =
-    let parts = none-both (holds t told asking) (first t told asks) h in
+    let parts = none-both (holds t told asking) (first_unmet_ask t told asks) h in
     (parts.0, none-holds t told asks parts.1)
 
 pub not-refused : (b : Bool) (cause : Refusal) → refused b cause ≡ None → b ≡ false
@@ -37,22 +37,22 @@ not-refused false cause h = refl
 not-refused true cause h = absurd cc
 
 -- so it is with those behind
-pub none-behind : (t : Table) (told : Told) (xs ys : List Asking) → NoneHolds t told (xs ++ ys) → NoneHolds t told ys
+pub none-behind : (t : RunTable) (told : Told) (xs ys : List Asking) → NoneHolds t told (xs ++ ys) → NoneHolds t told ys
 none-behind t told [] ys h = h
 none-behind t told (asking ∷ xs) ys h = none-behind t told xs ys h.1
 
 -- and with those ahead
-pub none-ahead : (t : Table) (told : Told) (xs ys : List Asking) → NoneHolds t told (xs ++ ys) → NoneHolds t told xs
+pub none-ahead : (t : RunTable) (told : Told) (xs ys : List Asking) → NoneHolds t told (xs ++ ys) → NoneHolds t told xs
 none-ahead t told [] ys h = tt
 none-ahead t told (asking ∷ xs) ys h = (h.0, none-ahead t told xs ys h.1)
 
-pub good-value : (t : Table) (told : Told) (member : List ℕ) (ok : Bool) → holds t told (ask.Good member ok) ≡ None → ok ≡ true
+pub good-value : (t : RunTable) (told : Told) (member : List ℕ) (ok : Bool) → holds t told (ask.Good member ok) ≡ None → ok ≡ true
 unfolding holds
 good-value t told member ok h = not-false ok (not-refused (not ok) _ h)
 
 -- ---- asks
 
-module _ (t : Table) (told : Told) where
+module _ (t : RunTable) (told : Told) where
   pub found-named : (name : List ℕ) → holds t told (ask.Found (Some name)) ≡ None → (row : NodeRecord) × (node_named t name ≡ Some row)
   unfolding holds
   found-named name h = by_row (node_named t name) refl (not-refused _ _ h)

@@ -18,12 +18,12 @@ use Rattle.blk_bitmaps.specs.Refusals as refusals
 use Rattle.blk_bitmaps.specs.Calls.{with_first, without_first, where_so, with_source}
 use Rattle.blk_bitmaps.proofs.Views.{changed-view, removed-view, found-view, named-view, left-view, mapped-view, first-view, where-view, found-itself, single-same, single-fewer, single-push, without-filter, dirty-count}
 use Rattle.qmp_rules.specs.declared.rows.BitmapRow.{BitmapRow}
-use Rattle.qmp_rules.specs.Table.{Table, is_bitmap}
+use Rattle.qmp_rules.specs.Table.{RunTable, is_bitmap}
 use Rattle.qmp_rules.specs.declared.change.Change.{Change}
 use Rattle.qmp_rules.specs.declared.change.Change.TheVariants as change
 use Rattle.qmp_rules.specs.Changes.{changed, all_changed, bitmap_changed, bitmaps_but_of, without_bitmap}
 use Rattle.qmp_rules.specs.Changes as table
-use Rattle.flat_machine.specs.State.{Dirty, size_of}
+use Rattle.flat_machine.specs.State.{Dirty, size_by_id}
 use Rattle.flat_machine.specs.Marking.{is_dirty_of, dirty_at, clean, marked, where_recording, merge_from, dirty_bytes}
 use Rattle.flat_machine.specs.Marking as marking
 use Rattle.flat_machine.specs.Machine.{noted}
@@ -131,7 +131,7 @@ module _ (n : ℕ) (m : List ℕ) (old : List BitmapRow) (rows : List Bitmap) (w
   pub turned-bitmaps : (on : Bool) → AreBitmapsOf (table.with_turned n m on old) (with_first (is_named n m) (turned on) rows)
   turned-bitmaps on = later-bitmaps old _ rows _ (later-first (is_named n m) (turned on) (turned-later on) rows)
       (ap (table.with_turned n m on) was.listed
-      ∙ sym (changed-view bitmap_of n m (is_bitmap n m) (λ row. refl) (table.turned on) (turned on) (λ row. refl) rows was.single)) was
+      ∙ sym (changed-view bitmap_of n m (is_bitmap n m) (λ row. refl) (table.with_recording on) (turned on) (λ row. refl) rows was.single)) was
 
   pub turned-dirty : (on : Bool) → map dirty_in (with_first (is_named n m) (turned on) rows) ≡ map dirty_in rows
   turned-dirty on = first-view dirty_in (is_named n m) (turned on) (λ row. refl) rows
@@ -141,8 +141,8 @@ module _ (n : ℕ) (m : List ℕ) (old : List BitmapRow) (rows : List Bitmap) (w
   cleared-bitmaps = later-bitmaps old old rows _ (later-first (is_named n m) emptied emptied-later rows)
       (was.listed ∙ sym (first-view bitmap_of (is_named n m) emptied (λ row. refl) rows)) was
 
-  pub cleared-dirty : map dirty_in (with_first (is_named n m) emptied rows) ≡ marking.where_so (is_dirty_of n m) marking.emptied (map dirty_in rows)
-  cleared-dirty = changed-view dirty_in n m (is_dirty_of n m) (λ row. refl) marking.emptied emptied (λ row. refl) rows was.single
+  pub cleared-dirty : map dirty_in (with_first (is_named n m) emptied rows) ≡ marking.where_dirty (is_dirty_of n m) marking.made_clean (map dirty_in rows)
+  cleared-dirty = changed-view dirty_in n m (is_dirty_of n m) (λ row. refl) marking.made_clean emptied (λ row. refl) rows was.single
 
   -- they are removed
   pub removed-bitmaps : AreBitmapsOf (without_bitmap n m old) (without_first (is_named n m) rows)
@@ -165,7 +165,7 @@ module _ (n : ℕ) (m : List ℕ) (old : List BitmapRow) (rows : List Bitmap) (w
 
   merged-by : (source : Option Bitmap) → map dirty_in (with_source rows n m source) ≡ merge_from (option_map dirty_in source) n m (map dirty_in rows)
   merged-by None = refl
-  merged-by (Some source) = changed-view dirty_in n m (is_dirty_of n m) (λ row. refl) (marking.joined (dirty_in source)) (joined source) (λ row. refl) rows was.single
+  merged-by (Some source) = changed-view dirty_in n m (is_dirty_of n m) (λ row. refl) (marking.dirtied_by (dirty_in source)) (joined source) (λ row. refl) rows was.single
 
   pub merged-dirty : (k : ℕ) (other : List ℕ)
       → map dirty_in (with_source rows n m (refusals.find rows k other)) ≡ merge_from (dirty_at (map dirty_in rows) k other) n m (map dirty_in rows)
@@ -229,11 +229,11 @@ module _ (old : List BitmapRow) (rows : List Bitmap) (was : AreBitmapsOf old row
       same row true = refl
       same row false = refl
 
-  pub written-dirty : (t : Table) → t.bitmaps ≡ old → (node : ℕ) (span : Extent)
+  pub written-dirty : (t : RunTable) → t.bitmaps ≡ old → (node : ℕ) (span : Extent)
       → map dirty_in (where_so (records node) (written span) rows) ≡ where_recording t node (marked span) (map dirty_in rows)
-  written-dirty t is node span = where-view dirty_in (records node) (written span) (λ d. (d.node == node) && marking.records t d) (marked span) rows tells (λ row. refl)
+  written-dirty t is node span = where-view dirty_in (records node) (written span) (λ d. (d.node == node) && marking.records_writes t d) (marked span) rows tells (λ row. refl)
     where
-      tells : (row : Bitmap) → Contains rows row → ((row.node == node) && marking.records t (dirty_in row)) ≡ records node row
+      tells : (row : Bitmap) → Contains rows row → ((row.node == node) && marking.records_writes t (dirty_in row)) ≡ records node row
       tells row there =
           let here : find (is_bitmap row.node row.name.bytes) t.bitmaps ≡ Some (bitmap_of row) =
           ap (find (is_bitmap row.node row.name.bytes)) is ∙ found-bitmap row.node row.name.bytes old rows was
@@ -245,7 +245,7 @@ noted-bitmaps old span [] rows was = was
 noted-bitmaps old span (node ∷ nodes) rows was =
     noted-bitmaps old span nodes (where_so (records node) (written span) rows) (written-bitmaps old rows was node span)
 
-pub noted-dirty : (t : Table) (span : Extent) (nodes : List ℕ) (rows : List Bitmap) → AreBitmapsOf t.bitmaps rows
+pub noted-dirty : (t : RunTable) (span : Extent) (nodes : List ℕ) (rows : List Bitmap) → AreBitmapsOf t.bitmaps rows
     → map dirty_in (noted_rows span rows nodes) ≡ noted t span (map dirty_in rows) nodes
 noted-dirty t span [] rows was = refl
 noted-dirty t span (node ∷ nodes) rows was =
@@ -285,7 +285,7 @@ leaves_bitmaps (change.RemoveNode node) = false
 leaves_bitmaps (change.StartJob row) = false
 leaves_bitmaps c = true
 
-left-rows : (t : Table) (c : Change) → leaves_bitmaps c ≡ true → (changed t c).bitmaps ≡ t.bitmaps
+left-rows : (t : RunTable) (c : Change) → leaves_bitmaps c ≡ true → (changed t c).bitmaps ≡ t.bitmaps
 unfolding changed
 left-rows t (change.AddBitmap row) leaves = absurd cc
 left-rows t (change.RemoveBitmap node name) leaves = absurd cc
@@ -294,7 +294,7 @@ left-rows t (change.RemoveNode node) leaves = absurd cc
 left-rows t (change.StartJob row) leaves = absurd cc
 left-rows t _ leaves = refl
 
-left-sets : (t : Table) (ds : List Dirty) (c : Change) → leaves_bitmaps c ≡ true → dirty_beside t ds c ≡ ds
+left-sets : (t : RunTable) (ds : List Dirty) (c : Change) → leaves_bitmaps c ≡ true → dirty_beside t ds c ≡ ds
 left-sets t ds (change.AddBitmap row) leaves = absurd cc
 left-sets t ds (change.RemoveBitmap node name) leaves = absurd cc
 left-sets t ds (change.ClearBitmap node name) leaves = absurd cc
@@ -302,18 +302,18 @@ left-sets t ds (change.MergeBitmap node name source_node source) leaves = absurd
 left-sets t ds (change.RemoveNode node) leaves = absurd cc
 left-sets t ds _ leaves = refl
 
-pub follow-none : (t : Table) (rows : List Bitmap) → AreBitmapsOf t.bitmaps rows → FollowChanges t rows rows []
+pub follow-none : (t : RunTable) (rows : List Bitmap) → AreBitmapsOf t.bitmaps rows → FollowChanges t rows rows []
 follow-none t rows was = record { listed = was; dirty = refl }
 
 -- a change, and those behind it
-pub follow-then : (t : Table) (old mid now : List Bitmap) (c : Change) (changes : List Change)
+pub follow-then : (t : RunTable) (old mid now : List Bitmap) (c : Change) (changes : List Change)
     → map dirty_in mid ≡ dirty_beside t (map dirty_in old) c → FollowChanges (changed t c) mid now changes → FollowChanges t old now (c ∷ changes)
 follow-then t old mid now c changes one rest = record {
   listed = rest.listed;
   dirty = rest.dirty ∙ ap (λ ds. dirty_after (changed t c) ds changes) one;
 }
 
-pub follow-left : (changes : List Change) (t : Table) (rows now : List Bitmap) (more : List Change) → list_all leaves_bitmaps changes ≡ true → AreBitmapsOf t.bitmaps rows
+pub follow-left : (changes : List Change) (t : RunTable) (rows now : List Bitmap) (more : List Change) → list_all leaves_bitmaps changes ≡ true → AreBitmapsOf t.bitmaps rows
     → (AreBitmapsOf (all_changed t changes).bitmaps rows → FollowChanges (all_changed t changes) rows now more) → FollowChanges t rows now (changes ++ more)
 follow-left [] t rows now more leaves was rest = rest was
 follow-left (c ∷ changes) t rows now more leaves was rest =
@@ -322,12 +322,12 @@ follow-left (c ∷ changes) t rows now more leaves was rest =
     follow-then t rows rows now c (changes ++ more) (sym (left-sets t (map dirty_in rows) c parts.0)) (follow-left changes (changed t c) rows now more parts.1 kept rest)
 
 -- of such changes alone
-pub follow-all : (changes : List Change) (t : Table) (rows : List Bitmap) → list_all leaves_bitmaps changes ≡ true → AreBitmapsOf t.bitmaps rows → FollowChanges t rows rows changes
+pub follow-all : (changes : List Change) (t : RunTable) (rows : List Bitmap) → list_all leaves_bitmaps changes ≡ true → AreBitmapsOf t.bitmaps rows → FollowChanges t rows rows changes
 follow-all changes t rows leaves was =
     subst (λ cs. FollowChanges t rows rows cs) (append-nil changes)
     (follow-left changes t rows rows [] leaves was (λ kept. follow-none (all_changed t changes) rows kept))
 
-module _ (t : Table) (rows : List Bitmap) (was : AreBitmapsOf t.bitmaps rows) (n : ℕ) where
+module _ (t : RunTable) (rows : List Bitmap) (was : AreBitmapsOf t.bitmaps rows) (n : ℕ) where
   pub follow-turned : (m : List ℕ) (on : Bool) → FollowChanges t rows (with_first (is_named n m) (turned on) rows) (change.TurnBitmap n m on ∷ [])
   unfolding changed
   follow-turned m on = record { listed = turned-bitmaps n m t.bitmaps rows was on; dirty = turned-dirty n m t.bitmaps rows was on }
@@ -358,8 +358,8 @@ module _ (t : Table) (rows : List Bitmap) (was : AreBitmapsOf t.bitmaps rows) (n
       (rest (left-bitmaps t.bitmaps rows was n))
 
 -- a new one
-pub follow-added : (t : Table) (rows : List Bitmap) → AreBitmapsOf t.bitmaps rows → (new : Bitmap) → find (is_bitmap new.node new.name.bytes) t.bitmaps ≡ None
-    → IsFreeBitmap new → dirty_in new ≡ clean (bitmap_of new) (size_of t new.node) → FollowChanges t rows (rows ++ new ∷ []) (change.AddBitmap (bitmap_of new) ∷ [])
+pub follow-added : (t : RunTable) (rows : List Bitmap) → AreBitmapsOf t.bitmaps rows → (new : Bitmap) → find (is_bitmap new.node new.name.bytes) t.bitmaps ≡ None
+    → IsFreeBitmap new → dirty_in new ≡ clean (bitmap_of new) (size_by_id t new.node) → FollowChanges t rows (rows ++ new ∷ []) (change.AddBitmap (bitmap_of new) ∷ [])
 unfolding changed
 follow-added t rows was new fresh free is_clean = record {
   listed = pushed-bitmaps t.bitmaps rows was new fresh free;

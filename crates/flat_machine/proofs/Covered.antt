@@ -23,9 +23,9 @@ use Rattle.blk_graph.proofs.RuleLemmas.{find-None}
 use Rattle.blk_graph.proofs.DraftLemmas.{children_replaced}
 use Rattle.blk_graph.proofs.RefreshLemmas.{child_of-refreshed}
 use Rattle.qmp_rules.specs.declared.rows.NodeRecord.{NodeRecord}
-use Rattle.qmp_rules.specs.Table.{Table, child}
+use Rattle.qmp_rules.specs.Table.{RunTable, child}
 use Rattle.qmp_rules.specs.Chains.{filter_role}
-use Rattle.qmp_rules.specs.Answers.{untold}
+use Rattle.qmp_rules.specs.Answers.{told_none}
 use Rattle.flat_machine.specs.State.{drive_of}
 use Rattle.flat_machine.specs.Wiring.{TableStands}
 use Rattle.flat_machine.proofs.Tables.{refreshed-old, refreshed-new, with_edge-keeps}
@@ -45,7 +45,7 @@ map-staying None = refl
 map-staying (Some c) = refl
 
 -- a node without a child of a role has no edge of it
-pub no_edge_of : (t : Table) (node : ℕ) (role : Role) → child t node role ≡ None → (e : Edge) → Contains t.edges e → e.parent ≡ Node node
+pub no_edge_of : (t : RunTable) (node : ℕ) (role : Role) → child t node role ≡ None → (e : Edge) → Contains t.edges e → e.parent ≡ Node node
     → e.role ≡ role → ⊥
 no_edge_of t node role none e there from is =
     let passes_not = find-None (is_edge (Node node) role) t.edges (none_found (find (is_edge (Node node) role) t.edges) refl none) e there in
@@ -57,7 +57,7 @@ no_edge_of t node role none e there from is =
     none_found (Some x) f h = absurd cc
 
 -- so no edge has the place of a new one
-place-free : (t : Table) (node overlay : ℕ) → child t overlay Backing ≡ None → (e : Edge) → Contains t.edges e
+place-free : (t : RunTable) (node overlay : ℕ) → child t overlay Backing ≡ None → (e : Edge) → Contains t.edges e
     → takes_place (node_edge overlay Backing node) e ≡ false
 place-free t node overlay bare e there = false_from_ne_true (takes_place (node_edge overlay Backing node) e) (λ takes.
     let both = and-left (same_parent (Node overlay) e.parent && same_role Backing e.role)
@@ -66,7 +66,7 @@ place-free t node overlay bare e there = false_from_ne_true (takes_place (node_e
     = sym (same_parent-true (Node overlay) e.parent (and-left (same_parent (Node overlay) e.parent) (same_role Backing e.role) both)) in
     no_edge_of t overlay Backing bare e there from (sym (takes_place-role (node_edge overlay Backing node) e takes)))
 
-module _ (t : Table) (node overlay : NodeRecord) (kinds : List NodeKind) (bare : child t overlay.id Backing ≡ None) where
+module _ (t : RunTable) (node overlay : NodeRecord) (kinds : List NodeKind) (bare : child t overlay.id Backing ≡ None) where
   abbrev backing_edge : Edge
   backing_edge = node_edge overlay.id Backing node.id
 
@@ -106,7 +106,7 @@ module _ (t : Table) (node overlay : NodeRecord) (kinds : List NodeKind) (bare :
 abbrev pub moving : ℕ → ℕ → ℕ → ℕ
 moving node overlay c = cond (c == node) overlay c
 
-module _ (t : Table) (node overlay : NodeRecord) (kinds : List NodeKind) (over : LiesOver t node overlay) (h : TableStands t) where
+module _ (t : RunTable) (node overlay : NodeRecord) (kinds : List NodeKind) (over : LiesOver t node overlay) (h : TableStands t) where
   abbrev but : Option Parent
   but = Some (Node overlay.id)
 
@@ -119,7 +119,7 @@ module _ (t : Table) (node overlay : NodeRecord) (kinds : List NodeKind) (over :
     where
       by_name : (name : Option (List ℕ)) → node.filename ≡ name → ⊥
       by_name (Some name) k =
-          settled-free t untold h node over.node_there over.disk.settled node (h.apart node over.node_there) (subst IsSome (sym k) refl)
+          settled-free t told_none h node over.node_there over.disk.settled node (h.apart node over.node_there) (subst IsSome (sym k) refl)
           (record { edge = e; there = there; over = role; child = is })
       by_name None k =
           let filter = h.filtered overlay node

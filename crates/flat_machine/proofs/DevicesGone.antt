@@ -16,7 +16,7 @@ use Rattle.blk_graph.proofs.ChildLemmas.{child-without}
 use Rattle.blk_graph.proofs.RefreshLemmas.{child_of-refreshed}
 use Rattle.qmp_rules.specs.declared.change.Change.TheVariants as change
 use Rattle.qmp_rules.specs.declared.rows.Device.{Device}
-use Rattle.qmp_rules.specs.Table.{Table, kinds_of}
+use Rattle.qmp_rules.specs.Table.{RunTable, kinds_of}
 use Rattle.qmp_rules.specs.Changes.{changed, without_device}
 use Rattle.flat_machine.specs.State.{State, drive_of}
 use Rattle.flat_machine.specs.Changed.{stepped}
@@ -53,7 +53,7 @@ device_left number other devices device found =
 
 -- ---- tables
 
-module _ (t now : Table) (number : ℕ) (nodes : now.nodes ≡ t.nodes) (kinds : List NodeKind)
+module _ (t now : RunTable) (number : ℕ) (nodes : now.nodes ≡ t.nodes) (kinds : List NodeKind)
     (derived : now.edges ≡ refreshed kinds (without_parent (Guest number) t.edges)) (h : TableStands t) where
   abbrev before : List Edge
   before = without_parent (Guest number) t.edges
@@ -80,7 +80,7 @@ module _ (t now : Table) (number : ℕ) (nodes : now.nodes ≡ t.nodes) (kinds :
     goes = λ other below role here is. goes_there t h.edges other below role is;
   }
     where
-      same_rows : Table
+      same_rows : RunTable
       same_rows = record now { edges = t.edges }
 
   pub gone_table : now.guests ≡ t.guests → now.devices ≡ without_device number t.devices → TableStands now

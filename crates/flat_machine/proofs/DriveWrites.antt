@@ -9,7 +9,7 @@ use Rattle.blk_graph.specs.declared.edge.Role.TheVariants.{File}
 use Rattle.blk_graph.proofs.Members.{find-Some}
 use Rattle.qmp_rules.specs.declared.rows.NodeRecord.{NodeRecord}
 use Rattle.qmp_rules.specs.declared.rows.Device.{Device}
-use Rattle.qmp_rules.specs.Table.{node_at, child, has_name}
+use Rattle.qmp_rules.specs.Table.{node_by_id, child, has_name}
 use Rattle.qmp_rules.specs.Chains.{filter_role, disk_node}
 use Rattle.blk_history.specs.Fold.{With}
 use Rattle.flat_machine.specs.State.{State, Unknown, Left, content_in}
@@ -24,7 +24,7 @@ use Rattle.flat_machine.proofs.WritingKept.{role_edge, WritesFile, writes_file}
 pub drive_may : (s : State) (device : Device) (row : NodeRecord) → Stands s → Contains s.table.nodes row → device.read_only ≡ row.read_only
     → (IsSome row.filename → row.is_settled ≡ true) → ((name : List ℕ) → row.filename ≡ Some name → content_in s.files name ≡ Some Unknown)
     → MayGuestWrite s device row.id
-drive_may s device row h there same settled known writes = by_disk (node_at s.table disk) refl (h.table.reads row.id row (h.table.apart row there))
+drive_may s device row h there same settled known writes = by_disk (node_by_id s.table disk) refl (h.table.reads row.id row (h.table.apart row there))
   where
     disk : ℕ
     disk = disk_node s.table row.id
@@ -32,7 +32,7 @@ drive_may s device row h there same settled known writes = by_disk (node_at s.ta
     did : writes_through s.table row.read_only row.id ≡ true
     did = subst (λ b. writes_through s.table b row.id ≡ true) same writes
 
-    by_disk : (found : Option NodeRecord) → node_at s.table disk ≡ found → With found (IsDiskOf s.table row) → IsGuestWritable s disk
+    by_disk : (found : Option NodeRecord) → node_by_id s.table disk ≡ found → With found (IsDiskOf s.table row) → IsGuestWritable s disk
     by_disk None e of = absurd of
     by_disk (Some d) e of = record {
       disk = subst (λ n. IsSome (find (λ x. x.node == n) s.disks)) id_is (h.writing.disks d here of.own);
@@ -52,7 +52,7 @@ drive_may s device row h there same settled known writes = by_disk (node_at s.ta
         same_row : (a b : NodeRecord) → Contains s.table.nodes a → Contains s.table.nodes b → a.id ≡ b.id → a ≡ b
         same_row a b there_a there_b ids =
             let at_a = h.table.apart a there_a in
-            let at_b = subst (λ n. node_at s.table n ≡ Some b) (sym ids) (h.table.apart b there_b) in
+            let at_b = subst (λ n. node_by_id s.table n ≡ Some b) (sym ids) (h.table.apart b there_b) in
             cc
 
         -- the file under it
@@ -76,7 +76,7 @@ drive_may s device row h there same settled known writes = by_disk (node_at s.ta
             let itself = of.itself (subst (λ x. IsSome x.filename) (sym as_disk) some) in
             same_row r row r_there there (is ∙ sym id_is ∙ itself)
 
-        no_disk : (file : ℕ) (r : NodeRecord) → child s.table disk File ≡ Some file → node_at s.table file ≡ Some r → HasDisk r → ⊥
+        no_disk : (file : ℕ) (r : NodeRecord) → child s.table disk File ≡ Some file → node_by_id s.table file ≡ Some r → HasDisk r → ⊥
         no_disk file r is found has =
             let r_here = find-Some (λ x. x.id == file) s.table.nodes r found in
             let f = has_file r r_here.0 (is ∙ ap Some (sym (eqb-true r.id file r_here.1))) in

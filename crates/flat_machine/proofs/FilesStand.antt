@@ -12,7 +12,7 @@ use Rattle.qmp_rules.specs.declared.rows.NodeRecord.{NodeRecord}
 use Rattle.qmp_rules.specs.declared.rows.FileState.{FileState}
 use Rattle.qmp_rules.specs.declared.rows.FileState.TheVariants.{Made, Formatted, Used}
 use Rattle.qmp_rules.specs.declared.change.Change.TheVariants as change
-use Rattle.qmp_rules.specs.Table.{Table, file_state, with_file, has_name}
+use Rattle.qmp_rules.specs.Table.{RunTable, file_state, with_file, has_name}
 use Rattle.qmp_rules.specs.Changes.{changed, node_changed, unsettled, lost_with}
 use Rattle.flat_machine.specs.State.{State, Content, Bytes, Unknown, Left, content_in}
 use Rattle.flat_machine.specs.Contents.{with_content, formatted}
@@ -31,11 +31,11 @@ use Rattle.flat_machine.proofs.WritingAdded.{has_name-grows, drive_there, same_d
 -- ---- a file whose state changes, over rows that stand as they did
 
 -- the states of other files stay
-pub record FilesBut (name : List ℕ) (state : FileState) (t now : Table) : Type 0 where
+pub record FilesBut (name : List ℕ) (state : FileState) (t now : RunTable) : Type 0 where
   pub here : file_state now name ≡ Some state
   pub others : (other : List ℕ) → other ≢ name → file_state now other ≡ file_state t other
 
-pub files_but : (name : List ℕ) (state : FileState) (t now : Table) → now.files ≡ with_file name state t.files → FilesBut name state t now
+pub files_but : (name : List ℕ) (state : FileState) (t now : RunTable) → now.files ≡ with_file name state t.files → FilesBut name state t now
 files_but name state t now is = record {
   here = subst (λ files. option_map (λ row. row.state) (find (λ row. bytes_eq row.name name) files) ≡ Some state) (sym is)
       (file_state-with name state t.files);
@@ -54,7 +54,7 @@ all-filter P p (x ∷ xs) h = by_test (p x) (all-filter P p xs (All-tail P x xs 
     by_test false rest = rest
 
 -- no node that a guest may write has the file
-pub record IsSpared (t : Table) (name : List ℕ) : Type 0 where
+pub record IsSpared (t : RunTable) (name : List ℕ) : Type 0 where
   pub taken : (over under : NodeRecord) → LeadsToFile t over under → under.filename ≡ Some name → ⊥
   pub written : (node : ℕ) → IsEntered t node → WritesFile t node name → ⊥
 
@@ -284,7 +284,7 @@ format_stands s node name size backing_file backing_fmt suits h =
     tt (λ is. (suits.row, suits.stands)) (rows_table s.table now.table rows refl refl refl h.table)
     (files_writing s now name Formatted content rows refl files h refl refl refl (λ n named. has_name-grows name n s.named named) (inr refl) (inr spared)) h
   where
-    one_file : (t : Table) → AreApart t → FormattingSuits t node name → (row : NodeRecord) (other : List ℕ) → StandsFor t other row
+    one_file : (t : RunTable) → AreApart t → FormattingSuits t node name → (row : NodeRecord) (other : List ℕ) → StandsFor t other row
         → row.id ≡ node → other ≡ name
     one_file t apart suits row other over same =
         let is : row ≡ suits.row = same_row t apart suits.row row suits.stands.there over.there (same ∙ sym suits.is_node) in

@@ -24,14 +24,14 @@ use Rattle.qmp_rules.specs.declared.refusal.Refusal.{Refusal}
 use Rattle.qmp_rules.specs.declared.rows.NodeRecord.{NodeRecord}
 use Rattle.qmp_rules.specs.declared.rows.Device.{Device}
 use Rattle.qmp_rules.specs.declared.told.Told.{Told}
-use Rattle.qmp_rules.specs.Table.{Table, device_named, node_named, job_at}
+use Rattle.qmp_rules.specs.Table.{RunTable, device_named, node_named, job_at}
 use Rattle.qmp_rules.specs.Chains.{disk_node, written_under}
 use Rattle.qmp_rules.specs.Changes.{changed, all_changed}
 use Rattle.qmp_rules.specs.Refusals.{refusal_text, refusal_class}
 use Rattle.qmp_asks.specs.NodeAsks.{is_read_only, backing_name}
-use Rattle.qmp_rules.specs.Edits.{edits_of, uses, file_under, with_inline, goes_with_node, row_gone, of_row, created_change, spoiled, raw_edits, qcow2_edits, added_edits, new_device, device_uses, merges}
+use Rattle.qmp_rules.specs.Edits.{edits_of, file_uses, file_under, with_inline, goes_with_node, row_gone, of_row, created_change, spoiled, raw_edits, qcow2_edits, added_edits, new_device, device_uses, merges}
 use Rattle.qmp_rules.specs.Asks.{is_file}
-use Rattle.qmp_rules.specs.Answers.{unbuilt, refusal_of, command_edits, answer, answer_by, answer_for, line_answer, line_text, reply_data}
+use Rattle.qmp_rules.specs.Answers.{unbuilt, refusal_to, command_edits, answer, answer_by, answer_for, line_answer, line_text, answer_data}
 use Rattle.blk_history.specs.Fold.{With}
 use Rattle.blk_history.specs.Disk.{piece, done_in}
 use Rattle.blk_history.specs.Machine.{Flight, done_by}
@@ -39,9 +39,9 @@ use Rattle.blk_history.specs.declared.event.Event.{Event}
 use Rattle.blk_history.specs.declared.event.Event.TheVariants.{Admit, Refuse, Piece, Retire, Reply, Reached, Start, Ready, End, Done}
 use Rattle.blk_history.proofs.Verbs.{IsOfNoJob}
 use Rattle.flat_machine.specs.State.{State, drive_of}
-use Rattle.flat_machine.specs.Machine.{after, replay, with_part, with_piece, with_disk, written, flight_of, path, note, noted, is_noted, read_through, copies_through}
+use Rattle.flat_machine.specs.Machine.{after, replay, with_part, with_piece, with_disk, node_written, flight_of, path, note, noted, is_noted, read_through, copies_through}
 use Rattle.flat_machine.specs.Sights.{expected}
-use Rattle.flat_machine.specs.Replies.{edits_by, failed_edits, is_accepted, is_failure, IsAnswer}
+use Rattle.flat_machine.specs.Replies.{edits_by, failed_edits, is_accepted, tells_failure, IsAnswer}
 use Rattle.flat_machine.specs.Jobs.{unsure, can_be_ready}
 use Rattle.flat_machine.specs.Legal.{CanEnd, Fits, Legal}
 use Rattle.flat_machine.specs.Opening.{start}
@@ -54,7 +54,7 @@ use Rattle.flat_machine.proofs.Resting.{stepped_table, answer_rests, beside_rest
 
 -- ---- changes that begin no job
 
-pub record NoJobs (t : Table) : Type 0 where
+pub record NoJobs (t : RunTable) : Type 0 where
   pub jobs : t.jobs ≡ []
   pub started : t.started ≡ 0
 
@@ -71,7 +71,7 @@ plain_append : (xs ys : List Change) → ArePlain xs → ArePlain ys → ArePlai
 plain_append [] ys h k = k
 plain_append (c ∷ xs) ys h k = (h.0, plain_append xs ys h.1 k)
 
-plain_keeps : (t : Table) (c : Change) → IsPlain c → NoJobs t → NoJobs (changed t c)
+plain_keeps : (t : RunTable) (c : Change) → IsPlain c → NoJobs t → NoJobs (changed t c)
 unfolding changed
 plain_keeps t (change.StartJob row) plain h = absurd plain
 plain_keeps t (change.AskJob number asked) plain h = absurd plain
@@ -100,44 +100,44 @@ plain_keeps t (change.TurnBitmap node name on) plain h = record { jobs = h.jobs;
 plain_keeps t (change.ClearBitmap node name) plain h = h
 plain_keeps t (change.MergeBitmap node name source_node source) plain h = h
 
-all_plain : (changes : List Change) (t : Table) → ArePlain changes → NoJobs t → NoJobs (all_changed t changes)
+all_plain : (changes : List Change) (t : RunTable) → ArePlain changes → NoJobs t → NoJobs (all_changed t changes)
 all_plain [] t plain h = h
 all_plain (c ∷ changes) t plain h = all_plain changes (changed t c) plain.1 (plain_keeps t c plain.0 h)
 
 -- ---- those of commands that are carried out
 
-plain_uses : (name : Option (List ℕ)) → ArePlain (uses name)
+plain_uses : (name : Option (List ℕ)) → ArePlain (file_uses name)
 plain_uses None = tt
 plain_uses (Some name) = (tt, tt)
 
-plain_created : (t : Table) (options : Created (List ℕ)) → ArePlain (created_change t options)
+plain_created : (t : RunTable) (options : Created (List ℕ)) → ArePlain (created_change t options)
 plain_created t (created.File c) = (tt, tt)
 plain_created t (created.Qcow2 c) = (tt, tt)
 plain_created t created.Unknown = tt
 
-plain_spoiled : (t : Table) (options : Created (List ℕ)) → ArePlain (spoiled t options)
+plain_spoiled : (t : RunTable) (options : Created (List ℕ)) → ArePlain (spoiled t options)
 plain_spoiled t (created.File c) = (tt, tt)
 plain_spoiled t (created.Qcow2 c) = (tt, tt)
 plain_spoiled t created.Unknown = tt
 
-plain_inline : (t : Table) (id : ℕ) → ArePlain (with_inline t id)
+plain_inline : (t : RunTable) (id : ℕ) → ArePlain (with_inline t id)
 plain_inline t id = by_row (find (goes_with_node id) t.nodes)
   where
     by_row : (found : Option NodeRecord) → ArePlain (elim found as (λ _. List Change) [ None ↦ [] | Some row ↦ change.RemoveNode row.id ∷ [] ])
     by_row None = tt
     by_row (Some row) = (tt, tt)
 
-plain_del : (t : Table) (found : Option NodeRecord) → ArePlain (of_row (row_gone t) found)
+plain_del : (t : RunTable) (found : Option NodeRecord) → ArePlain (of_row (row_gone t) found)
 plain_del t None = tt
 plain_del t (Some row) =
-    plain_append (uses (file_under t row)) (change.RemoveNode row.id ∷ with_inline t row.id) (plain_uses (file_under t row))
+    plain_append (file_uses (file_under t row)) (change.RemoveNode row.id ∷ with_inline t row.id) (plain_uses (file_under t row))
     (tt, plain_inline t row.id)
 
-plain_device_uses : (row : NodeRecord) (b : Bool) → ArePlain (if b then uses row.filename else [])
+plain_device_uses : (row : NodeRecord) (b : Bool) → ArePlain (if b then file_uses row.filename else [])
 plain_device_uses row true = plain_uses row.filename
 plain_device_uses row false = tt
 
-plain_device : (t : Table) (c : DeviceAdd (List ℕ)) (found : Option NodeRecord)
+plain_device : (t : RunTable) (c : DeviceAdd (List ℕ)) (found : Option NodeRecord)
     → ArePlain (of_row (λ row. device_uses row ++ change.AddDevice (new_device t c row) row.id ∷ []) found)
 plain_device t c None = tt
 plain_device t c (Some row) = plain_append (device_uses row) (change.AddDevice (new_device t c row) row.id ∷ [])
@@ -147,17 +147,17 @@ plain_gone : (found : Option Device) → ArePlain (elim found as (λ _. List Cha
 plain_gone None = tt
 plain_gone (Some device) = (tt, tt)
 
-plain_raw : (t : Table) (exp : Told) (name : List ℕ) (read_only : Bool) (raw : AddRaw (List ℕ)) (file : FileRef (List ℕ))
+plain_raw : (t : RunTable) (exp : Told) (name : List ℕ) (read_only : Bool) (raw : AddRaw (List ℕ)) (file : FileRef (List ℕ))
     → ArePlain (raw_edits t exp name read_only raw file)
 plain_raw t exp name read_only raw (file_ref.Name file) = (tt, tt)
 plain_raw t exp name read_only raw (file_ref.Inline file) = (tt, (tt, tt))
 
-plain_qcow2 : (t : Table) (exp : Told) (name : List ℕ) (read_only : Bool) (back : Option (List ℕ)) (file : FileRef (List ℕ))
+plain_qcow2 : (t : RunTable) (exp : Told) (name : List ℕ) (read_only : Bool) (back : Option (List ℕ)) (file : FileRef (List ℕ))
     → ArePlain (qcow2_edits t exp name read_only back file)
 plain_qcow2 t exp name read_only back (file_ref.Name file) = (tt, tt)
 plain_qcow2 t exp name read_only back (file_ref.Inline file) = (tt, (tt, tt))
 
-plain_added : (t : Table) (exp : Told) (name : List ℕ) (read_only : Bool) (driver : Added (List ℕ))
+plain_added : (t : RunTable) (exp : Told) (name : List ℕ) (read_only : Bool) (driver : Added (List ℕ))
     → ArePlain (added_edits t exp name read_only driver)
 plain_added t exp name read_only (added.File filename) = (tt, tt)
 plain_added t exp name read_only (added.Raw raw) = plain_raw t exp name read_only raw raw.file
@@ -165,11 +165,11 @@ plain_added t exp name read_only (added.Qcow2 image) = plain_qcow2 t exp name re
 plain_added t exp name read_only (added.CopyOnRead file) = (tt, tt)
 plain_added t exp name read_only added.Unknown = tt
 
-plain_merges : (t : Table) (node target : List ℕ) (sources : SeenSources) → ArePlain (merges t node target sources)
+plain_merges : (t : RunTable) (node target : List ℕ) (sources : SeenSources) → ArePlain (merges t node target sources)
 plain_merges t node target [] = tt
 plain_merges t node target (source ∷ sources) = (tt, plain_merges t node target sources)
 
-plain_command : (t : Table) (exp : Told) (c : Cmd) → unbuilt c ≡ None → ArePlain (command_edits t exp c)
+plain_command : (t : RunTable) (exp : Told) (c : Cmd) → unbuilt c ≡ None → ArePlain (command_edits t exp c)
 unfolding edits_of
 plain_command t exp (command.Capabilities enable) is = (tt, tt)
 plain_command t exp (command.BlockdevCreate c) is = (tt, plain_created t c.options)
@@ -189,7 +189,7 @@ plain_command t exp (command.BitmapDisable c) is = (tt, tt)
 plain_command t exp (command.BitmapMerge c) is = plain_merges t c.node c.target c.bitmaps
 plain_command t exp _ is = absurd cc
 
-plain_failed : (t : Table) (c : Cmd) → ArePlain (failed_edits t c)
+plain_failed : (t : RunTable) (c : Cmd) → ArePlain (failed_edits t c)
 plain_failed t (command.BlockdevCreate c) = plain_spoiled t c.options
 plain_failed t c = tt
 
@@ -197,7 +197,7 @@ plain_failed t c = tt
 
 plain_answer : (s : State) (given : List ℕ) (command : Option Cmd) (text : List ℕ) → IsAnswer s given command text
     → ArePlain (edits_by s text (command_at given))
-unfolding line_text line_answer answer refusal_of
+unfolding line_text line_answer answer refusal_to
 plain_answer s given command text a = by_line (command_at given) a.answered
   where
     by_flags : (c : Cmd) (b : Bool) → (b ≡ true → unbuilt c ≡ None) → (failed : Bool)
@@ -206,22 +206,22 @@ plain_answer s given command text a = by_line (command_at given) a.answered
     by_flags c false built true = plain_failed s.table c
     by_flags c false built false = tt
 
-    built : (c : Cmd) (cause : Option Refusal) → refusal_of s.table a.told c ≡ cause
-        → text ≡ compact_text (reply_data (id_at given) (answer_by s.table a.told c cause).reply) → is_accepted text ≡ true → unbuilt c ≡ None
+    built : (c : Cmd) (cause : Option Refusal) → refusal_to s.table a.told c ≡ cause
+        → text ≡ compact_text (answer_data (id_at given) (answer_by s.table a.told c cause).reply) → is_accepted text ≡ true → unbuilt c ≡ None
     built c None quiet is accepted = (none-both (unbuilt c) _ quiet).0
     built c (Some cause) quiet is accepted =
         let no = not_accepted given (refusal_class cause) (refusal_text cause) in
         let yes = subst (λ t. is_accepted t ≡ true) is accepted in
         absurd cc
 
-    by_line : (c : Result Cmd Stop) → text ≡ compact_text (reply_data (id_at given) (answer_for s.table a.told given c).reply)
+    by_line : (c : Result Cmd Stop) → text ≡ compact_text (answer_data (id_at given) (answer_for s.table a.told given c).reply)
         → ArePlain (edits_by s text c)
     by_line (Err why) is = tt
-    by_line (Ok c) is = by_flags c (is_accepted text) (built c (refusal_of s.table a.told c) refl is) (is_failure text)
+    by_line (Ok c) is = by_flags c (is_accepted text) (built c (refusal_to s.table a.told c) refl is) (tells_failure text)
 
 -- ---- pieces
 
-plain_written : (t : Table) (node : ℕ) → NoJobs t → NoJobs (written_under node t)
+plain_written : (t : RunTable) (node : ℕ) → NoJobs t → NoJobs (written_under node t)
 unfolding written_under
 plain_written t node h = record { jobs = h.jobs; started = h.started }
 
@@ -244,10 +244,10 @@ plain_piece : (s : State) (drive : ℕ) (op : Op) (outcome : Outcome) (part : Ex
 plain_piece s drive (Read span) outcome part h =
     plain_read (with_disk (disk_node s.table drive) (done_in (Read span) part (done_by outcome part)) s) drive h
 plain_piece s drive (Write span payload) outcome part h =
-    plain_note (written (disk_node s.table drive) (with_disk (disk_node s.table drive) (done_in (Write span payload) part (done_by outcome part)) s))
+    plain_note (node_written (disk_node s.table drive) (with_disk (disk_node s.table drive) (done_in (Write span payload) part (done_by outcome part)) s))
     outcome part drive (plain_written s.table (disk_node s.table drive) h)
 plain_piece s drive (Zero span) outcome part h =
-    plain_note (written (disk_node s.table drive) (with_disk (disk_node s.table drive) (done_in (Zero span) part (done_by outcome part)) s))
+    plain_note (node_written (disk_node s.table drive) (with_disk (disk_node s.table drive) (done_in (Zero span) part (done_by outcome part)) s))
     outcome part drive (plain_written s.table (disk_node s.table drive) h)
 plain_piece s drive Flush outcome part h = h
 plain_piece s drive (Discard span) outcome part h = h
@@ -265,7 +265,7 @@ beside_runs s now table disks files left named h = record {
   none = subst NoJobs (sym table) h.none;
 }
 
-no_job_at : (t : Table) → NoJobs t → (job : ℕ) → job_at t job ≡ None
+no_job_at : (t : RunTable) → NoJobs t → (job : ℕ) → job_at t job ≡ None
 no_job_at t h job = ap (find (λ row. row.number == job)) h.jobs
 
 piece_runs : (s : State) (drive : Option ℕ) (flight : Option Flight) (k : ℕ) (outcome : Outcome) → Runs s → Runs (with_piece drive flight k outcome s)

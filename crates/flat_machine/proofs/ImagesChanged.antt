@@ -16,12 +16,12 @@ use Rattle.blk_graph.proofs.RefreshLemmas.{child_of-refreshed}
 use Rattle.qmp_rules.specs.declared.change.Change.{Change}
 use Rattle.qmp_rules.specs.declared.change.Change.TheVariants as change
 use Rattle.qmp_rules.specs.declared.rows.NodeRecord.{NodeRecord}
-use Rattle.qmp_rules.specs.Table.{Table, node_at, child, kinds_of}
+use Rattle.qmp_rules.specs.Table.{RunTable, node_by_id, child, kinds_of}
 use Rattle.qmp_rules.specs.Chains.{filter_role}
-use Rattle.qmp_rules.specs.Changes.{changed, node_changed, unsettled, writable, with_writable, with_unsettled, without_row, lost_with, stands_over, device_edge}
+use Rattle.qmp_rules.specs.Changes.{changed, node_changed, unsettled, writable, with_writable, with_unsettled, without_record, lost_with, stands_over, device_edge}
 use Rattle.flat_machine.specs.State.{State, Image, Left, Content, Unknown, Mapped, content_in, filename_of}
 use Rattle.flat_machine.specs.Contents.{mapped_in, file_bytes}
-use Rattle.flat_machine.specs.Changed.{put, name_file, name_if, add_file, filename_or, know_if, note_image, content_under, format_bytes, left_disk, leave, file_of, overlay_file, stepped, all_stepped}
+use Rattle.flat_machine.specs.Changed.{put, name_file, name_if, add_file, filename_or, know_if, note_image, content_under, bytes_by_format, left_disk, leave, own_filename, overlay_file, stepped, all_stepped}
 use Rattle.flat_machine.specs.Sights.{AgreesWith}
 use Rattle.flat_machine.specs.Agreement.{Contents, AreAsKnown, Agrees}
 use Rattle.flat_machine.specs.Performing.{HeldSame, Nothing, Can, Performed, AllCan, AllPerformed}
@@ -133,7 +133,7 @@ filter_other Mirror some = refl
 filter_other Commit some = refl
 
 -- a node with an image is there
-image_there : (t : Table) (node : ℕ) → is_qcow2_at t node ≡ true → IsThere t node
+image_there : (t : RunTable) (node : ℕ) → is_qcow2_at t node ≡ true → IsThere t node
 image_there t node is = subst IsSome (sym (qcow2_row t node is).1) refl
 
 -- ---- nodes over the same files
@@ -163,10 +163,10 @@ over_file s now old new name images over stands is_open held h =
     images_still s now old new images over
     (λ node other image is. held other (λ same. no_image s.table stands name is_open node image (is ∙ ap Some same))) h
 
-pub closed_open : (t : Table) (name : List ℕ) → HasNoNode t name → IsOpenlyKnown t name
+pub closed_open : (t : RunTable) (name : List ℕ) → HasNoNode t name → IsOpenlyKnown t name
 closed_open t name closed row over under = closed row over
 
-pub formatted_open : (t : Table) (node : ℕ) (name : List ℕ) → TableStands t → FormattingSuits t node name → IsOpenlyKnown t name
+pub formatted_open : (t : RunTable) (node : ℕ) (name : List ℕ) → TableStands t → FormattingSuits t node name → IsOpenlyKnown t name
 formatted_open t node name h suits row over under =
     suits.alone under.edge under.there (under.child ∙ h.alone name row suits.row over suits.stands ∙ suits.is_node)
 
@@ -247,7 +247,7 @@ add_format_images s row file backing old new suits stands known held h = by_kind
     grow : Grows s.table now.table (IsThere s.table) (λ r. r ≡ row) New
     grow = format_grow s.table now.table row file backing suits refl kinds refl stands
 
-    between : Table
+    between : RunTable
     between = record s.table { nodes = with_unsettled file s.table.nodes }
 
     kinds_before : (node : ℕ) → is_qcow2_at between node ≡ is_qcow2_at s.table node
@@ -258,7 +258,7 @@ add_format_images s row file backing old new suits stands known held h = by_kind
         sym (file_same s now (IsThere s.table) (λ r. r ≡ row) New grow node (image_there s.table node image)) ∙ is
 
     with_disk : State
-    with_disk = put row.id (format_bytes s row file backing row.kind) s
+    with_disk = put row.id (bytes_by_format s row file backing row.kind) s
 
     mapped : Mapped
     mapped = mapped_in (content_under s file)
@@ -269,7 +269,7 @@ add_format_images s row file backing old new suits stands known held h = by_kind
     noted : now.images ≡ (note_image row.kind row.id mapped with_disk).images
     noted = known_images (filename_of s.table file) Unknown (note_image row.kind row.id mapped with_disk)
 
-    row_found : node_at now.table row.id ≡ Some row
+    row_found : node_by_id now.table row.id ≡ Some row
     row_found = found_row s.table now.table row file backing suits refl kinds refl stands
 
     -- the new node is over the file
@@ -279,7 +279,7 @@ add_format_images s row file backing old new suits stands known held h = by_kind
         ap (option_and_then (λ (r : NodeRecord). r.filename)) both.found_later ∙ both.like.filename
         ∙ sym (ap (option_and_then (λ (r : NodeRecord). r.filename)) both.found)
 
-    file_by : (kind : Kind) → is_qcow2 kind ≡ true → file_of now.table row kind ≡ filename_of s.table file
+    file_by : (kind : Kind) → is_qcow2 kind ≡ true → own_filename now.table row kind ≡ filename_of s.table file
     file_by Protocol is = absurd cc
     file_by Raw is = absurd cc
     file_by Qcow2 is =
@@ -305,7 +305,7 @@ add_format_images s row file backing old new suits stands known held h = by_kind
         (no_entry (image_at s.images row.id) ((h row.id).noted ∙ ap is_image_row suits.fresh)) (eq-eqb row.id row.id refl)
 
     file_is : is_qcow2 row.kind ≡ true → written_file now.table row.id ≡ filename_of s.table file
-    file_is image = ap (option_and_then (λ (r : NodeRecord). file_of now.table r r.kind)) row_found ∙ file_by row.kind image
+    file_is image = ap (option_and_then (λ (r : NodeRecord). own_filename now.table r r.kind)) row_found ∙ file_by row.kind image
 
     new_shown : is_qcow2 row.kind ≡ true → ShowsImage now new row.id
     new_shown image = record {
@@ -346,10 +346,10 @@ remove_images s node old new suits stands held h = λ other. by_node other (case
     now = stepped s (change.RemoveNode node)
 
     grow : Grows s.table now.table (IsOther s.table node) NoRow NoEdge
-    grow = removed_grow s.table now.table node suits.alone refl (kinds_of (without_row node s.table.nodes)) refl stands
+    grow = removed_grow s.table now.table node suits.alone refl (kinds_of (without_record node s.table.nodes)) refl stands
 
     images_are : now.images ≡ filter (λ (i : Image). not (i.node == node)) s.images
-    images_are = ap (filter (λ (i : Image). not (i.node == node))) (left_images (option_and_then (left_disk s) (node_at s.table node)) s)
+    images_are = ap (filter (λ (i : Image). not (i.node == node))) (left_images (option_and_then (left_disk s) (node_by_id s.table node)) s)
 
     gone_entry : image_at now.images node ≡ None
     gone_entry = ap (λ (is : List Image). image_at is node) images_are ∙ find_dropped (λ (i : Image). i.node == node) s.images

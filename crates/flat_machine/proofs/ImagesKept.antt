@@ -9,10 +9,10 @@ use Rattle.blk_graph.specs.declared.edge.Role.TheVariants.{File}
 use Rattle.blk_graph.specs.declared.kind.Kind.{Kind}
 use Rattle.blk_graph.specs.declared.kind.Kind.TheVariants.{Protocol, Raw, Qcow2, CopyOnRead, BeforeWrite, Mirror, Commit}
 use Rattle.qmp_rules.specs.declared.rows.NodeRecord.{NodeRecord}
-use Rattle.qmp_rules.specs.Table.{Table, node_at, child}
+use Rattle.qmp_rules.specs.Table.{RunTable, node_by_id, child}
 use Rattle.blk_history.specs.Fold.{With}
 use Rattle.flat_machine.specs.State.{State, Image, Mapped, Unsure, filename_of}
-use Rattle.flat_machine.specs.Changed.{file_of}
+use Rattle.flat_machine.specs.Changed.{own_filename}
 use Rattle.flat_machine.specs.Sights.{AgreesWith, mapped_at}
 use Rattle.flat_machine.specs.Agreement.{Contents}
 use Rattle.flat_machine.specs.Writing.{written_file}
@@ -77,7 +77,7 @@ image_still s now old new node stays h = record {
 
 -- ---- tables whose nodes stay over their files
 
-pub record AreOverFiles (t now : Table) : Type 0 where
+pub record AreOverFiles (t now : RunTable) : Type 0 where
   pub kind : (node : ℕ) → is_qcow2_at now node ≡ is_qcow2_at t node
   pub file : StayInFiles t now
 
@@ -87,11 +87,11 @@ pub record IsSameRow (f : NodeRecord → NodeRecord) (row : NodeRecord) : Type 0
   pub kind : (f row).kind ≡ row.kind
   pub filename : (f row).filename ≡ row.filename
 
-module _ (t now : Table) (f : NodeRecord → NodeRecord) (same : (row : NodeRecord) → IsSameRow f row)
-    (found : (node : ℕ) → node_at now node ≡ option_map f (node_at t node))
+module _ (t now : RunTable) (f : NodeRecord → NodeRecord) (same : (row : NodeRecord) → IsSameRow f row)
+    (found : (node : ℕ) → node_by_id now node ≡ option_map f (node_by_id t node))
     (files : (node : ℕ) → child now node File ≡ child t node File) where
   filename_same : (node : ℕ) → filename_of now node ≡ filename_of t node
-  filename_same node = ap (option_and_then (λ (r : NodeRecord). r.filename)) (found node) ∙ by_row (node_at t node)
+  filename_same node = ap (option_and_then (λ (r : NodeRecord). r.filename)) (found node) ∙ by_row (node_by_id t node)
     where
       by_row : (row : Option NodeRecord)
           → option_and_then (λ (r : NodeRecord). r.filename) (option_map f row) ≡ option_and_then (λ (r : NodeRecord). r.filename) row
@@ -109,7 +109,7 @@ module _ (t now : Table) (f : NodeRecord → NodeRecord) (same : (row : NodeReco
       ≡ option_and_then (filename_of t) (child t row.id File)
   under_of row = ap (λ (n : ℕ). option_and_then (filename_of now) (child now n File)) (same row).id ∙ under_same row.id
 
-  file_of_kind : (row : NodeRecord) (kind : Kind) → file_of now (f row) kind ≡ file_of t row kind
+  file_of_kind : (row : NodeRecord) (kind : Kind) → own_filename now (f row) kind ≡ own_filename t row kind
   file_of_kind row Protocol = (same row).filename
   file_of_kind row Raw = under_of row
   file_of_kind row Qcow2 = under_of row
@@ -119,16 +119,16 @@ module _ (t now : Table) (f : NodeRecord → NodeRecord) (same : (row : NodeReco
   file_of_kind row Commit = refl
 
   file_same_at : (node : ℕ) → written_file now node ≡ written_file t node
-  file_same_at node = ap (option_and_then (λ (r : NodeRecord). file_of now r r.kind)) (found node) ∙ by_row (node_at t node)
+  file_same_at node = ap (option_and_then (λ (r : NodeRecord). own_filename now r r.kind)) (found node) ∙ by_row (node_by_id t node)
     where
-      by_row : (row : Option NodeRecord) → option_and_then (λ (r : NodeRecord). file_of now r r.kind) (option_map f row)
-          ≡ option_and_then (λ (r : NodeRecord). file_of t r r.kind) row
+      by_row : (row : Option NodeRecord) → option_and_then (λ (r : NodeRecord). own_filename now r r.kind) (option_map f row)
+          ≡ option_and_then (λ (r : NodeRecord). own_filename t r r.kind) row
       by_row None = refl
-      by_row (Some row) = ap (file_of now (f row)) (same row).kind ∙ file_of_kind row row.kind
+      by_row (Some row) = ap (own_filename now (f row)) (same row).kind ∙ file_of_kind row row.kind
 
   kind_same_at : (node : ℕ) → is_qcow2_at now node ≡ is_qcow2_at t node
   kind_same_at node = ap (λ (o : Option NodeRecord). unwrap_or (option_map (λ (r : NodeRecord). is_qcow2 r.kind) o) false) (found node)
-      ∙ by_row (node_at t node)
+      ∙ by_row (node_by_id t node)
     where
       by_row : (row : Option NodeRecord) → unwrap_or (option_map (λ (r : NodeRecord). is_qcow2 r.kind) (option_map f row)) false
           ≡ unwrap_or (option_map (λ (r : NodeRecord). is_qcow2 r.kind) row) false
@@ -141,20 +141,20 @@ module _ (t now : Table) (f : NodeRecord → NodeRecord) (same : (row : NodeReco
 itself : (row : NodeRecord) → IsSameRow (λ (r : NodeRecord). r) row
 itself row = record { id = refl; kind = refl; filename = refl }
 
-found_as_it_was : (t now : Table) → now.nodes ≡ t.nodes → (node : ℕ) → node_at now node ≡ option_map (λ (r : NodeRecord). r) (node_at t node)
-found_as_it_was t now nodes node = ap (find (λ (r : NodeRecord). r.id == node)) nodes ∙ by_row (node_at t node)
+found_as_it_was : (t now : RunTable) → now.nodes ≡ t.nodes → (node : ℕ) → node_by_id now node ≡ option_map (λ (r : NodeRecord). r) (node_by_id t node)
+found_as_it_was t now nodes node = ap (find (λ (r : NodeRecord). r.id == node)) nodes ∙ by_row (node_by_id t node)
   where
     by_row : (row : Option NodeRecord) → row ≡ option_map (λ (r : NodeRecord). r) row
     by_row None = refl
     by_row (Some row) = refl
 
 -- the same nodes, over the same files
-pub same_over_files : (t now : Table) → now.nodes ≡ t.nodes → ((node : ℕ) → child now node File ≡ child t node File) → AreOverFiles t now
+pub same_over_files : (t now : RunTable) → now.nodes ≡ t.nodes → ((node : ℕ) → child now node File ≡ child t node File) → AreOverFiles t now
 same_over_files t now nodes files =
     rows_over_files t now (λ (r : NodeRecord). r) itself (found_as_it_was t now nodes) files
 
 -- nodes of which rows were changed
-pub mapped_over_files : (t now : Table) (f : NodeRecord → NodeRecord) → ((row : NodeRecord) → IsSameRow f row) → now.nodes ≡ map f t.nodes
+pub mapped_over_files : (t now : RunTable) (f : NodeRecord → NodeRecord) → ((row : NodeRecord) → IsSameRow f row) → now.nodes ≡ map f t.nodes
     → ((node : ℕ) → child now node File ≡ child t node File) → AreOverFiles t now
 mapped_over_files t now f same nodes files =
     rows_over_files t now f same
@@ -203,8 +203,8 @@ pushed_kind (first ∷ rows) row node other = by_test (first.id == node) (pushed
 -- ---- files in which no image is
 
 -- the row of a qcow2 node
-pub qcow2_row : (t : Table) (node : ℕ) → is_qcow2_at t node ≡ true → (row : NodeRecord) × (node_at t node ≡ Some row) × (row.kind ≡ Qcow2)
-qcow2_row t node is = by_row (node_at t node) refl is
+pub qcow2_row : (t : RunTable) (node : ℕ) → is_qcow2_at t node ≡ true → (row : NodeRecord) × (node_by_id t node ≡ Some row) × (row.kind ≡ Qcow2)
+qcow2_row t node is = by_row (node_by_id t node) refl is
   where
     by_kind : (kind : Kind) → is_qcow2 kind ≡ true → kind ≡ Qcow2
     by_kind Protocol e = absurd cc
@@ -215,15 +215,15 @@ qcow2_row t node is = by_row (node_at t node) refl is
     by_kind Mirror e = absurd cc
     by_kind Commit e = absurd cc
 
-    by_row : (found : Option NodeRecord) → node_at t node ≡ found → unwrap_or (option_map (λ (r : NodeRecord). is_qcow2 r.kind) found) false ≡ true
-        → (row : NodeRecord) × (node_at t node ≡ Some row) × (row.kind ≡ Qcow2)
+    by_row : (found : Option NodeRecord) → node_by_id t node ≡ found → unwrap_or (option_map (λ (r : NodeRecord). is_qcow2 r.kind) found) false ≡ true
+        → (row : NodeRecord) × (node_by_id t node ≡ Some row) × (row.kind ≡ Qcow2)
     by_row None e image = absurd cc
     by_row (Some row) e image = (row, e, by_kind row.kind image)
 
 -- an image is over a `file` node, by an edge
-pub record IsImageIn (t : Table) (node : ℕ) (name : List ℕ) : Type 0 where
+pub record IsImageIn (t : RunTable) (node : ℕ) (name : List ℕ) : Type 0 where
   pub over : NodeRecord
-  pub found : node_at t node ≡ Some over
+  pub found : node_by_id t node ≡ Some over
   pub qcow2 : over.kind ≡ Qcow2
   pub under : NodeRecord
   pub there : Contains t.nodes under
@@ -235,14 +235,14 @@ pub record IsImageIn (t : Table) (node : ℕ) (name : List ℕ) : Type 0 where
   pub role : edge.role ≡ File
   pub to : edge.child ≡ under.id
 
-pub image_in_file : (t : Table) → AreApart t → AreFileNodes t → (node : ℕ) (name : List ℕ) → is_qcow2_at t node ≡ true → written_file t node ≡ Some name
+pub image_in_file : (t : RunTable) → AreApart t → AreFileNodes t → (node : ℕ) (name : List ℕ) → is_qcow2_at t node ≡ true → written_file t node ≡ Some name
     → IsImageIn t node name
 image_in_file t apart drivers node name is file =
     let of = writes_file t node name file in
     let row = qcow2_row t node is in
     elim of.from [
       | inl own ↦
-          let at_node : node_at t node ≡ Some of.row = subst (λ (n : ℕ). node_at t n ≡ Some of.row) own (apart of.row of.stands.there) in
+          let at_node : node_by_id t node ≡ Some of.row = subst (λ (n : ℕ). node_by_id t n ≡ Some of.row) own (apart of.row of.stands.there) in
           let same : row.0 ≡ of.row = (let found = row.1 in cc) in
           let driver : of.row.kind ≡ Protocol = drivers name of.row of.stands in
           let kinds : Qcow2 ≡ Protocol = sym row.2 ∙ ap (λ (r : NodeRecord). r.kind) same ∙ driver in
@@ -266,7 +266,7 @@ image_in_file t apart drivers node name is file =
     ]
 
 -- no image is in a file without a format node
-pub no_image : (t : Table) → TableStands t → (name : List ℕ) → IsOpenlyKnown t name → (node : ℕ) → is_qcow2_at t node ≡ true
+pub no_image : (t : RunTable) → TableStands t → (name : List ℕ) → IsOpenlyKnown t name → (node : ℕ) → is_qcow2_at t node ≡ true
     → written_file t node ≡ Some name → ⊥
 no_image t h name is_open node is file =
     let of = image_in_file t h.apart h.drivers node name is file in
@@ -291,10 +291,10 @@ images_still s now old new images over held h node =
 -- ---- sound images
 
 -- they are in files that hold the same
-pub sound_same : (t now : Table) (old new : List ℕ → Option (List ℕ)) → now ≡ t → ((name : List ℕ) → new name ≡ old name)
+pub sound_same : (t now : RunTable) (old new : List ℕ → Option (List ℕ)) → now ≡ t → ((name : List ℕ) → new name ≡ old name)
     → ImagesAreSound t old → ImagesAreSound now new
 sound_same t now old new table held sound =
-    subst (λ (x : Table). ImagesAreSound x new) (sym table) (λ node image. by_name (written_file t node) (sound node image))
+    subst (λ (x : RunTable). ImagesAreSound x new) (sym table) (λ node image. by_name (written_file t node) (sound node image))
   where
     by_name : (found : Option (List ℕ)) → With found (λ name. With (old name) IsSound) → With found (λ name. With (new name) IsSound)
     by_name None never = never

@@ -11,14 +11,14 @@ use Rattle.blk_graph.proofs.Members.{find-Some}
 use Rattle.trace_codec.specs.declared.op.Op.{Op}
 use Rattle.trace_codec.specs.declared.op.Op.TheVariants.{Read, Write, Zero, Flush, Discard}
 use Rattle.qmp_rules.specs.declared.rows.NodeRecord.{NodeRecord}
-use Rattle.qmp_rules.specs.Table.{Table, node_at, child}
-use Rattle.qmp_rules.specs.Chains.{has_id, disk_node, is_over, unsettled_over, written_under}
+use Rattle.qmp_rules.specs.Table.{RunTable, node_by_id, child}
+use Rattle.qmp_rules.specs.Chains.{is_listed, disk_node, is_over, unsettled_over, written_under}
 use Rattle.blk_history.specs.Fold.{With}
 use Rattle.blk_history.specs.Disk.{done_in}
 use Rattle.blk_history.specs.Machine.{done_by}
 use Rattle.flat_machine.specs.State.{State, Image, Mapped, MapsNone, MapsSome, Unsure, drive_of}
 use Rattle.flat_machine.specs.Jobs.{unsure}
-use Rattle.flat_machine.specs.Machine.{with_disk, written, with_part, note, noted, is_noted, read_through, copies_through, path}
+use Rattle.flat_machine.specs.Machine.{with_disk, node_written, with_part, note, noted, is_noted, read_through, copies_through, path}
 use Rattle.flat_machine.specs.Sights.{AgreesWith, mapped_at}
 use Rattle.flat_machine.specs.Agreement.{Contents}
 use Rattle.flat_machine.specs.Performing.{HeldSame, Nothing}
@@ -32,7 +32,7 @@ use Rattle.flat_machine.proofs.ImagesKept.{mapped_of, mapped_at-found, nothing_s
 -- ---- an entry of which less is said
 
 same_node : (nodes : List ℕ) (image : Image) → (unsure nodes image).node ≡ image.node
-same_node nodes image = by_test (has_id image.node nodes) _
+same_node nodes image = by_test (is_listed image.node nodes) _
   where
     by_test : (b : Bool) (less : Mapped) → (cond b (record image { mapped = less }) image).node ≡ image.node
     by_test true less = refl
@@ -72,7 +72,7 @@ module _ (s now : State) (node : ℕ) (old new : Contents) (images : now.images 
       → written_file s.table node ≡ Some name → ⊥
   apart n name differ image is its = by_from (writes_file s.table node name its).from
     where
-      mine : (x : NodeRecord) × (node_at s.table n ≡ Some x) × (x.id ≡ n) × Contains s.table.nodes x
+      mine : (x : NodeRecord) × (node_by_id s.table n ≡ Some x) × (x.id ≡ n) × Contains s.table.nodes x
       mine =
           let i = image_in_file s.table stands.apart stands.drivers n name image is in
           let there = find-Some (λ (r : NodeRecord). r.id == n) s.table.nodes i.over i.found in
@@ -173,7 +173,7 @@ module _ (s now : State) (node : ℕ) (old new : Contents) (images : now.images 
 
 -- ---- a piece
 
-same_over : (t : Table) (node : ℕ) (row : NodeRecord) → IsSameRow (unsettled_over t node) row
+same_over : (t : RunTable) (node : ℕ) (row : NodeRecord) → IsSameRow (unsettled_over t node) row
 same_over t node row = record { id = by_id (is_over t node row.id); kind = by_kind (is_over t node row.id); filename = by_name (is_over t node row.id) }
   where
     by_id : (b : Bool) → (cond b (record row { is_settled = false }) row).id ≡ row.id
@@ -188,7 +188,7 @@ same_over t node row = record { id = by_id (is_over t node row.id); kind = by_ki
     by_name true = refl
     by_name false = refl
 
-written_over : (t : Table) (node : ℕ) → AreOverFiles t (written_under node t)
+written_over : (t : RunTable) (node : ℕ) → AreOverFiles t (written_under node t)
 unfolding written_under
 written_over t node = mapped_over_files t (written_under node t) (unsettled_over t node) (same_over t node) refl (λ n. refl)
 
@@ -226,10 +226,10 @@ module _ (s : State) (g drive : ℕ) (stands : TableStands s.table) (on : drive_
 
       by_test : (b : Bool) → copies_through now.table drive ≡ b → ShowsImages (cond b less now) new
       by_test false e =
-          quiet_shows now old new images table (quiet (ap (λ (t : Table). copies_through t drive) (sym table) ∙ e)) h
+          quiet_shows now old new images table (quiet (ap (λ (t : RunTable). copies_through t drive) (sym table) ∙ e)) h
       by_test true e =
           images_less s less (disk_node s.table drive) old new
-          (ap (λ (t : Table). map (unsure (disk_node t drive ∷ [])) now.images) table ∙ ap (map (unsure (disk_node s.table drive ∷ []))) images)
+          (ap (λ (t : RunTable). map (unsure (disk_node t drive ∷ [])) now.images) table ∙ ap (map (unsure (disk_node s.table drive ∷ []))) images)
           (subst (AreOverFiles s.table) (sym table) itself) stands entered held keeps h
 
   pub piece_images_keep : (op : Op) (outcome : Outcome) (part : Extent) (old new : Contents) → PieceDone s drive op outcome part old new
@@ -243,16 +243,16 @@ module _ (s : State) (g drive : ℕ) (stands : TableStands s.table) (on : drive_
         copied.1.files keeps (λ e. let does = copied.0 in absurd cc) h
   ]
   piece_images_keep (Write span payload) outcome part old new did keeps h =
-      noted_shows (written (disk_node s.table drive) (with_disk (disk_node s.table drive) (done_in (Write span payload) part (done_by outcome part)) s))
+      noted_shows (node_written (disk_node s.table drive) (with_disk (disk_node s.table drive) (done_in (Write span payload) part (done_by outcome part)) s))
       outcome part drive new
       (images_less s
-      (written (disk_node s.table drive) (with_disk (disk_node s.table drive) (done_in (Write span payload) part (done_by outcome part)) s))
+      (node_written (disk_node s.table drive) (with_disk (disk_node s.table drive) (done_in (Write span payload) part (done_by outcome part)) s))
       (disk_node s.table drive) old new refl (written_over s.table (disk_node s.table drive)) stands entered did.files keeps h)
   piece_images_keep (Zero span) outcome part old new did keeps h =
-      noted_shows (written (disk_node s.table drive) (with_disk (disk_node s.table drive) (done_in (Zero span) part (done_by outcome part)) s))
+      noted_shows (node_written (disk_node s.table drive) (with_disk (disk_node s.table drive) (done_in (Zero span) part (done_by outcome part)) s))
       outcome part drive new
       (images_less s
-      (written (disk_node s.table drive) (with_disk (disk_node s.table drive) (done_in (Zero span) part (done_by outcome part)) s))
+      (node_written (disk_node s.table drive) (with_disk (disk_node s.table drive) (done_in (Zero span) part (done_by outcome part)) s))
       (disk_node s.table drive) old new refl (written_over s.table (disk_node s.table drive)) stands entered did.files keeps h)
   piece_images_keep Flush outcome part old new did keeps h =
       quiet_shows (with_part drive Flush outcome part s) old new refl refl did.files h

@@ -16,24 +16,24 @@ use Rattle.qmp_codec.specs.declared.words.ImageFormat.{ImageFormat}
 use Rattle.qmp_rules.specs.declared.rows.NodeRecord.{NodeRecord}
 use Rattle.qmp_rules.specs.declared.change.Change.{Change}
 use Rattle.qmp_rules.specs.declared.change.Change.TheVariants as change
-use Rattle.qmp_rules.specs.Table.{Table, node_at, child}
+use Rattle.qmp_rules.specs.Table.{RunTable, node_by_id, child}
 use Rattle.qmp_rules.specs.Chains.{filter_role, filtered, disk_from, disk_node}
 use Rattle.qmp_rules.specs.Changes.{changed, node_changed, unsettled, writable, with_unsettled, stands_over, lost_with}
 use Rattle.blk_history.specs.Fold.{With}
 use Rattle.flat_machine.specs.State.{State, Content, Bytes, Blank, Unknown, Left, Mapped, bytes_in, bytes_at_node, content_in, filename_of}
 use Rattle.flat_machine.specs.Contents.{file_bytes, image_bytes, formatted, length_in, mapped_in, with_content}
-use Rattle.flat_machine.specs.Changed.{put, make, name_file, name_if, stepped, all_stepped, filename_or, content_under, bytes_below, format_bytes, format_name, know_if, note_image, with_bytes_of, leave, left_in, left_disk, file_of, overlay_file}
+use Rattle.flat_machine.specs.Changed.{put, make, name_file, name_if, stepped, all_stepped, filename_or, content_under, bytes_below, bytes_by_format, format_name, know_if, note_image, with_bytes_of, leave, left_in, left_disk, own_filename, overlay_file}
 use Rattle.flat_machine.specs.Final.{IsDiskIn}
 use Rattle.flat_machine.specs.Agreement.{Contents, HasDisk, ReadAsDisks, IsBlank, IsAsKnown, AreAsKnown, AreAbsent, IsLeftAs, Agrees}
-use Rattle.flat_machine.specs.Performing.{ReadSame, HeldSame, Nothing, IsQuiet, Puts, Removes, Makes, IsWholly, IsReadable, CanFileBeRead, IsBacking, CanAddFile, CanAddFormat, CanAddFilter, Can, Performed, AllCan, AllPerformed, held_bytes, backing_reads, format_as, IsFormatted}
+use Rattle.flat_machine.specs.Performing.{ReadSame, HeldSame, Nothing, IsQuiet, Puts, Removes, ChangesFileAlone, IsWholly, IsReadable, CanFileBeRead, IsBacking, CanAddFile, CanAddFormat, CanAddFilter, Can, Performed, AllCan, AllPerformed, held_bytes, backing_reads, format_as, IsFormatted}
 use Rattle.flat_machine.proofs.Finds.{find-map, bytes_eq-same}
 use Rattle.flat_machine.proofs.Agreeing.{RowsBut, rows_same, rows_pushed, rows_filter, rows_mapped, rows_dropped, less_unsettled, same_unsettled, less_writable, same_writable, disks_kept, disks_but, disks_put, disks_dropped, known_kept, known_put, absent_kept, absent_put, unchanged_kept, unchanged_named, left_kept, left_forgot}
 
-own_node : (t : Table) (id : ℕ) (more : ℕ) → filtered t id ≡ None → disk_from (suc more) t id ≡ id
+own_node : (t : RunTable) (id : ℕ) (more : ℕ) → filtered t id ≡ None → disk_from (suc more) t id ≡ id
 own_node t id more none = rw (none, disk_from) refl
 
 -- a node that is no filter reads by itself
-pub own_disk : (t : Table) (id : ℕ) (row : NodeRecord) → node_at t id ≡ Some row → filter_role row.kind ≡ None → disk_node t id ≡ id
+pub own_disk : (t : RunTable) (id : ℕ) (row : NodeRecord) → node_by_id t id ≡ Some row → filter_role row.kind ≡ None → disk_node t id ≡ id
 unfolding disk_node
 own_disk t id row found own =
     let none : filtered t id ≡ None = rw (found, own) refl in
@@ -52,7 +52,7 @@ module _ (opening : List ℕ → Option (List ℕ)) where
   }
 
   -- one more file is named for writing, where there is one
-  pub named_keeps : (name : Option (List ℕ)) (s : State) (t : Table) (old new : Contents)
+  pub named_keeps : (name : Option (List ℕ)) (s : State) (t : RunTable) (old new : Contents)
       → RowsBut Nothing s (record s { table = t }) → IsQuiet old new
       → Agrees opening s old → Agrees opening (record (name_if name s) { table = t }) new
   named_keeps None s t old new rows q h = quiet_keeps s (record s { table = t }) old new rows refl refl refl refl q h
@@ -76,7 +76,7 @@ module _ (opening : List ℕ → Option (List ℕ)) where
       let held : IsAsKnown (Bytes whole.0) (old.held name) = subst (λ c. IsAsKnown c (old.held name)) whole.1 (known name content is) in
       rw (whole.1, held) refl
 
-  file_keeps : (s : State) (row : NodeRecord) (t : Table) (old new : Contents) → t.nodes ≡ s.table.nodes ++ row ∷ [] → CanAddFile s row
+  file_keeps : (s : State) (row : NodeRecord) (t : RunTable) (old new : Contents) → t.nodes ≡ s.table.nodes ++ row ∷ [] → CanAddFile s row
       → Puts row.id (file_disk row.size (held_bytes old (filename_or row))) old new → Agrees opening s old
       → Agrees opening (record (put row.id (file_bytes row.size (content_in s.files (filename_or row))) s) { table = t }) new
   file_keeps s row t old new nodes can adds h =
@@ -117,7 +117,7 @@ module _ (opening : List ℕ → Option (List ℕ)) where
 
   -- ---- a filter: it says nothing by itself
 
-  filter_keeps : (s : State) (row : NodeRecord) (t : Table) (old new : Contents) → t.nodes ≡ s.table.nodes ++ row ∷ []
+  filter_keeps : (s : State) (row : NodeRecord) (t : RunTable) (old new : Contents) → t.nodes ≡ s.table.nodes ++ row ∷ []
       → CanAddFilter s row → ReadSame (λ node. node ≡ row.id) old new → HeldSame Nothing old new
       → Agrees opening s old → Agrees opening (record s { table = t }) new
   filter_keeps s row t old new nodes can reads files h = record {
@@ -135,15 +135,15 @@ module _ (opening : List ℕ → Option (List ℕ)) where
       rows : RowsBut Nothing s (record s { table = t })
       rows = rows_filter s (record s { table = t }) row (λ disk. is_none (filter_role row.kind) can.filter disk.own) nodes
 
-      apart : (node : ℕ) (found : NodeRecord) → node_at t node ≡ Some found → HasDisk found → node ≡ row.id → ⊥
+      apart : (node : ℕ) (found : NodeRecord) → node_by_id t node ≡ Some found → HasDisk found → node ≡ row.id → ⊥
       apart node found is disk same = elim (rows node found is disk) [
         | inl never ↦ never
-        | inr had ↦ let was = subst (λ n. node_at s.table n ≡ Some had.row) same had.found in let fresh = can.fresh in cc
+        | inr had ↦ let was = subst (λ n. node_by_id s.table n ≡ Some had.row) same had.found in let fresh = can.fresh in cc
       ]
 
   -- ---- a format node
 
-  backing_bytes : (s : State) (old : Contents) (id : ℕ) → ReadAsDisks s old → (found : Option NodeRecord) → node_at s.table id ≡ found
+  backing_bytes : (s : State) (old : Contents) (id : ℕ) → ReadAsDisks s old → (found : Option NodeRecord) → node_by_id s.table id ≡ found
       → With found HasDisk → old.reads id ≡ bytes_at_node s id
   backing_bytes s old id reads None is has = absurd has
   backing_bytes s old id reads (Some row) is has =
@@ -152,9 +152,9 @@ module _ (opening : List ℕ → Option (List ℕ)) where
   below_bytes : (s : State) (old : Contents) (backing : Option ℕ) → ReadAsDisks s old → IsBacking s backing
       → backing_reads old backing ≡ bytes_below s backing
   below_bytes s old None reads has = refl
-  below_bytes s old (Some id) reads has = backing_bytes s old id reads (node_at s.table id) refl has
+  below_bytes s old (Some id) reads has = backing_bytes s old id reads (node_by_id s.table id) refl has
 
-  raw_bytes : (s : State) (old : Contents) (file : ℕ) → ReadAsDisks s old → (found : Option NodeRecord) → node_at s.table file ≡ found
+  raw_bytes : (s : State) (old : Contents) (file : ℕ) → ReadAsDisks s old → (found : Option NodeRecord) → node_by_id s.table file ≡ found
       → With found HasDisk → old.reads file ≡ bytes_in s.disks file
   raw_bytes s old file reads None is has = absurd has
   raw_bytes s old file reads (Some row) is has = reads file row is has
@@ -177,9 +177,9 @@ module _ (opening : List ℕ → Option (List ℕ)) where
   image_reads s old (Some name) below (Some Unknown) known is can = absurd can
 
   format_reads : (s : State) (old : Contents) (row : NodeRecord) (file : ℕ) (backing : Option ℕ) (driver : Kind) → CanFileBeRead s file driver
-      → IsBacking s backing → Agrees opening s old → format_as s old row file backing driver ≡ format_bytes s row file backing driver
+      → IsBacking s backing → Agrees opening s old → format_as s old row file backing driver ≡ bytes_by_format s row file backing driver
   format_reads s old row file backing Raw can backed h =
-      ap (raw_disk row.offset row.size) (raw_bytes s old file h.disks (node_at s.table file) refl can)
+      ap (raw_disk row.offset row.size) (raw_bytes s old file h.disks (node_by_id s.table file) refl can)
   format_reads s old row file backing Qcow2 can backed h =
       ap (image_disk (held_bytes old (unwrap_or (filename_of s.table file) []))) (below_bytes s old backing h.disks backed)
       ∙ image_reads s old (filename_of s.table file) (bytes_below s backing) (content_under s file) h.known refl can
@@ -227,7 +227,7 @@ module _ (opening : List ℕ → Option (List ℕ)) where
   noted Mirror id mapped s = record { disks = refl; files = refl; left = refl; named = refl }
   noted Commit id mapped s = record { disks = refl; files = refl; left = refl; named = refl }
 
-  pub with_format : (name : Option (List ℕ)) (driver : Kind) (id : ℕ) (mapped : Mapped) (bytes : List ℕ) (s : State) (t : Table)
+  pub with_format : (name : Option (List ℕ)) (driver : Kind) (id : ℕ) (mapped : Mapped) (bytes : List ℕ) (s : State) (t : RunTable)
       → IsWithFormat s (record (know_if name Unknown (note_image driver id mapped (put id bytes s))) { table = t }) name id bytes
   with_format None driver id mapped bytes s t =
       let same = noted driver id mapped (put id bytes s) in
@@ -253,7 +253,7 @@ module _ (opening : List ℕ → Option (List ℕ)) where
       → Agrees opening (stepped s (change.AddFormat row file backing)) new
   unfolding changed
   add_format_keeps s row file backing old new can did h =
-      let bytes : List ℕ = format_bytes s row file backing row.kind in
+      let bytes : List ℕ = bytes_by_format s row file backing row.kind in
       let now : State = stepped s (change.AddFormat row file backing) in
       let same = with_format (filename_of s.table file) row.kind row.id (mapped_in (content_under s file)) bytes s
       (changed s.table (change.AddFormat row file backing)) in
@@ -269,14 +269,14 @@ module _ (opening : List ℕ → Option (List ℕ)) where
   -- ---- a node that goes
 
   -- the disk that it leaves is what its driver reads from its file
-  left_reads : (s : State) (node : ℕ) (row : NodeRecord) (old new : Contents) → node_at s.table node ≡ Some row → Removes s node old new
+  left_reads : (s : State) (node : ℕ) (row : NodeRecord) (old new : Contents) → node_by_id s.table node ≡ Some row → Removes s node old new
       → Agrees opening s old → (left : Left) → left_disk s row ≡ Some left → IsLeftAs new left
   left_reads s node row old new found did h left is = by_settled row.is_settled refl (child s.table row.id Backing) refl is
     where
       row_id : row.id ≡ node
       row_id = eqb-true row.id node (find-Some (λ r. r.id == node) s.table.nodes row found).1
 
-      from_file : (name : List ℕ) → file_of s.table row row.kind ≡ Some name → HasDisk row → child s.table row.id Backing ≡ None
+      from_file : (name : List ℕ) → own_filename s.table row row.kind ≡ Some name → HasDisk row → child s.table row.id Backing ≡ None
           → left_in s.disks row name ≡ left → IsLeftAs new left
       from_file name file disk none made =
           let backless : child s.table node Backing ≡ None = subst (λ n. child s.table n Backing ≡ None) row_id none in
@@ -289,7 +289,7 @@ module _ (opening : List ℕ → Option (List ℕ)) where
           (subst (λ b. With (old.held name) (IsDiskIn row.kind row.offset b)) reads alone))
 
       -- a node that is over a file of its own is no filter
-      own : (driver : Kind) (name : List ℕ) → file_of s.table row driver ≡ Some name → filter_role driver ≡ None
+      own : (driver : Kind) (name : List ℕ) → own_filename s.table row driver ≡ Some name → filter_role driver ≡ None
       own Protocol name e = refl
       own Raw name e = refl
       own Qcow2 name e = refl
@@ -298,16 +298,16 @@ module _ (opening : List ℕ → Option (List ℕ)) where
       own Mirror name e = absurd cc
       own Commit name e = absurd cc
 
-      by_file : (file : Option (List ℕ)) → file_of s.table row row.kind ≡ file → row.is_settled ≡ true
+      by_file : (file : Option (List ℕ)) → own_filename s.table row row.kind ≡ file → row.is_settled ≡ true
           → child s.table row.id Backing ≡ None → option_map (left_in s.disks row) file ≡ Some left → IsLeftAs new left
       by_file None file settled none e = absurd cc
       by_file (Some name) file settled none e =
           from_file name file (record { settled = settled; own = own row.kind name file }) none cc
 
       by_settled : (settled : Bool) → row.is_settled ≡ settled → (backing : Option ℕ) → child s.table row.id Backing ≡ backing
-          → cond (settled && is_none backing) (option_map (left_in s.disks row) (file_of s.table row row.kind)) None ≡ Some left
+          → cond (settled && is_none backing) (option_map (left_in s.disks row) (own_filename s.table row row.kind)) None ≡ Some left
           → IsLeftAs new left
-      by_settled true settled None none e = by_file (file_of s.table row row.kind) refl settled none e
+      by_settled true settled None none e = by_file (own_filename s.table row row.kind) refl settled none e
       by_settled true settled (Some id) none e = absurd cc
       by_settled false settled backing none e = absurd cc
 
@@ -321,7 +321,7 @@ module _ (opening : List ℕ → Option (List ℕ)) where
   left_alone (Some gone) s = record { disks = refl; files = refl; named = refl }
 
   left_keeps : (s now : State) (node : ℕ) (old new : Contents) → Removes s node old new → Agrees opening s old
-      → (found : Option NodeRecord) → node_at s.table node ≡ found
+      → (found : Option NodeRecord) → node_by_id s.table node ≡ found
       → now.left ≡ (leave (option_and_then (left_disk s) found) s).left → All (IsLeftAs new) now.left
   left_keeps s now node old new did h None is left = left_kept s now old new left did.files h.left
   left_keeps s now node old new did h (Some row) is left = by_left (left_disk s row) refl left
@@ -337,24 +337,24 @@ module _ (opening : List ℕ → Option (List ℕ)) where
   unfolding changed
   remove_keeps s node old new did h =
       let now : State = stepped s (change.RemoveNode node) in
-      let gone = option_and_then (left_disk s) (node_at s.table node) in
+      let gone = option_and_then (left_disk s) (node_by_id s.table node) in
       let same = left_alone gone s in
       record {
         disks = disks_dropped s now old new node (rows_dropped s now node refl) (ap (filter (λ d. not (d.node == node))) same.disks)
             did.nodes h.disks;
         known = known_kept s now old new same.files did.files h.known;
         absent = absent_kept s now old new same.files did.files h.absent;
-        left = left_keeps s now node old new did h (node_at s.table node) refl refl;
+        left = left_keeps s now node old new did h (node_by_id s.table node) refl refl;
         unchanged = unchanged_kept s now old new opening same.named did.files h.unchanged;
       }
 
   -- ---- files
 
   -- a file is made anew: no disk is left in it, and a command named it
-  made_keeps : (s : State) (t : Table) (name : List ℕ) (content : Content) (but : ℕ → Type 0) (old new : Contents)
+  made_keeps : (s : State) (t : RunTable) (name : List ℕ) (content : Content) (but : ℕ → Type 0) (old new : Contents)
       → RowsBut Nothing s (record s { table = t })
-      → ((node : ℕ) (row : NodeRecord) → node_at t node ≡ Some row → HasDisk row → but node → ⊥)
-      → Makes but name old new → IsAsKnown content (new.held name) → Agrees opening s old
+      → ((node : ℕ) (row : NodeRecord) → node_by_id t node ≡ Some row → HasDisk row → but node → ⊥)
+      → ChangesFileAlone but name old new → IsAsKnown content (new.held name) → Agrees opening s old
       → Agrees opening (record (make name content s) { table = t }) new
   made_keeps s t name content but old new rows apart makes is h =
       let now : State = record (make name content s) { table = t } in
@@ -370,7 +370,7 @@ module _ (opening : List ℕ → Option (List ℕ)) where
       → Agrees opening s old → Agrees opening (stepped s (change.MakeFile name size)) new
   unfolding changed
   make_file_keeps s name size old new did h =
-      let t : Table = changed s.table (change.MakeFile name size) in
+      let t : RunTable = changed s.table (change.MakeFile name size) in
       made_keeps s t name (Bytes (replicate size 0)) Nothing old new (rows_same s (record s { table = t }) refl)
       (λ node row found disk never. never) did.0 did.1 h
 
@@ -427,10 +427,10 @@ module _ (opening : List ℕ → Option (List ℕ)) where
   format_file_keeps s node name size backing_file backing_fmt old new did h =
       made_keeps s t name (formatted image (content_in s.files name)) (λ other. other ≡ node) old new
       (rows_mapped s (record s { table = t }) (node_changed node unsettled) (same_unsettled node) (less_unsettled node) refl)
-      (λ other row found disk same. lost node s.table.nodes row (subst (λ n. node_at t n ≡ Some row) same found) disk)
+      (λ other row found disk same. lost node s.table.nodes row (subst (λ n. node_by_id t n ≡ Some row) same found) disk)
       did.0 (by_held (new.held name) did.1) h
     where
-      t : Table
+      t : RunTable
       t = changed s.table (change.FormatFile node name size backing_file backing_fmt)
 
       image : Creation
@@ -465,7 +465,7 @@ module _ (opening : List ℕ → Option (List ℕ)) where
       → HasDisk row → filename_of s.table node ≡ Some name → ⊥
   spoiled_node s name node row found disk over =
       let of_old = sym (find-map (λ r. r.id == node) (lost_with name) (λ r. ap (λ k. k == node) (same_lost name r)) s.table.nodes) ∙ found in
-      by_row (node_at s.table node) over of_old
+      by_row (node_by_id s.table node) over of_old
     where
       by_test : (r : NodeRecord) (b : Bool) → b ≡ true → cond b (unsettled r) r ≡ row → ⊥
       by_test r true t is = let settled = disk.settled in cc
@@ -483,7 +483,7 @@ module _ (opening : List ℕ → Option (List ℕ)) where
       → Agrees opening s old → Agrees opening (stepped s (change.SpoilFile name)) new
   unfolding changed
   spoil_keeps s name old new did h =
-      let t : Table = changed s.table (change.SpoilFile name) in
+      let t : RunTable = changed s.table (change.SpoilFile name) in
       made_keeps s t name Unknown (λ node. filename_of s.table node ≡ Some name) old new
       (rows_mapped s (record s { table = t }) (lost_with name) (same_lost name) (less_lost name) refl)
       (λ node row found disk over. spoiled_node s name node row found disk over) did tt h
@@ -502,14 +502,14 @@ module _ (opening : List ℕ → Option (List ℕ)) where
       }
 
   -- an overlay that maps nothing reads as the node below it
-  attach_keeps : (s : State) (overlay node : ℕ) (old new : Contents) → With (node_at s.table node) HasDisk
+  attach_keeps : (s : State) (overlay node : ℕ) (old new : Contents) → With (node_by_id s.table node) HasDisk
       → Performed s (change.Attach overlay node) old new → Agrees opening s old → Agrees opening (stepped s (change.Attach overlay node)) new
   unfolding changed
   attach_keeps s overlay node old new can did h =
       let now : State = stepped s (change.Attach overlay node) in
       record {
         disks = disks_put s now old new overlay (bytes_at_node s node) rows refl did.nodes
-            (did.reads_as ∙ backing_bytes s old node h.disks (node_at s.table node) refl can) h.disks;
+            (did.reads_as ∙ backing_bytes s old node h.disks (node_by_id s.table node) refl can) h.disks;
         known = known_kept s now old new refl did.files h.known;
         absent = absent_kept s now old new refl did.files h.absent;
         left = left_kept s now old new refl did.files h.left;
@@ -550,12 +550,12 @@ module _ (opening : List ℕ → Option (List ℕ)) where
       let rows = rows_mapped s now (node_changed id unsettled) (same_unsettled id) (less_unsettled id) refl in
       quiet_keeps s now old new rows refl refl refl refl did h
   change_keeps s (change.MakeWritable id) old new can did h =
-      let t : Table = changed s.table (change.MakeWritable id) in
+      let t : RunTable = changed s.table (change.MakeWritable id) in
       let rows = rows_mapped s (record s { table = t }) (node_changed id writable) (same_writable id) (less_writable id) refl in
       named_keeps (filename_of s.table id) s t old new rows did h
   change_keeps s (change.UseNode slot what node) old new can did h = still_keeps s (stepped s (change.UseNode slot what node)) old new refl refl refl refl refl did h
   change_keeps s (change.StartJob row) old new can did h =
-      let t : Table = changed s.table (change.StartJob row) in
+      let t : RunTable = changed s.table (change.StartJob row) in
       named_keeps (overlay_file s.table row row.kind) s t old new (rows_same s (record s { table = t }) refl) did h
   change_keeps s (change.AskJob number asked) old new can did h = still_keeps s (stepped s (change.AskJob number asked)) old new refl refl refl refl refl did h
   change_keeps s (change.AddDevice device node) old new can did h = still_keeps s (stepped s (change.AddDevice device node)) old new refl refl refl refl refl did h

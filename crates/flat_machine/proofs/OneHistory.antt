@@ -20,9 +20,9 @@ use Rattle.blk_graph.specs.declared.kind.Kind.TheVariants.{Protocol, Raw, Qcow2,
 use Rattle.qmp_rules.specs.declared.change.Change.{Change}
 use Rattle.qmp_rules.specs.declared.change.Change.TheVariants as change
 use Rattle.qmp_rules.specs.declared.rows.NodeRecord.{NodeRecord}
-use Rattle.qmp_rules.specs.Table.{device_at, node_at}
+use Rattle.qmp_rules.specs.Table.{device_by_number, node_by_id}
 use Rattle.qmp_rules.specs.Chains.{disk_node}
-use Rattle.qmp_rules.specs.Answers.{line_text, line_answer, reply_data}
+use Rattle.qmp_rules.specs.Answers.{line_text, line_answer, answer_data}
 use Rattle.blk_history.specs.Fold.{With}
 use Rattle.blk_history.specs.Disk.{piece, done_in}
 use Rattle.blk_history.specs.Machine.{Flight, done_by}
@@ -38,12 +38,12 @@ use Rattle.blk_history.proofs.Folds.{with-some, with-at, length-change, slice-th
 use Rattle.blk_history.proofs.Lines.{IsLine, IsWord, words_then, after-verb, first-word, same-word, last-word, name-word, text-line}
 use Rattle.blk_history.proofs.Outcomes.{one-outcome, one-told}
 use Rattle.blk_history.proofs.Verbs.{IsOfNoJob, verb_of, verb_in, verb-told, line-there}
-use Rattle.flat_machine.specs.State.{State, Guest, Content, Unknown, Left, Mapped, guest_at, drive_of, disk_of_guest, size_of, content_in, filename_of}
+use Rattle.flat_machine.specs.State.{State, Guest, Content, Unknown, Left, Mapped, guest_at, drive_of, disk_of_guest, size_by_id, content_in, filename_of}
 use Rattle.flat_machine.specs.Contents.{file_bytes, mapped_in}
-use Rattle.flat_machine.specs.Changed.{stepped, all_stepped, name_if, leave, know_if, note_image, add_file, put, name_file, filename_or, content_under, format_bytes, left_disk, overlay_file}
+use Rattle.flat_machine.specs.Changed.{stepped, all_stepped, name_if, leave, know_if, note_image, add_file, put, name_file, filename_or, content_under, bytes_by_format, left_disk, overlay_file}
 use Rattle.flat_machine.specs.Jobs.{unsure}
-use Rattle.flat_machine.specs.Machine.{after, admitted, finished, past_piece, with_disk, written, with_part, with_piece, flight_of, path, note, noted, is_noted, read_through, copies_through}
-use Rattle.flat_machine.specs.Replies.{edits_by, command_in, IsAnswer}
+use Rattle.flat_machine.specs.Machine.{after, admitted, finished, past_piece, with_disk, node_written, with_part, with_piece, flight_of, path, note, noted, is_noted, read_through, copies_through}
+use Rattle.flat_machine.specs.Replies.{edits_by, command_read, IsAnswer}
 use Rattle.flat_machine.specs.Legal.{IsNext, IsRefusedFor, guest_disk, MayHappen, Fits, Legal}
 use Rattle.flat_machine.specs.Courses.{Course, Begins, IsNextOf, IsGiven, IsWatched, IsOwn, onward, KeepsOrder, course_of, rest_of, past_waits}
 use Rattle.flat_machine.specs.Opening.{start, new_guest}
@@ -142,10 +142,10 @@ part-guests : (s : State) (drive : ℕ) (op : Op) (outcome : Outcome) (part : Ex
 part-guests s drive (Read span) outcome part =
     read-guests (with_disk (disk_node s.table drive) (done_in (Read span) part (done_by outcome part)) s) drive
 part-guests s drive (Write span payload) outcome part =
-    noted-guests (written (disk_node s.table drive) (with_disk (disk_node s.table drive) (done_in (Write span payload) part (done_by outcome part)) s))
+    noted-guests (node_written (disk_node s.table drive) (with_disk (disk_node s.table drive) (done_in (Write span payload) part (done_by outcome part)) s))
     outcome part drive
 part-guests s drive (Zero span) outcome part =
-    noted-guests (written (disk_node s.table drive) (with_disk (disk_node s.table drive) (done_in (Zero span) part (done_by outcome part)) s))
+    noted-guests (node_written (disk_node s.table drive) (with_disk (disk_node s.table drive) (done_in (Zero span) part (done_by outcome part)) s))
     outcome part drive
 part-guests s drive Flush outcome part = refl
 part-guests s drive (Discard span) outcome part = refl
@@ -191,9 +191,9 @@ beside-guests : (s : State) (c : Change) → (stepped s c).guests ≡ s.guests
 beside-guests s (change.AddFile row) = file-guests row s
 beside-guests s (change.AddFormat row file backing) =
     known-guests (filename_of s.table file) Unknown
-    (note_image row.kind row.id (mapped_in (content_under s file)) (put row.id (format_bytes s row file backing row.kind) s))
-    ∙ image-guests row.kind row.id (mapped_in (content_under s file)) (put row.id (format_bytes s row file backing row.kind) s)
-beside-guests s (change.RemoveNode node) = left-guests (option_and_then (left_disk s) (node_at s.table node)) s
+    (note_image row.kind row.id (mapped_in (content_under s file)) (put row.id (bytes_by_format s row file backing row.kind) s))
+    ∙ image-guests row.kind row.id (mapped_in (content_under s file)) (put row.id (bytes_by_format s row file backing row.kind) s)
+beside-guests s (change.RemoveNode node) = left-guests (option_and_then (left_disk s) (node_by_id s.table node)) s
 beside-guests s (change.MakeWritable node) = named-guests (filename_of s.table node) s
 beside-guests s (change.StartJob row) = named-guests (overlay_file s.table row row.kind) s
 beside-guests s change.Negotiate = refl
@@ -255,7 +255,7 @@ one-watched (Watch line what ∷ orders) m n a b h k = (sym h.0 ∙ k.0, sym h.1
 answer-line : (s : State) (given : List ℕ) (command : Option Cmd) (text : List ℕ) → IsAnswer s given command text → IsLine text
 unfolding line_text
 answer-line s given command text a =
-    subst IsLine (sym a.answered) (text-line (reply_data (id_at given) (line_answer s.table a.told given).reply))
+    subst IsLine (sym a.answered) (text-line (answer_data (id_at given) (line_answer s.table a.told given).reply))
 
 -- ---- one entry
 
@@ -302,14 +302,14 @@ module _ (o : Opening) (guests : AreGuests o.guests) (s : State) (c : Course) (a
       (is-guest g (λ row. IsNext row n) fe.1.1) (is-guest g2 (λ row. IsNext row n2) ff.1.1) words in
       let number = next-number (guest_at s g) n n2 fe.1.1 (subst (λ x. With (guest_at s x) (λ row. IsNext row n2)) (sym w.0) ff.1.1) in
       let asked : op ≡ op2 = next-op c g op op2 oe (subst (λ x. IsNextOf c x op2) (sym w.0) of) in
-      let moved = subst (λ x. With (device_at s.table x) (λ device. With (disk_of_guest s.table x) (λ node. IsRefusedFor op2 device.read_only (size_of s.table node) why2)))
+      let moved = subst (λ x. With (device_by_number s.table x) (λ device. With (disk_of_guest s.table x) (λ node. IsRefusedFor op2 device.read_only (size_by_id s.table node) why2)))
       (sym w.0) ff.1.2 in
-      let moved_op = subst (λ p. With (device_at s.table g) (λ device. With (disk_of_guest s.table g) (λ node. IsRefusedFor p device.read_only (size_of s.table node) why2)))
+      let moved_op = subst (λ p. With (device_by_number s.table g) (λ device. With (disk_of_guest s.table g) (λ node. IsRefusedFor p device.read_only (size_by_id s.table node) why2)))
       (sym asked) moved in
-      let cause : why ≡ why2 = judged-same (device_at s.table g) (disk_of_guest s.table g)
-      (λ device node. IsRefusedFor op device.read_only (size_of s.table node) why)
-      (λ device node. IsRefusedFor op device.read_only (size_of s.table node) why2) (why ≡ why2)
-      (λ device node h k. one-cause op device.read_only (size_of s.table node) why why2 h k) fe.1.2 moved_op in
+      let cause : why ≡ why2 = judged-same (device_by_number s.table g) (disk_of_guest s.table g)
+      (λ device node. IsRefusedFor op device.read_only (size_by_id s.table node) why)
+      (λ device node. IsRefusedFor op device.read_only (size_by_id s.table node) why2) (why ≡ why2)
+      (λ device node h k. one-cause op device.read_only (size_by_id s.table node) why why2 h k) fe.1.2 moved_op in
       let same = w.0 in
       cc
   same-entry (Piece g n k outcome got) (Piece g2 n2 k2 outcome2 got2) verbs plain fe ff oe of se sf r q e =
@@ -351,7 +351,7 @@ module _ (o : Opening) (guests : AreGuests o.guests) (s : State) (c : Course) (a
       let behind = same-word (decimal line) (text ∷ []) (text2 ∷ []) r q
       (subst (λ x. words_then (decimal line ∷ text ∷ []) r ≡ words_then (decimal x ∷ text2 ∷ []) q) (sym given_same.0) words) in
       let texts = last-word text text2 r q (answer-line s given command text fe.1.1) (answer-line s given2 command2 text2 ff.1.1) behind in
-      let commands : command ≡ command2 = fe.1.1.understood ∙ ap (λ x. command_in (command_at x)) given_same.1 ∙ sym ff.1.1.understood in
+      let commands : command ≡ command2 = fe.1.1.understood ∙ ap (λ x. command_read (command_at x)) given_same.1 ∙ sym ff.1.1.understood in
       let lines = given_same.0 in
       let asked = given_same.1 in
       let told = texts.0 in

@@ -7,7 +7,7 @@ use Rattle.blk_base.specs.declared.file.File.{File}
 use Rattle.blk_base.specs.Files.{file_at}
 use Rattle.blk_graph.proofs.Members.{Contains-nil}
 use Rattle.qmp_rules.specs.declared.rows.NodeRecord.{NodeRecord}
-use Rattle.qmp_rules.specs.Table.{node_at, opening_table}
+use Rattle.qmp_rules.specs.Table.{node_by_id, opening_table}
 use Rattle.qmp_rules.specs.Chains.{is_settled}
 use Rattle.flat_machine.specs.declared.opening.Opening.{Opening}
 use Rattle.flat_machine.specs.State.{State, Content, Bytes, Blank, Unknown, bytes_at_node, flat_disk_of, content_in}
@@ -119,7 +119,7 @@ agrees_beside opening s now c nodes disks files left named h =
 
 -- what it reads as is its flat disk
 pub disk_read : (opening : List ℕ → Option (List ℕ)) (s : State) (c : Contents) (node : ℕ) (row : NodeRecord) → Agrees opening s c
-    → node_at s.table node ≡ Some row → HasDisk row → flat_disk_of s node ≡ Some (c.reads node)
+    → node_by_id s.table node ≡ Some row → HasDisk row → flat_disk_of s node ≡ Some (c.reads node)
 disk_read opening s c node row h is disk =
     let here = own_disk s.table node row is disk.own in
     let settled : is_settled s.table node ≡ true = rw (here, is, disk.settled) refl in

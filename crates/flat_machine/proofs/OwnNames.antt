@@ -10,7 +10,7 @@ use Rattle.qmp_rules.specs.Asks.{holds}
 use Rattle.qmp_rules.specs.Edits.{goes_with, inline_row, next_free_id}
 use Rattle.qmp_asks.specs.Naming.{inline_name, is_name}
 use Rattle.qmp_asks.specs.NodeAsks.{add_asks, add_names, add_values, added_rest, is_read_only}
-use Rattle.qmp_rules.specs.Table.{Table, node_at, node_named}
+use Rattle.qmp_rules.specs.Table.{RunTable, node_by_id, node_named}
 use Rattle.qmp_asks.specs.declared.ask.Ask.TheVariants as ask
 use Rattle.qmp_rules.specs.declared.rows.NodeRecord.{NodeRecord}
 use Rattle.qmp_rules.specs.declared.told.Told.{Told}
@@ -26,18 +26,18 @@ use Rattle.flat_machine.proofs.Fresh.{no-found}
 abbrev pub IsNameIf : Option (List ℕ) → Type 0
 IsNameIf own = IfSome own (λ name. is_name name ≡ true)
 
-pub named-if : (t : Table) (told : Told) (member : List ℕ) (own : Option (List ℕ)) → holds t told (ask.Named member own) ≡ None → IsNameIf own
+pub named-if : (t : RunTable) (told : Told) (member : List ℕ) (own : Option (List ℕ)) → holds t told (ask.Named member own) ≡ None → IsNameIf own
 unfolding holds
 named-if t told member None h = tt
 named-if t told member (Some name) h = not-false (is_name name) (not-refused _ _ h)
 
 -- those of an addition, that of its node first
-pub names-asked : (t : Table) (told : Told) (c : BlockdevAdd (List ℕ)) → NoneHolds t told (add_asks c) → NoneHolds t told (add_names c)
+pub names-asked : (t : RunTable) (told : Told) (c : BlockdevAdd (List ℕ)) → NoneHolds t told (add_asks c) → NoneHolds t told (add_names c)
 names-asked t told c asks =
     none-behind t told (add_values c) (add_names c)
     (none-ahead t told (add_values c ++ add_names c) (added_rest c.node_name (is_read_only c.options) c.driver) asks)
 
-pub name-asked : (t : Table) (told : Told) (c : BlockdevAdd (List ℕ)) → NoneHolds t told (add_asks c) → is_name c.node_name ≡ true
+pub name-asked : (t : RunTable) (told : Told) (c : BlockdevAdd (List ℕ)) → NoneHolds t told (add_asks c) → is_name c.node_name ≡ true
 name-asked t told c asks = let names = names-asked t told c asks in named-if t told (codes "node-name") (Some c.node_name) names.0
 
 -- a name begins with no `#`
@@ -51,7 +51,7 @@ own-name row is alone over named = not-inline row.name over is
 
 -- ---- and of `file` nodes that are made with others
 
-pub inline-own : (t : Table) (told : Told) (name : List ℕ) (file : InlineFile (List ℕ)) → IsNameIf file.node_name → HasOwnName (inline_row t told name file)
+pub inline-own : (t : RunTable) (told : Told) (name : List ℕ) (file : InlineFile (List ℕ)) → IsNameIf file.node_name → HasOwnName (inline_row t told name file)
 inline-own t told name file said = by_own (next_free_id t) file.node_name said
   where
     by_own : (id : ℕ) (own : Option (List ℕ)) → IsNameIf own → goes_with id own ≡ None → (over : List ℕ) → is_name over ≡ true
@@ -74,10 +74,10 @@ none-found : (rows : List NodeRecord) (name : List ℕ) (row : NodeRecord) → f
 none-found rows name row none there same =
     no-found (λ r. bytes_eq r.name name) rows row none there (ap (λ n. bytes_eq n name) same ∙ bytes_eq-same name)
 
-pub inline-free : (t : Table) (name : List ℕ) → TableAtRest t → is_name name ≡ true → node_named t name ≡ None → node_named t (inline_name name None) ≡ None
+pub inline-free : (t : RunTable) (name : List ℕ) → TableAtRest t → is_name name ≡ true → node_named t name ≡ None → node_named t (inline_name name None) ≡ None
 inline-free t name h is none = by_found (node_named t (inline_name name None)) refl
   where
-    by_over : (row : NodeRecord) (over : ℕ) → row.name ≡ inline_name name None → (found : Option NodeRecord) → node_at t over ≡ found
+    by_over : (row : NodeRecord) (over : ℕ) → row.name ≡ inline_name name None → (found : Option NodeRecord) → node_by_id t over ≡ found
         → With found (λ node. row.name ≡ inline_name node.name None) → ⊥
     by_over row over same None e named = named
     by_over row over same (Some node) e named =
@@ -86,7 +86,7 @@ inline-free t name h is none = by_found (node_named t (inline_name name None)) r
 
     by_made : (row : NodeRecord) → Contains t.nodes row → row.name ≡ inline_name name None → (made : Option ℕ) → row.made_with ≡ made → ⊥
     by_made row there same None alone = h.stands.own_names row there alone name is same
-    by_made row there same (Some over) with = by_over row over same (node_at t over) refl (h.inline row over there with).named
+    by_made row there same (Some over) with = by_over row over same (node_by_id t over) refl (h.inline row over there with).named
 
     by_found : (found : Option NodeRecord) → node_named t (inline_name name None) ≡ found → found ≡ None
     by_found None e = refl

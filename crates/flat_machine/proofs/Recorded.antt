@@ -10,15 +10,15 @@ use Rattle.trace_codec.specs.declared.op.Op.TheVariants.{Read, Write, Zero, Flus
 use Rattle.qmp_rules.specs.declared.change.Change.{Change}
 use Rattle.qmp_rules.specs.declared.change.Change.TheVariants as change
 use Rattle.qmp_rules.specs.declared.rows.NodeRecord.{NodeRecord}
-use Rattle.qmp_rules.specs.Table.{node_at}
+use Rattle.qmp_rules.specs.Table.{node_by_id}
 use Rattle.qmp_rules.specs.Chains.{disk_node}
 use Rattle.qmp_rules.specs.Changes.{changed}
 use Rattle.blk_history.specs.Disk.{done_in}
 use Rattle.blk_history.specs.Machine.{done_by}
 use Rattle.flat_machine.specs.State.{State, Content, Left, Mapped, Unknown, content_in, filename_of}
 use Rattle.flat_machine.specs.Contents.{mapped_in, file_bytes}
-use Rattle.flat_machine.specs.Changed.{stepped, all_stepped, put, name_file, name_if, know_if, add_file, note_image, format_bytes, content_under, leave, left_disk, filename_or, overlay_file}
-use Rattle.flat_machine.specs.Machine.{note, is_noted, noted, path, read_through, copies_through, with_disk, written, with_part}
+use Rattle.flat_machine.specs.Changed.{stepped, all_stepped, put, name_file, name_if, know_if, add_file, note_image, bytes_by_format, content_under, leave, left_disk, filename_or, overlay_file}
+use Rattle.flat_machine.specs.Machine.{note, is_noted, noted, path, read_through, copies_through, with_disk, node_written, with_part}
 use Rattle.flat_machine.specs.Jobs.{unsure}
 use Rattle.flat_machine.specs.Recording.{dirty_beside, dirty_after, dirty_by}
 
@@ -54,9 +54,9 @@ pub stepped-dirty : (s : State) (c : Change) → (stepped s c).dirty ≡ dirty_b
 stepped-dirty s (change.AddFile row) = file-dirty row s
 stepped-dirty s (change.AddFormat row file backing) =
     known-dirty (filename_of s.table file) Unknown
-    (note_image row.kind row.id (mapped_in (content_under s file)) (put row.id (format_bytes s row file backing row.kind) s))
-    ∙ image-dirty row.kind row.id (mapped_in (content_under s file)) (put row.id (format_bytes s row file backing row.kind) s)
-stepped-dirty s (change.RemoveNode node) = rw (left-dirty (option_and_then (left_disk s) (node_at s.table node)) s) refl
+    (note_image row.kind row.id (mapped_in (content_under s file)) (put row.id (bytes_by_format s row file backing row.kind) s))
+    ∙ image-dirty row.kind row.id (mapped_in (content_under s file)) (put row.id (bytes_by_format s row file backing row.kind) s)
+stepped-dirty s (change.RemoveNode node) = rw (left-dirty (option_and_then (left_disk s) (node_by_id s.table node)) s) refl
 stepped-dirty s (change.MakeWritable node) = named-dirty (filename_of s.table node) s
 stepped-dirty s (change.StartJob row) = named-dirty (overlay_file s.table row row.kind) s
 stepped-dirty s change.Negotiate = refl
@@ -117,10 +117,10 @@ pub part-dirty : (s : State) (drive : ℕ) (op : Op) (outcome : Outcome) (part :
 part-dirty s drive (Read span) outcome part =
     read-dirty (with_disk (disk_node s.table drive) (done_in (Read span) part (done_by outcome part)) s) drive
 part-dirty s drive (Write span payload) outcome part =
-    let done : State = written (disk_node s.table drive) (with_disk (disk_node s.table drive) (done_in (Write span payload) part (done_by outcome part)) s) in
+    let done : State = node_written (disk_node s.table drive) (with_disk (disk_node s.table drive) (done_in (Write span payload) part (done_by outcome part)) s) in
     rw (note-table done outcome part drive) (note-dirty done outcome part drive)
 part-dirty s drive (Zero span) outcome part =
-    let done : State = written (disk_node s.table drive) (with_disk (disk_node s.table drive) (done_in (Zero span) part (done_by outcome part)) s) in
+    let done : State = node_written (disk_node s.table drive) (with_disk (disk_node s.table drive) (done_in (Zero span) part (done_by outcome part)) s) in
     rw (note-table done outcome part drive) (note-dirty done outcome part drive)
 part-dirty s drive Flush outcome part = refl
 part-dirty s drive (Discard span) outcome part = refl

@@ -14,9 +14,9 @@ use Rattle.blk_graph.specs.Permissions.{node_edge, has_role}
 use Rattle.blk_graph.proofs.Members.{find-Some}
 use Rattle.blk_graph.proofs.EditLemmas.{IsSameEdge}
 use Rattle.qmp_rules.specs.declared.rows.NodeRecord.{NodeRecord}
-use Rattle.qmp_rules.specs.Table.{Table, node_at, child}
+use Rattle.qmp_rules.specs.Table.{RunTable, node_by_id, child}
 use Rattle.qmp_rules.specs.Chains.{filter_role, filtered, disk_from, disk_node}
-use Rattle.qmp_rules.specs.Answers.{untold}
+use Rattle.qmp_rules.specs.Answers.{told_none}
 use Rattle.blk_history.specs.Fold.{With}
 use Rattle.flat_machine.specs.State.{drive_of}
 use Rattle.flat_machine.specs.Machine.{copies_at, copies_through, path, path_from}
@@ -30,7 +30,7 @@ use Rattle.flat_machine.proofs.TableSuited.{settled-free}
 
 -- ---- an overlay, and the node that it is put over
 
-pub record LiesOver (t : Table) (node overlay : NodeRecord) : Type 0 where
+pub record LiesOver (t : RunTable) (node overlay : NodeRecord) : Type 0 where
   pub node_there : Contains t.nodes node
   pub overlay_there : Contains t.nodes overlay
   pub disk : HasDisk node
@@ -41,7 +41,7 @@ pub record LiesOver (t : Table) (node overlay : NodeRecord) : Type 0 where
 -- ---- edges that lead elsewhere
 
 -- an edge of the table, which leads where it led or to the other place; a file edge does that
-pub record LedEdge (t : Table) (to : ℕ → ℕ) (e : Edge) : Type 0 where
+pub record LedEdge (t : RunTable) (to : ℕ → ℕ) (e : Edge) : Type 0 where
   pub edge : Edge
   pub there : Contains t.edges edge
   pub parent : edge.parent ≡ e.parent
@@ -51,7 +51,7 @@ pub record LedEdge (t : Table) (to : ℕ → ℕ) (e : Edge) : Type 0 where
 
 -- Edges into other nodes stay, those into the node lead on or to the overlay, and the overlay may have the node as backing
 -- node.
-pub record Redirects (t : Table) (edges : List Edge) (node overlay : ℕ) (to : ℕ → ℕ) : Type 0 where
+pub record Redirects (t : RunTable) (edges : List Edge) (node overlay : ℕ) (to : ℕ → ℕ) : Type 0 where
   pub others : (c : ℕ) → c ≢ node → to c ≡ c
   pub at_node : (to node ≡ node) ⊎ (to node ≡ overlay)
   pub old : (e : Edge) → Contains edges e → LedEdge t to e ⊎ IsSameEdge (node_edge overlay Backing node) e
@@ -70,28 +70,28 @@ filter-other BeforeWrite role is same = absurd cc
 filter-other Mirror role is same = absurd cc
 filter-other Commit role is same = absurd cc
 
-unfiltered : (t : Table) (row : NodeRecord) → node_at t row.id ≡ Some row → filter_role row.kind ≡ None → filtered t row.id ≡ None
+unfiltered : (t : RunTable) (row : NodeRecord) → node_by_id t row.id ≡ Some row → filter_role row.kind ≡ None → filtered t row.id ≡ None
 unfiltered t row found own = rw (found, own) refl
 
-disk-alone : (more : ℕ) (t : Table) (n : ℕ) → filtered t n ≡ None → disk_from more t n ≡ n
+disk-alone : (more : ℕ) (t : RunTable) (n : ℕ) → filtered t n ≡ None → disk_from more t n ≡ n
 disk-alone zero t n none = refl
 disk-alone (suc more) t n none = from-child more t n None none
 
-path-alone : (more : ℕ) (t : Table) (n : ℕ) (p : ℕ → Bool) → filtered t n ≡ None → list_any p (path_from more t n) ≡ (p n || false)
+path-alone : (more : ℕ) (t : RunTable) (n : ℕ) (p : ℕ → Bool) → filtered t n ≡ None → list_any p (path_from more t n) ≡ (p n || false)
 path-alone zero t n p none = refl
 path-alone (suc more) t n p none = path-child more t n p None none
 
 -- ---- it stays
 
-module _ (t : Table) (es : List Edge) (node overlay : NodeRecord) (to : ℕ → ℕ) (over : LiesOver t node overlay)
+module _ (t : RunTable) (es : List Edge) (node overlay : NodeRecord) (to : ℕ → ℕ) (over : LiesOver t node overlay)
     (r : Redirects t es node.id overlay.id to) (h : TableStands t) where
-  abbrev pub led : Table
+  abbrev pub led : RunTable
   led = record t { edges = es }
 
-  pub node_found : node_at t node.id ≡ Some node
+  pub node_found : node_by_id t node.id ≡ Some node
   node_found = h.apart node over.node_there
 
-  pub overlay_found : node_at t overlay.id ≡ Some overlay
+  pub overlay_found : node_by_id t overlay.id ≡ Some overlay
   overlay_found = h.apart overlay over.overlay_there
 
   pub overlay_named : overlay.filename ≡ None
@@ -145,7 +145,7 @@ module _ (t : Table) (es : List Edge) (node overlay : NodeRecord) (to : ℕ → 
   -- no format node is over the node, which has a flat disk
   pub node_free : IsSome node.filename → (e : Edge) → Contains t.edges e → e.role ≡ File → e.child ≡ node.id → ⊥
   node_free some e there role is =
-      settled-free t untold h node over.node_there over.disk.settled node node_found some
+      settled-free t told_none h node over.node_there over.disk.settled node node_found some
       (record { edge = e; there = there; over = role; child = is })
 
   still_filtered : (over_row under : NodeRecord) → LeadsToFile led over_row under → under.filename ≡ None → IsSome (filter_role over_row.kind)
@@ -207,7 +207,7 @@ module _ (t : Table) (es : List Edge) (node overlay : NodeRecord) (to : ℕ → 
   -- ---- what nodes read as
 
   filtered-led : (n : ℕ) → filtered led n ≡ option_map to (filtered t n)
-  filtered-led n = by_row (node_at t n)
+  filtered-led n = by_row (node_by_id t n)
     where
       by_role : (kind : Kind) (role : Option Role) → filter_role kind ≡ role
           → option_and_then (child led n) role ≡ option_map to (option_and_then (child t n) role)
@@ -296,13 +296,13 @@ module _ (t : Table) (es : List Edge) (node overlay : NodeRecord) (to : ℕ → 
   pub writes_led : (read_only : Bool) (n : ℕ) → n ≢ node.id → writes_through led read_only n ≡ writes_through t read_only n
   writes_led read_only n differ = ap (λ b. not read_only || b) (copies_led n differ)
 
-  reads_led : (n : ℕ) (row : NodeRecord) → node_at t n ≡ Some row → With (node_at t (disk_node led n)) (IsDiskOf led row)
+  reads_led : (n : ℕ) (row : NodeRecord) → node_by_id t n ≡ Some row → With (node_by_id t (disk_node led n)) (IsDiskOf led row)
   reads_led n row found = elim (cases_eq n node.id) [
     | inl is ↦
-        let row_is : row ≡ node = (let at_it = subst (λ m. node_at t m ≡ Some row) is found in let at_node = node_found in cc) in
-        subst (λ m. With (node_at t (disk_node led m)) (IsDiskOf led row)) (sym is)
-        (subst (λ x. With (node_at t (disk_node led node.id)) (IsDiskOf led x)) (sym row_is) (own_reads led node node_found over.disk.own))
-    | inr differ ↦ by_disk differ (node_at t (disk_node t n)) refl (h.reads n row found)
+        let row_is : row ≡ node = (let at_it = subst (λ m. node_by_id t m ≡ Some row) is found in let at_node = node_found in cc) in
+        subst (λ m. With (node_by_id t (disk_node led m)) (IsDiskOf led row)) (sym is)
+        (subst (λ x. With (node_by_id t (disk_node led node.id)) (IsDiskOf led x)) (sym row_is) (own_reads led node node_found over.disk.own))
+    | inr differ ↦ by_disk differ (node_by_id t (disk_node t n)) refl (h.reads n row found)
   ]
     where
       still : n ≢ node.id → (d : NodeRecord) → IsDiskOf t row d → IsDiskOf led row d
@@ -315,20 +315,20 @@ module _ (t : Table) (es : List Edge) (node overlay : NodeRecord) (to : ℕ → 
             writable = λ w. k.writable (sym (writes_led row.read_only row.id (λ same. differ (sym is ∙ same))) ∙ w);
           }
 
-      by_disk : n ≢ node.id → (d : Option NodeRecord) → node_at t (disk_node t n) ≡ d → With d (IsDiskOf t row)
-          → With (node_at t (disk_node led n)) (IsDiskOf led row)
+      by_disk : n ≢ node.id → (d : Option NodeRecord) → node_by_id t (disk_node t n) ≡ d → With d (IsDiskOf t row)
+          → With (node_by_id t (disk_node led n)) (IsDiskOf led row)
       by_disk differ None e k = absurd k
       by_disk differ (Some d) e k = elim (cases_eq (disk_node t n) node.id) [
         | inr other ↦
-            subst (λ m. With (node_at t m) (IsDiskOf led row)) (sym (disk_led n differ ∙ r.others (disk_node t n) other))
-            (with_at (IsDiskOf led row) (node_at t (disk_node t n)) d e (still differ d k))
+            subst (λ m. With (node_by_id t m) (IsDiskOf led row)) (sym (disk_led n differ ∙ r.others (disk_node t n) other))
+            (with_at (IsDiskOf led row) (node_by_id t (disk_node t n)) d e (still differ d k))
         | inl at_it ↦ elim r.at_node [
           | inl on ↦
-              subst (λ m. With (node_at t m) (IsDiskOf led row)) (sym (disk_led n differ ∙ ap to at_it ∙ on ∙ sym at_it))
-              (with_at (IsDiskOf led row) (node_at t (disk_node t n)) d e (still differ d k))
+              subst (λ m. With (node_by_id t m) (IsDiskOf led row)) (sym (disk_led n differ ∙ ap to at_it ∙ on ∙ sym at_it))
+              (with_at (IsDiskOf led row) (node_by_id t (disk_node t n)) d e (still differ d k))
           | inr over_it ↦
-              subst (λ m. With (node_at t m) (IsDiskOf led row)) (sym (disk_led n differ ∙ ap to at_it ∙ over_it))
-              (with_at (IsDiskOf led row) (node_at t overlay.id) overlay overlay_found
+              subst (λ m. With (node_by_id t m) (IsDiskOf led row)) (sym (disk_led n differ ∙ ap to at_it ∙ over_it))
+              (with_at (IsDiskOf led row) (node_by_id t overlay.id) overlay overlay_found
               (record {
                 own = overlay_own;
                 itself = λ some. absurd (let bad = subst IsSome overlay_named some in cc);
@@ -347,24 +347,24 @@ module _ (t : Table) (es : List Edge) (node overlay : NodeRecord) (to : ℕ → 
     | inl l ↦ record {
       parent = λ n is. (h.edges l.edge l.there).parent n (l.parent ∙ is);
       child = elim l.leads [
-        | inl same ↦ subst (λ n. IsSome (node_at t n)) (sym same) (h.edges l.edge l.there).child
-        | inr moved ↦ subst (λ n. IsSome (node_at t n)) (sym moved) (to_there l.edge l.there)
+        | inl same ↦ subst (λ n. IsSome (node_by_id t n)) (sym same) (h.edges l.edge l.there).child
+        | inr moved ↦ subst (λ n. IsSome (node_by_id t n)) (sym moved) (to_there l.edge l.there)
       ];
     }
     | inr own ↦ record {
       parent = λ n is.
           let same : overlay.id ≡ n = (let both = own.parent ∙ is in cc) in
-          subst (λ m. IsSome (node_at t m)) same (subst IsSome (sym overlay_found) refl);
-      child = subst (λ m. IsSome (node_at t m)) own.child (subst IsSome (sym node_found) refl);
+          subst (λ m. IsSome (node_by_id t m)) same (subst IsSome (sym overlay_found) refl);
+      child = subst (λ m. IsSome (node_by_id t m)) own.child (subst IsSome (sym node_found) refl);
     }
   ]
     where
-      to_there : (edge : Edge) → Contains t.edges edge → IsSome (node_at t (to edge.child))
+      to_there : (edge : Edge) → Contains t.edges edge → IsSome (node_by_id t (to edge.child))
       to_there edge there = elim (cases_eq edge.child node.id) [
-        | inr other ↦ subst (λ n. IsSome (node_at t n)) (sym (r.others edge.child other)) (h.edges edge there).child
-        | inl at_it ↦ subst (λ n. IsSome (node_at t (to n))) (sym at_it) (elim r.at_node [
-          | inl on ↦ subst (λ n. IsSome (node_at t n)) (sym on) (subst IsSome (sym node_found) refl)
-          | inr over_it ↦ subst (λ n. IsSome (node_at t n)) (sym over_it) (subst IsSome (sym overlay_found) refl)
+        | inr other ↦ subst (λ n. IsSome (node_by_id t n)) (sym (r.others edge.child other)) (h.edges edge there).child
+        | inl at_it ↦ subst (λ n. IsSome (node_by_id t (to n))) (sym at_it) (elim r.at_node [
+          | inl on ↦ subst (λ n. IsSome (node_by_id t n)) (sym on) (subst IsSome (sym node_found) refl)
+          | inr over_it ↦ subst (λ n. IsSome (node_by_id t n)) (sym over_it) (subst IsSome (sym overlay_found) refl)
         ])
       ]
 

@@ -10,11 +10,11 @@ use Rattle.blk_graph.specs.declared.kind.Kind.{Kind}
 use Rattle.blk_graph.specs.declared.kind.Kind.TheVariants.{Protocol, Raw, Qcow2, CopyOnRead, BeforeWrite, Mirror, Commit}
 use Rattle.qmp_rules.specs.declared.rows.NodeRecord.{NodeRecord}
 use Rattle.qmp_rules.specs.declared.rows.Device.{Device}
-use Rattle.qmp_rules.specs.Table.{node_at, child}
+use Rattle.qmp_rules.specs.Table.{node_by_id, child}
 use Rattle.qmp_rules.specs.Chains.{disk_node}
 use Rattle.blk_history.specs.Fold.{With}
 use Rattle.flat_machine.specs.State.{State, Disk, Left, filename_of, drive_of}
-use Rattle.flat_machine.specs.Changed.{file_of}
+use Rattle.flat_machine.specs.Changed.{own_filename}
 use Rattle.flat_machine.specs.Agreement.{HasDisk}
 use Rattle.flat_machine.specs.Writing.{IsGuestWritable, written_file}
 use Rattle.flat_machine.specs.Wiring.{StandsFor, IsUnder, writes_through}
@@ -67,7 +67,7 @@ module _ (s : State) (es : List Edge) (node overlay : NodeRecord) (to : ℕ → 
 
   -- no node writes another file than before
   pub file_before : (n : ℕ) (name : List ℕ) → written_file led_state.table n ≡ Some name → written_file s.table n ≡ Some name
-  file_before n name = by_row (node_at s.table n)
+  file_before n name = by_row (node_by_id s.table n)
     where
       under : (found : Option ℕ) → option_and_then (filename_of s.table) (option_map to found) ≡ Some name
           → option_and_then (filename_of s.table) found ≡ Some name
@@ -88,7 +88,7 @@ module _ (s : State) (es : List Edge) (node overlay : NodeRecord) (to : ℕ → 
           → option_and_then (filename_of s.table) (child s.table id File) ≡ Some name
       below id is = under (child s.table id File) (ap (option_and_then (filename_of s.table)) (sym (r.children id File (λ same. absurd cc))) ∙ is)
 
-      by_kind : (row : NodeRecord) (kind : Kind) → file_of led_state.table row kind ≡ Some name → file_of s.table row kind ≡ Some name
+      by_kind : (row : NodeRecord) (kind : Kind) → own_filename led_state.table row kind ≡ Some name → own_filename s.table row kind ≡ Some name
       by_kind row Protocol is = is
       by_kind row Raw is = below row.id is
       by_kind row Qcow2 is = below row.id is
@@ -97,8 +97,8 @@ module _ (s : State) (es : List Edge) (node overlay : NodeRecord) (to : ℕ → 
       by_kind row Mirror is = is
       by_kind row Commit is = is
 
-      by_row : (found : Option NodeRecord) → option_and_then (λ row. file_of led_state.table row row.kind) found ≡ Some name
-          → option_and_then (λ row. file_of s.table row row.kind) found ≡ Some name
+      by_row : (found : Option NodeRecord) → option_and_then (λ row. own_filename led_state.table row row.kind) found ≡ Some name
+          → option_and_then (λ row. own_filename s.table row row.kind) found ≡ Some name
       by_row None is = is
       by_row (Some row) is = by_kind row row.kind is
 
@@ -112,7 +112,7 @@ module _ (s : State) (es : List Edge) (node overlay : NodeRecord) (to : ℕ → 
   }
     where
       by_child : (below : Option ℕ) → child s.table n File ≡ below → (file : ℕ) (row : NodeRecord) → option_map to below ≡ Some file
-          → node_at s.table file ≡ Some row → HasDisk row → ⊥
+          → node_by_id s.table file ≡ Some row → HasDisk row → ⊥
       by_child None e file row is found has = absurd cc
       by_child (Some c) e file row is found has = elim (cases_eq c node.id) [
         | inr other ↦

@@ -27,21 +27,21 @@ use Rattle.qmp_rules.specs.declared.change.Change.TheVariants as change
 use Rattle.qmp_rules.specs.declared.rows.NodeRecord.{NodeRecord}
 use Rattle.qmp_rules.specs.declared.rows.Device.{Device}
 use Rattle.qmp_rules.specs.declared.told.Told.{Told}
-use Rattle.qmp_rules.specs.Table.{Table, device_at, file_state, child, has_name}
-use Rattle.qmp_rules.specs.Chains.{filter_role, disk_node, chain, chain_from, backing, has_id, below, is_over, unsettled_over, written_under}
+use Rattle.qmp_rules.specs.Table.{RunTable, device_by_number, file_state, child, has_name}
+use Rattle.qmp_rules.specs.Chains.{filter_role, disk_node, chain, chain_from, backing, is_listed, chain_below, is_over, unsettled_over, written_under}
 use Rattle.qmp_rules.specs.Changes.{all_changed}
 use Rattle.qmp_rules.specs.Edits.{spoiled, file_of_node}
 use Rattle.qmp_rules.specs.declared.refusal.Refusal.{Refusal}
 use Rattle.qmp_rules.specs.Refusals.{refusal_text, refusal_class}
-use Rattle.qmp_rules.specs.Answers.{refusal_of, command_edits, answer, answer_by, answer_for, line_answer, line_text, reply_data}
+use Rattle.qmp_rules.specs.Answers.{refusal_to, command_edits, answer, answer_by, answer_for, line_answer, line_text, answer_data}
 use Rattle.blk_history.specs.Disk.{done_in, is_write}
 use Rattle.blk_history.specs.Machine.{done_by}
 use Rattle.flat_machine.specs.State.{State, Disk, Unknown, content_in, drive_of}
 use Rattle.flat_machine.specs.Changed.{stepped, all_stepped}
-use Rattle.flat_machine.specs.Machine.{disk_changed, with_disk, written, with_part, note, noted, is_noted, path, read_through, copies_through}
+use Rattle.flat_machine.specs.Machine.{disk_changed, with_disk, node_written, with_part, note, noted, is_noted, path, read_through, copies_through}
 use Rattle.flat_machine.specs.Jobs.{unsure}
-use Rattle.flat_machine.specs.Sights.{IsTold, told_by, MayStop, expected}
-use Rattle.flat_machine.specs.Replies.{replied, edits_by, failed_edits, is_accepted, is_failure, desc_of, is_failed_call, command_in, IsToldOf, IsAnswer}
+use Rattle.flat_machine.specs.Sights.{IsTold, told_for, MayStop, expected}
+use Rattle.flat_machine.specs.Replies.{replied, edits_by, failed_edits, is_accepted, tells_failure, desc_of, is_failed_call, command_read, IsToldOf, IsAnswer}
 use Rattle.flat_machine.specs.Writing.{IsGuestWritable, CanWrite}
 use Rattle.flat_machine.specs.Wiring.{StandsFor, IsUnder, InlineAreUnder, TableStands, TableAtRest}
 use Rattle.flat_machine.specs.Standing.{HasBytes, IsLostBy, IsOfState, IsUsedUp, MayGuestWrite, Stands, StandsAtRest}
@@ -69,8 +69,8 @@ stepped_table (c ∷ changes) s = stepped_table changes (stepped s c)
 table_rests : (s : State) → StandsAtRest s → TableAtRest s.table
 table_rests s h = record { stands = h.stands.table; inline = h.inline }
 
-pub accepted_rests : (s : State) (told exp : Told) (c : Cmd) → StandsAtRest s → MayStop s c (told_by s c).stopped told.stopped
-    → refusal_of s.table told c ≡ None → StandsAtRest (all_stepped s (command_edits s.table exp c))
+pub accepted_rests : (s : State) (told exp : Told) (c : Cmd) → StandsAtRest s → MayStop s c (told_for s c).stopped told.stopped
+    → refusal_to s.table told c ≡ None → StandsAtRest (all_stepped s (command_edits s.table exp c))
 accepted_rests s told exp c h may quiet = record {
   stands = all_stand (command_edits s.table exp c) s (accepted_suits s told exp c h may quiet) h.stands;
   inline = subst InlineAreUnder (sym (stepped_table (command_edits s.table exp c) s))
@@ -79,7 +79,7 @@ accepted_rests s told exp c h may quiet = record {
 
 -- that of an accepted command
 pub reply_rests : (s : State) (told : Told) (c : Cmd) (given text : List ℕ) (id : Option Data) (d : Data) → command_at given ≡ Ok c
-    → StandsAtRest s → IsTold s c told → refusal_of s.table told c ≡ None → read text ≡ Some (returned_data id d)
+    → StandsAtRest s → IsTold s c told → refusal_to s.table told c ≡ None → read text ≡ Some (returned_data id d)
     → StandsAtRest (replied s given text)
 reply_rests s told c given text id d line h is_told quiet reads =
     let edits : edits_by s text (command_at given) ≡ command_edits s.table told c =
@@ -128,7 +128,7 @@ answer_rests s given command text h a = by_line (command_at given) refl a.is_tol
   where
     -- one that isn't read as a result stands for no more than a failed call's changes
     unread : (c : Cmd) → is_accepted text ≡ false → StandsAtRest (all_stepped s (edits_by s text (Ok c)))
-    unread c e = subst (λ b. StandsAtRest (all_stepped s (edits b (is_failure text)))) (sym e) (by_failure (is_failure text))
+    unread c e = subst (λ b. StandsAtRest (all_stepped s (edits b (tells_failure text)))) (sym e) (by_failure (tells_failure text))
       where
         edits : Bool → Bool → List Change
         edits accepted failed = if accepted then command_edits s.table (expected s c) c else if failed then failed_edits s.table c else []
@@ -138,26 +138,26 @@ answer_rests s given command text h a = by_line (command_at given) refl a.is_tol
         by_failure false = h
 
     by_refusal : (c : Cmd) → command_at given ≡ Ok c → IsTold s c a.told → (b : Bool) → is_accepted text ≡ b
-        → (cause : Option Refusal) → refusal_of s.table a.told c ≡ cause
-        → text ≡ compact_text (reply_data (id_at given) (answer_by s.table a.told c cause).reply)
+        → (cause : Option Refusal) → refusal_to s.table a.told c ≡ cause
+        → text ≡ compact_text (answer_data (id_at given) (answer_by s.table a.told c cause).reply)
         → StandsAtRest (all_stepped s (edits_by s text (Ok c)))
     by_refusal c line is_told false e cause quiet is = unread c e
     by_refusal c line is_told true e None quiet is =
         subst (λ b. StandsAtRest (all_stepped s (edits b))) (sym e) (accepted_rests s a.told (expected s c) c h is_told.refusal quiet)
       where
         edits : Bool → List Change
-        edits b = if b then command_edits s.table (expected s c) c else if is_failure text then failed_edits s.table c else []
+        edits b = if b then command_edits s.table (expected s c) c else if tells_failure text then failed_edits s.table c else []
     by_refusal c line is_told true e (Some cause) quiet is =
         let no = not_accepted given (refusal_class cause) (refusal_text cause) in
         let yes = subst (λ t. is_accepted t ≡ true) is e in
         absurd cc
 
-    by_line : (c : Result Cmd Stop) → command_at given ≡ c → IsToldOf s (command_in c) a.told
-        → text ≡ compact_text (reply_data (id_at given) (answer_for s.table a.told given c).reply) → StandsAtRest (replied s given text)
+    by_line : (c : Result Cmd Stop) → command_at given ≡ c → IsToldOf s (command_read c) a.told
+        → text ≡ compact_text (answer_data (id_at given) (answer_for s.table a.told given c).reply) → StandsAtRest (replied s given text)
     by_line (Err why) line is_told is = subst StandsAtRest (sym (no_command s given text why line)) h
     by_line (Ok c) line is_told is =
         subst (λ x. StandsAtRest (all_stepped s (edits_by s text x))) (sym line)
-        (by_refusal c line is_told (is_accepted text) refl (refusal_of s.table a.told c) refl is)
+        (by_refusal c line is_told (is_accepted text) refl (refusal_to s.table a.told c) refl is)
 
 -- ---- pieces
 
@@ -259,17 +259,17 @@ bytes_changed node n f disks some =
     still (Some d) h = refl
 
 -- a node without a backing node is over none
-chain-alone : (t : Table) (id : ℕ) → backing t id ≡ None → chain t id ≡ id ∷ []
+chain-alone : (t : RunTable) (id : ℕ) → backing t id ≡ None → chain t id ≡ id ∷ []
 unfolding chain
 chain-alone t id none = from_one 63
   where
     from_one : (more : ℕ) → chain_from (suc more) t id ≡ id ∷ []
     from_one more = ap (λ b. id ∷ (elim b as (λ _. List ℕ) [ None ↦ [] | Some under ↦ chain_from more t under ])) none
 
-file-not-over : (t : Table) (node : ℕ) (row : NodeRecord) → TableStands t → Contains t.nodes row → row.kind ≡ Protocol → is_over t node row.id ≡ false
+file-not-over : (t : RunTable) (node : ℕ) (row : NodeRecord) → TableStands t → Contains t.nodes row → row.kind ≡ Protocol → is_over t node row.id ≡ false
 file-not-over t node row h there driver =
     let here : disk_node t row.id ≡ row.id = own_disk t row.id row (h.apart row there) (ap filter_role driver) in
-    ap (λ n. has_id node (below t n)) here ∙ ap (λ ids. has_id node (drop 1 ids)) (chain-alone t row.id (no_backing (child t row.id Backing) refl))
+    ap (λ n. is_listed node (chain_below t n)) here ∙ ap (λ ids. is_listed node (drop 1 ids)) (chain-alone t row.id (no_backing (child t row.id Backing) refl))
   where
     no_backing : (found : Option ℕ) → child t row.id Backing ≡ found → option_map (disk_node t) (child t row.id Backing) ≡ None
     no_backing None e = ap (option_map (disk_node t)) e
@@ -279,7 +279,7 @@ file-not-over t node row h there driver =
         let never : has_role Protocol Backing ≡ true = subst (λ r. has_role Protocol r ≡ true) to.role_is (subst (λ k. has_role k to.edge.role ≡ true) driver role) in
         absurd cc
 
-written_stands : (s : State) (node : ℕ) → StandsAtRest s → StandsAtRest (written node s)
+written_stands : (s : State) (node : ℕ) → StandsAtRest s → StandsAtRest (node_written node s)
 unfolding written_under
 written_stands s node h = record {
   stands = lessened_stands s now rows refl refl refl refl refl refl refl (λ n some. some) keeps h.stands;
@@ -287,7 +287,7 @@ written_stands s node h = record {
 }
   where
     now : State
-    now = written node s
+    now = node_written node s
 
     rows : SameRows s.table now.table
     rows = rows-mapped s.table now.table (unsettled_over s.table node) (like_over s.table node) refl h.stands.table.apart
@@ -335,17 +335,17 @@ piece_rests s drive op outcome part h = by_op op
     by_op : (op : Op) → StandsAtRest (with_part drive op outcome part s)
     by_op (Read span) = read_rests (done (Read span)) drive (done_rests (Read span))
     by_op (Write span payload) =
-        note_rests (written node (done (Write span payload))) outcome part drive
+        note_rests (node_written node (done (Write span payload))) outcome part drive
         (written_stands (done (Write span payload)) node (done_rests (Write span payload)))
     by_op (Zero span) =
-        note_rests (written node (done (Zero span))) outcome part drive (written_stands (done (Zero span)) node (done_rests (Zero span)))
+        note_rests (node_written node (done (Zero span))) outcome part drive (written_stands (done (Zero span)) node (done_rests (Zero span)))
     by_op (Discard span) = done_rests (Discard span)
     by_op Flush = done_rests Flush
 
 -- ---- guests
 
 -- a guest whose device may write can write what it asks for
-pub guest_can : (s : State) (g : ℕ) (device : Device) (drive : ℕ) (op : Op) → StandsAtRest s → device_at s.table g ≡ Some device
+pub guest_can : (s : State) (g : ℕ) (device : Device) (drive : ℕ) (op : Op) → StandsAtRest s → device_by_number s.table g ≡ Some device
     → drive_of s.table g ≡ Some drive → (is_write op ≡ true → device.read_only ≡ false) → CanWrite s drive op
 guest_can s g device drive op h found is writes = by_op op writes
   where

@@ -8,7 +8,7 @@ use Rattle.blk_graph.specs.declared.kind.NodeKind.{NodeKind}
 use Rattle.blk_graph.specs.Refreshed.{refreshed}
 use Rattle.blk_graph.proofs.Members.{Contains-map, map-Contains, find-Some}
 use Rattle.qmp_rules.specs.declared.rows.NodeRecord.{NodeRecord}
-use Rattle.qmp_rules.specs.Table.{Table, node_at}
+use Rattle.qmp_rules.specs.Table.{RunTable, node_by_id}
 use Rattle.qmp_rules.specs.Changes.{node_changed, unsettled, lost_with, stands_over}
 use Rattle.qmp_rules.specs.Chains.{filtered, disk_from, disk_node, is_over, unsettled_over}
 use Rattle.flat_machine.specs.Machine.{path_from, path, copies_at, is_copying, copies_through}
@@ -29,18 +29,18 @@ under-before kinds edges file h =
     record { edge = like.edge; there = like.there; over = like.same.role ∙ h.over; child = like.same.child ∙ h.child }
 
 -- a table whose edges, before that, have their ends in it
-pub ends-refreshed : (t : Table) (kinds : List NodeKind) (edges : List Edge) → t.edges ≡ refreshed kinds edges
+pub ends-refreshed : (t : RunTable) (kinds : List NodeKind) (edges : List Edge) → t.edges ≡ refreshed kinds edges
     → ((e : Edge) → Contains edges e → HasEnds t e) → EdgesHaveEnds t
 ends-refreshed t kinds edges is h e there =
     let like = refreshed-old kinds edges e (subst (λ es. Contains es e) is there) in
     let ends = h like.edge like.there in
     record {
       parent = λ node k. ends.parent node (like.same.parent ∙ k);
-      child = subst (λ n. IsSome (node_at t n)) like.same.child ends.child;
+      child = subst (λ n. IsSome (node_by_id t n)) like.same.child ends.child;
     }
 
 -- nodes that are there stay
-pub ends-longer : (t now : Table) (e : Edge) → ((node : ℕ) → IsSome (node_at t node) → IsSome (node_at now node)) → HasEnds t e → HasEnds now e
+pub ends-longer : (t now : RunTable) (e : Edge) → ((node : ℕ) → IsSome (node_by_id t node) → IsSome (node_by_id now node)) → HasEnds t e → HasEnds now e
 ends-longer t now e more h = record { parent = λ node k. more node (h.parent node k); child = more e.child h.child }
 
 -- ---- rows that stay, but for their disks
@@ -65,13 +65,13 @@ like-itself row = record {
   settled = λ h. h;
 }
 
-pub record SameRows (t now : Table) : Type 0 where
+pub record SameRows (t now : RunTable) : Type 0 where
   pub back : (later : NodeRecord) → Contains now.nodes later → (row : NodeRecord) × (Contains t.nodes row × IsLike row later)
   pub forth : (row : NodeRecord) → Contains t.nodes row → (later : NodeRecord) × (Contains now.nodes later × IsLike row later)
   pub apart : AreApart now
-  pub there : (node : ℕ) → IsSome (node_at t node) → IsSome (node_at now node)
+  pub there : (node : ℕ) → IsSome (node_by_id t node) → IsSome (node_by_id now node)
 
-pub rows-same : (t now : Table) → now.nodes ≡ t.nodes → AreApart t → SameRows t now
+pub rows-same : (t now : RunTable) → now.nodes ≡ t.nodes → AreApart t → SameRows t now
 rows-same t now is apart = record {
   back = λ row there. (row, (subst (λ rows. Contains rows row) is there, like-itself row));
   forth = λ row there. (row, (subst (λ rows. Contains rows row) (sym is) there, like-itself row));
@@ -80,7 +80,7 @@ rows-same t now is apart = record {
   there = λ node h. subst (λ rows. IsSome (find (λ r. r.id == node) rows)) (sym is) h;
 }
 
-pub rows-mapped : (t now : Table) (f : NodeRecord → NodeRecord) → ((row : NodeRecord) → IsLike row (f row)) → now.nodes ≡ map f t.nodes → AreApart t
+pub rows-mapped : (t now : RunTable) (f : NodeRecord → NodeRecord) → ((row : NodeRecord) → IsLike row (f row)) → now.nodes ≡ map f t.nodes → AreApart t
     → SameRows t now
 rows-mapped t now f like is apart = record {
   back = λ later there.
@@ -91,12 +91,12 @@ rows-mapped t now f like is apart = record {
       let from = Contains-map f t.nodes later (subst (λ rows. Contains rows later) is there) in
       let same_id : later.id ≡ from.0.id = ap (λ r. r.id) from.2 ∙ (like from.0).id in
       subst (λ rows. find (λ r. r.id == later.id) rows ≡ Some later) (sym is)
-      (found later.id ∙ ap (option_map f) (subst (λ n. node_at t n ≡ Some from.0) (sym same_id) (apart from.0 from.1)) ∙ ap Some (sym from.2));
+      (found later.id ∙ ap (option_map f) (subst (λ n. node_by_id t n ≡ Some from.0) (sym same_id) (apart from.0 from.1)) ∙ ap Some (sym from.2));
   there = λ node h. subst (λ rows. IsSome (find (λ r. r.id == node) rows)) (sym is)
-      (subst IsSome (sym (found node)) (still (node_at t node) h));
+      (subst IsSome (sym (found node)) (still (node_by_id t node) h));
 }
   where
-    found : (node : ℕ) → find (λ r. r.id == node) (map f t.nodes) ≡ option_map f (node_at t node)
+    found : (node : ℕ) → find (λ r. r.id == node) (map f t.nodes) ≡ option_map f (node_by_id t node)
     found node = find-map (λ r. r.id == node) f (λ r. ap (λ k. k == node) (like r).id) t.nodes
 
     still : (o : Option NodeRecord) → IsSome o → IsSome (option_map f o)
@@ -104,14 +104,14 @@ rows-mapped t now f like is apart = record {
     still (Some row) h = refl
 
 -- rows of one id are one row
-pub same_row : (t : Table) → AreApart t → (row later : NodeRecord) → Contains t.nodes row → Contains t.nodes later → later.id ≡ row.id → later ≡ row
+pub same_row : (t : RunTable) → AreApart t → (row later : NodeRecord) → Contains t.nodes row → Contains t.nodes later → later.id ≡ row.id → later ≡ row
 same_row t apart row later there there_later same =
     let a = apart row there in
-    let b = subst (λ n. node_at t n ≡ Some later) same (apart later there_later) in
+    let b = subst (λ n. node_by_id t n ≡ Some later) same (apart later there_later) in
     cc
 
 -- a row of changed ones is that of the row with its id
-pub changed_row : (t : Table) (f : NodeRecord → NodeRecord) → ((row : NodeRecord) → IsLike row (f row)) → AreApart t → (row later : NodeRecord)
+pub changed_row : (t : RunTable) (f : NodeRecord → NodeRecord) → ((row : NodeRecord) → IsLike row (f row)) → AreApart t → (row later : NodeRecord)
     → Contains t.nodes row → Contains (map f t.nodes) later → later.id ≡ row.id → later ≡ f row
 changed_row t f like apart row later there there_later same =
     let from = Contains-map f t.nodes later there_later in
@@ -145,7 +145,7 @@ like_unsettled id row = by_test (row.id == id)
     by_test true = like-unsettled row
     by_test false = like-itself row
 
-pub like_over : (t : Table) (node : ℕ) (row : NodeRecord) → IsLike row (unsettled_over t node row)
+pub like_over : (t : RunTable) (node : ℕ) (row : NodeRecord) → IsLike row (unsettled_over t node row)
 like_over t node row = by_test (is_over t node row.id)
   where
     by_test : (b : Bool) → IsLike row (cond b (unsettled row) row)
@@ -164,17 +164,17 @@ kept_unsettled id row differ = let no_match : (row.id == id) ≡ false = ne_eqb 
 -- ---- a node before and after
 
 -- its row, and what is left of it
-pub record BothAt (t now : Table) (node : ℕ) : Type 0 where
+pub record BothAt (t now : RunTable) (node : ℕ) : Type 0 where
   pub row : NodeRecord
   pub later : NodeRecord
-  pub found : node_at t node ≡ Some row
-  pub found_later : node_at now node ≡ Some later
+  pub found : node_by_id t node ≡ Some row
+  pub found_later : node_by_id now node ≡ Some later
   pub like : IsLike row later
 
-pub stays-at : (t now : Table) → SameRows t now → (node : ℕ) → IsSome (node_at t node) → BothAt t now node
-stays-at t now rows node some = by_row (node_at t node) refl some
+pub stays-at : (t now : RunTable) → SameRows t now → (node : ℕ) → IsSome (node_by_id t node) → BothAt t now node
+stays-at t now rows node some = by_row (node_by_id t node) refl some
   where
-    by_row : (found : Option NodeRecord) → node_at t node ≡ found → IsSome found → BothAt t now node
+    by_row : (found : Option NodeRecord) → node_by_id t node ≡ found → IsSome found → BothAt t now node
     by_row None e h = absurd cc
     by_row (Some row) e h =
         let here = find-Some (λ r. r.id == node) t.nodes row e in
@@ -184,28 +184,28 @@ stays-at t now rows node some = by_row (node_at t node) refl some
           row = row;
           later = later.0;
           found = e;
-          found_later = subst (λ n. node_at now n ≡ Some later.0) is (rows.apart later.0 later.1.0);
+          found_later = subst (λ n. node_by_id now n ≡ Some later.0) is (rows.apart later.0 later.1.0);
           like = later.1.1;
         }
 
 -- ---- what a node reads as
 
-pub from-child : (more : ℕ) (t : Table) (node : ℕ) (below : Option ℕ) → filtered t node ≡ below
+pub from-child : (more : ℕ) (t : RunTable) (node : ℕ) (below : Option ℕ) → filtered t node ≡ below
     → disk_from (suc more) t node ≡ elim below as (λ _. ℕ) [ None ↦ node | Some child ↦ disk_from more t child ]
 from-child more t node below e = ap (λ b. elim b as (λ _. ℕ) [ None ↦ node | Some child ↦ disk_from more t child ]) e
 
-pub path-child : (more : ℕ) (t : Table) (node : ℕ) (p : ℕ → Bool) (below : Option ℕ) → filtered t node ≡ below
+pub path-child : (more : ℕ) (t : RunTable) (node : ℕ) (p : ℕ → Bool) (below : Option ℕ) → filtered t node ≡ below
     → list_any p (path_from (suc more) t node)
     ≡ (p node || elim below as (λ _. Bool) [ None ↦ false | Some child ↦ list_any p (path_from more t child) ])
 path-child more t node p None e = rw (e, path_from) refl
 path-child more t node p (Some child) e = rw (e, path_from) refl
 
 -- whether a node copies what is read
-pub copies-at : (t : Table) (node : ℕ) (row : NodeRecord) → node_at t node ≡ Some row → copies_at t node ≡ is_copying row.kind
+pub copies-at : (t : RunTable) (node : ℕ) (row : NodeRecord) → node_by_id t node ≡ Some row → copies_at t node ≡ is_copying row.kind
 copies-at t node row e = ap (λ o. elim o as (λ _. Bool) [ None ↦ false | Some r ↦ is_copying r.kind ]) e
 
 -- Nodes whose filters lead on among each other, and are the same in both tables, read as the same nodes in both.
-module _ (t now : Table) (P : ℕ → Type 0) (same : (node : ℕ) → P node → filtered now node ≡ filtered t node)
+module _ (t now : RunTable) (P : ℕ → Type 0) (same : (node : ℕ) → P node → filtered now node ≡ filtered t node)
     (goes : (node child : ℕ) → P node → filtered t node ≡ Some child → P child) where
   disk_from-same : (more node : ℕ) → P node → disk_from more now node ≡ disk_from more t node
   disk_from-same zero node here = refl

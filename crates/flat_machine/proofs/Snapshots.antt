@@ -17,7 +17,7 @@ use Rattle.qmp_rules.specs.declared.change.Change.{Change}
 use Rattle.qmp_rules.specs.declared.change.Change.TheVariants as change
 use Rattle.qmp_rules.specs.declared.rows.NodeRecord.{NodeRecord}
 use Rattle.qmp_rules.specs.declared.told.Told.{Told}
-use Rattle.qmp_rules.specs.Table.{Table, node_named, child, kinds_of}
+use Rattle.qmp_rules.specs.Table.{RunTable, node_named, child, kinds_of}
 use Rattle.qmp_rules.specs.Asks.{holds, takes}
 use Rattle.qmp_asks.specs.NodeAsks.{snapshot_values, snapshot_names, snapshot_rest}
 use Rattle.qmp_rules.specs.Edits.{snapshot_edits}
@@ -36,7 +36,7 @@ use Rattle.flat_machine.proofs.Covered.{staying, attached, moving, moved}
 -- ---- its nodes
 
 -- the node and the overlay: that is fit to be put over it, has no parent and no backing node, and a disk of the same size
-pub record AreSnapshot (t : Table) (c : Snapshot (List ℕ)) : Type 0 where
+pub record AreSnapshot (t : RunTable) (c : Snapshot (List ℕ)) : Type 0 where
   pub node : NodeRecord
   pub overlay : NodeRecord
   pub node_is : node_named t c.node ≡ Some node
@@ -56,7 +56,7 @@ is_image BeforeWrite h = absurd cc
 is_image Mirror h = absurd cc
 is_image Commit h = absurd cc
 
-module _ (t : Table) (told : Told) where
+module _ (t : RunTable) (told : Told) where
   bare-node : (name : List ℕ) (row : NodeRecord) → node_named t name ≡ Some row → holds t told (ask.NoBacking name) ≡ None
       → child t row.id Backing ≡ None
   unfolding holds
@@ -72,7 +72,7 @@ module _ (t : Table) (told : Told) where
   equal-nodes first second a b found_a found_b h =
       eqb-true a.size b.size (not-false (a.size == b.size) (not-refused _ _ (rw (found_a, found_b) at h)))
 
-pub snapshot_nodes : (t : Table) (told : Told) (c : Snapshot (List ℕ)) → TableStands t
+pub snapshot_nodes : (t : RunTable) (told : Told) (c : Snapshot (List ℕ)) → TableStands t
     → NoneHolds t told (snapshot_values c ++ snapshot_names c ++ snapshot_rest c) → AreSnapshot t c
 snapshot_nodes t told c h asks =
     by_rows (found-named t told c.node asks.1.1.1.0) (found-named t told c.overlay asks.1.1.1.1.0)
@@ -126,17 +126,17 @@ snapshot_nodes t told c h asks =
 
 -- ---- tables after its changes
 
-module _ (t : Table) (node overlay : NodeRecord) (over : LiesOver t node overlay) (bare : child t overlay.id Backing ≡ None) (h : TableStands t) where
+module _ (t : RunTable) (node overlay : NodeRecord) (over : LiesOver t node overlay) (bare : child t overlay.id Backing ≡ None) (h : TableStands t) where
   abbrev pub attached_edges : List Edge
   attached_edges = refreshed (kinds_of t.nodes) (with_edge (node_edge overlay.id Backing node.id) t.edges)
 
-  abbrev pub attached_table : Table
+  abbrev pub attached_table : RunTable
   attached_table = record t { edges = attached_edges }
 
   abbrev pub covered_edges : List Edge
   covered_edges = refreshed (kinds_of t.nodes) (with_replaced node.id overlay.id (Some (Node overlay.id)) attached_edges)
 
-  abbrev pub covered_table : Table
+  abbrev pub covered_table : RunTable
   covered_table = record t { edges = covered_edges }
 
   pub attached_stands : TableStands attached_table
@@ -171,11 +171,11 @@ module _ (t : Table) (node overlay : NodeRecord) (over : LiesOver t node overlay
 
 -- ---- the command
 
-pub edits_are : (t : Table) (c : Snapshot (List ℕ)) (of : AreSnapshot t c)
+pub edits_are : (t : RunTable) (c : Snapshot (List ℕ)) (of : AreSnapshot t c)
     → snapshot_edits t c ≡ change.Attach of.overlay.id of.node.id ∷ change.Move of.node.id of.overlay.id of.overlay.id ∷ []
 edits_are t c of = rw (of.node_is, of.overlay_is) refl
 
-pub snapshot_rests : (t : Table) (told : Told) (c : Snapshot (List ℕ)) → NoneHolds t told (snapshot_values c ++ snapshot_names c ++ snapshot_rest c)
+pub snapshot_rests : (t : RunTable) (told : Told) (c : Snapshot (List ℕ)) → NoneHolds t told (snapshot_values c ++ snapshot_names c ++ snapshot_rest c)
     → TableAtRest t → AllTableSuit t (snapshot_edits t c) × TableAtRest (all_changed t (snapshot_edits t c))
 snapshot_rests t told c asks h =
     let of = snapshot_nodes t told c h.stands asks in

@@ -21,11 +21,11 @@ use Rattle.qmp_rules.specs.declared.rows.FileState.{FileState}
 use Rattle.qmp_rules.specs.declared.rows.FileState.TheVariants.{Made, Formatted, Used}
 use Rattle.qmp_rules.specs.declared.change.Change.{Change}
 use Rattle.qmp_rules.specs.declared.change.Change.TheVariants as change
-use Rattle.qmp_rules.specs.Table.{Table, node_at, file_state, has_name, kinds_of}
-use Rattle.qmp_rules.specs.Changes.{changed, node_changed, unsettled, with_unsettled, without_row, format_edges, backed, device_edge}
+use Rattle.qmp_rules.specs.Table.{RunTable, node_by_id, file_state, has_name, kinds_of}
+use Rattle.qmp_rules.specs.Changes.{changed, node_changed, unsettled, with_unsettled, without_record, with_format_edges, with_backing_edge, device_edge}
 use Rattle.flat_machine.specs.State.{State, Content, Unknown, content_in, filename_of}
 use Rattle.flat_machine.specs.Contents.{with_content, mapped_in}
-use Rattle.flat_machine.specs.Changed.{stepped, all_stepped, know_if, content_under, format_bytes, left_disk}
+use Rattle.flat_machine.specs.Changed.{stepped, all_stepped, know_if, content_under, bytes_by_format, left_disk}
 use Rattle.flat_machine.specs.Wiring.{StandsFor, IsUnder, TableStands}
 use Rattle.flat_machine.specs.Standing.{IsLostBy, IsOfState, IsOpenlyKnown, FilesAreOfState, IsUsedUp, WritingStands, Stands}
 use Rattle.flat_machine.specs.Suiting.{IsThere, FileSuits, FormatSuits, SuitsFilter, RemovalSuits, DeviceSuits, Suits, AllSuit}
@@ -60,7 +60,7 @@ under-kept s now es file h =
     (under-refreshed es.kinds es.before file
     (record { edge = h.edge; there = es.keeps h.edge h.there h.over; over = h.over; child = h.child }))
 
-module _ (s now : State) (between : Table) (new : NodeRecord) where
+module _ (s now : State) (between : RunTable) (new : NodeRecord) where
   added_stands : SameRows s.table between → now.table.nodes ≡ between.nodes ++ new ∷ [] → HasEdges s now
       → now.table.files ≡ s.table.files → IsNewRow now new
       → ((name : List ℕ) → IsSome (content_in s.files name) → IsSome (content_in now.files name))
@@ -126,7 +126,7 @@ open-before s now es forth name is_open row over under =
     let later = forth name row over in
     is_open later.0 later.1.0 (under-kept s now es later.0.id (subst (IsUnder s.table.edges) (sym later.1.1) under))
 
-stands-pushed : (t between now : Table) (new : NodeRecord) → SameRows t between → now.nodes ≡ between.nodes ++ new ∷ []
+stands-pushed : (t between now : RunTable) (new : NodeRecord) → SameRows t between → now.nodes ≡ between.nodes ++ new ∷ []
     → (name : List ℕ) (row : NodeRecord) → StandsFor t name row → (later : NodeRecord) × (StandsFor now name later × (later.id ≡ row.id))
 stands-pushed t between now new rows nodes name row over =
     let later = rows.forth row over.there in (
@@ -229,7 +229,7 @@ known_if_before (Some file) s name what h = by_name (cases_name name file)
     by_name (inr differ) = inr (sym (content_in-with_other file name Unknown s.files differ) ∙ h)
 
 backed-keeps : (id : ℕ) (backing : Option ℕ) (edges : List Edge) (e : Edge)
-    → (e.role ≡ File) ⊎ (Node id ≢ e.parent) → Contains edges e → Contains (backed id backing edges) e
+    → (e.role ≡ File) ⊎ (Node id ≢ e.parent) → Contains edges e → Contains (with_backing_edge id backing edges) e
 backed-keeps id None edges e apart there = there
 backed-keeps id (Some node) edges e apart there = with_edge-keeps (node_edge id Backing node) edges e (by_cause apart) there
   where
@@ -255,7 +255,7 @@ format_node_stands s row file backing suits h =
     now : State
     now = stepped s (change.AddFormat row file backing)
 
-    between : Table
+    between : RunTable
     between = record s.table { nodes = with_unsettled file s.table.nodes }
 
     rows : SameRows s.table between
@@ -263,7 +263,7 @@ format_node_stands s row file backing suits h =
 
     contents : now.files ≡ (know_if (filename_of s.table file) Unknown s).files
     contents = (with_format (λ name. None) (filename_of s.table file) row.kind row.id (mapped_in (content_under s file))
-        (format_bytes s row file backing row.kind) s now.table).files
+        (bytes_by_format s row file backing row.kind) s now.table).files
 
     own : Edge
     own = node_edge row.id File file
@@ -271,7 +271,7 @@ format_node_stands s row file backing suits h =
     es : HasEdges s now
     es = record {
       kinds = kinds_of (with_unsettled file s.table.nodes ++ row ∷ []);
-      before = format_edges row.id file backing s.table.edges;
+      before = with_format_edges row.id file backing s.table.edges;
       derived = refl;
       keeps = λ e there over. backed-keeps row.id backing (with_edge own s.table.edges) e (inl over)
           (with_edge-keeps own s.table.edges e (apart-parents own e (new_parent s.table row.id h.table.edges suits.suits.fresh e there)) there);
@@ -297,7 +297,7 @@ format_node_stands s row file backing suits h =
     ]
 
     -- a file under the node is not open
-    closed_now : (name : List ℕ) (found : Option NodeRecord) → node_at s.table file ≡ found → option_and_then (λ r. r.filename) found ≡ Some name
+    closed_now : (name : List ℕ) (found : Option NodeRecord) → node_by_id s.table file ≡ found → option_and_then (λ r. r.filename) found ≡ Some name
         → IsOpenlyKnown now.table name → ⊥
     closed_now name None e is is_open = cc
     closed_now name (Some r) e is is_open =
@@ -308,7 +308,7 @@ format_node_stands s row file backing suits h =
 
     by_file : (name : List ℕ) (what : Content) → IsOpenlyKnown now.table name
         → ((filename_of s.table file ≡ Some name) ⊎ (content_in s.files name ≡ Some what)) → IsOfState (file_state now.table name) what
-    by_file name what is_open (inl under) = absurd (closed_now name (node_at s.table file) refl under is_open)
+    by_file name what is_open (inl under) = absurd (closed_now name (node_by_id s.table file) refl under is_open)
     by_file name what is_open (inr found) = h.states name what found
         (open-before s now es (stands-pushed s.table between now.table row rows refl) name is_open)
 
@@ -435,13 +435,13 @@ remove_stands s node suits h = record {
     now = stepped s (change.RemoveNode node)
 
     kinds : List NodeKind
-    kinds = kinds_of (without_row node s.table.nodes)
+    kinds = kinds_of (without_record node s.table.nodes)
 
     before : List Edge
     before = without_parent (Node node) s.table.edges
 
     contents : now.files ≡ s.files
-    contents = (left_alone (λ name. None) (option_and_then (left_disk s) (node_at s.table node)) s).files
+    contents = (left_alone (λ name. None) (option_and_then (left_disk s) (node_by_id s.table node)) s).files
 
     not_true : (b : Bool) → not b ≡ true → b ≡ false
     not_true true e = absurd cc

@@ -35,21 +35,21 @@ use Rattle.qmp_rules.specs.declared.rows.Device.{Device}
 use Rattle.qmp_rules.specs.declared.rows.FileState.{FileState}
 use Rattle.qmp_rules.specs.declared.rows.FileState.TheVariants.{Used}
 use Rattle.qmp_rules.specs.declared.told.Told.{Told}
-use Rattle.qmp_rules.specs.Table.{Table, node_at, node_named, device_at, device_named, file_state, child, kinds_of}
+use Rattle.qmp_rules.specs.Table.{RunTable, node_by_id, node_named, device_by_number, device_named, file_state, child, kinds_of}
 use Rattle.qmp_rules.specs.Chains.{filter_role}
-use Rattle.qmp_rules.specs.Changes.{changed, without_row}
-use Rattle.qmp_rules.specs.Edits.{place_from, unused_from, device_number, inline_row, raw_edits, qcow2_edits, added_edits, add_edits, length_told, edits_of, uses, file_under, name_of_file_at, goes_with_node, with_inline, created_change, file_of_node, del_edits, new_device, device_add_edits, merges}
+use Rattle.qmp_rules.specs.Changes.{changed, without_record}
+use Rattle.qmp_rules.specs.Edits.{place_from, unused_from, device_number, inline_row, raw_edits, qcow2_edits, added_edits, add_edits, length_told, edits_of, file_uses, file_under, name_of_file_at, goes_with_node, with_inline, created_change, file_of_node, del_edits, new_device, device_add_edits, merges}
 use Rattle.qmp_asks.specs.NodeAsks.{create_values, create_names, create_rest, del_asks, device_add_asks, add_asks, option_values, added_values, added_names, is_read_only, added_rest, raw_rest, qcow2_rest, is_added, backing_name}
 use Rattle.qmp_rules.specs.Looks.{is_unopened}
 use Rattle.qmp_asks.specs.Asking.{Asking}
-use Rattle.qmp_rules.specs.Asks.{id_or, holds, first, takes, is_file, is_lost, name_of_file}
+use Rattle.qmp_rules.specs.Asks.{id_or, holds, first_unmet_ask, takes, is_file, is_lost, name_of_file}
 use Rattle.qmp_asks.specs.BitmapAsks.{source_name, source_node}
 use Rattle.qmp_asks.specs.CommandAsks.{asks_of, negotiates}
-use Rattle.qmp_rules.specs.Answers.{unbuilt, out_of_turn, refusal_of, command_edits}
+use Rattle.qmp_rules.specs.Answers.{unbuilt, out_of_turn, refusal_to, command_edits}
 use Rattle.blk_history.specs.Fold.{With}
 use Rattle.flat_machine.specs.State.{State, Unknown, content_in}
 use Rattle.flat_machine.specs.Changed.{stepped}
-use Rattle.flat_machine.specs.Sights.{told_by, MayStop}
+use Rattle.flat_machine.specs.Sights.{told_for, MayStop}
 use Rattle.flat_machine.specs.Performing.{IsWholly}
 use Rattle.flat_machine.specs.Wiring.{LeadsToFile, IsNumberBy, IsInline, InlineAreUnder, TableStands}
 use Rattle.flat_machine.specs.Standing.{Stands, StandsAtRest}
@@ -78,7 +78,7 @@ not_used is_raw state kept used = let lost = subst (λ st. is_lost is_raw st ≡
 -- ---- blockdev-add
 
 module _ (s : State) (told : Told) (c : BlockdevAdd (List ℕ)) (name : List ℕ) (read_only : Bool) (stands : Stands s)
-    (may : MayStop s (command.BlockdevAdd c) (told_by s (command.BlockdevAdd c)).stopped told.stopped) where
+    (may : MayStop s (command.BlockdevAdd c) (told_for s (command.BlockdevAdd c)).stopped told.stopped) where
   file_suits : (filename : List ℕ) → c.driver ≡ added.File filename
       → NoneHolds s.table told (added_rest name read_only (added.File filename))
       → (exp : Told) → AllTableSuit s.table (added_edits s.table exp name read_only (added.File filename))
@@ -169,14 +169,14 @@ module _ (s : State) (told : Told) (c : BlockdevAdd (List ℕ)) (name : List ℕ
   -- the file of a `file` node that is there was not used
   unused_under : (file : List ℕ) (is_raw : Bool) → ((row : NodeRecord) × (node_named s.table file ≡ Some row))
       → holds s.table told (ask.Drives (Some file) drivers.File) ≡ None → holds s.table told (ask.KnownUnder file is_raw) ≡ None
-      → (under : NodeRecord) → node_at s.table (id_or 0 s.table (Some file)) ≡ Some under → (of : List ℕ) → under.filename ≡ Some of
+      → (under : NodeRecord) → node_by_id s.table (id_or 0 s.table (Some file)) ≡ Some under → (of : List ℕ) → under.filename ≡ Some of
       → file_state s.table of ≡ Some Used → ⊥
   unused_under file is_raw named drives known under found of named_so used =
       let row : NodeRecord = named.0 in
       let driver = takes-driver s.table told file drivers.File row named.1 drives in
       let kept = known-under s.table told file is_raw row named.1 driver known in
       let at_row = row_at s file row stands named.1 in
-      let at_id : node_at s.table row.id ≡ Some under = rw named.1 at found in
+      let at_id : node_by_id s.table row.id ≡ Some under = rw named.1 at found in
       let same : row ≡ under = cc in
       let name_is : name_of_file row ≡ of = ap (λ r. unwrap_or r.filename []) same ∙ ap (λ n. unwrap_or n []) named_so in
       not_used is_raw (file_state s.table of) (subst (λ n. is_lost is_raw (file_state s.table n) ≡ false) name_is kept) used
@@ -220,7 +220,7 @@ module _ (s : State) (told : Told) (c : BlockdevAdd (List ℕ)) (name : List ℕ
   driver_suits added.Unknown e known asks exp table = absurd cc
 
 add_suits : (s : State) (told exp : Told) (c : BlockdevAdd (List ℕ)) → Stands s
-    → MayStop s (command.BlockdevAdd c) (told_by s (command.BlockdevAdd c)).stopped told.stopped
+    → MayStop s (command.BlockdevAdd c) (told_for s (command.BlockdevAdd c)).stopped told.stopped
     → NoneHolds s.table told (add_asks c) → AllSuit s (add_edits s.table exp c)
 add_suits s told exp c stands may asks =
     driver_suits s told c c.node_name (is_read_only c.options) stands may c.driver refl
@@ -351,8 +351,8 @@ unused-free k devices few =
         absurd (omega arith)
 
 -- no device has the number of a new one
-pub fresh_number : (t : Table) (told : Told) (id : List ℕ) → TableStands t → holds t told (ask.FreshDevice id) ≡ None
-    → holds t told ask.RoomForDevice ≡ None → device_at t (device_number t id) ≡ None
+pub fresh_number : (t : RunTable) (told : Told) (id : List ℕ) → TableStands t → holds t told (ask.FreshDevice id) ≡ None
+    → holds t told ask.RoomForDevice ≡ None → device_by_number t (device_number t id) ≡ None
 unfolding holds
 fresh_number t told id h fresh room = by_place (place_from 0 id t.guests) refl
   where
@@ -362,10 +362,10 @@ fresh_number t told id h fresh room = by_place (place_from 0 id t.guests) refl
         le-false : (n : ℕ) → nat_le 64 n ≡ false → n < 64
         le-false n h = omega (arith, leb-false 64 n h)
 
-    no_device : (number : ℕ) → ((d : Device) → Contains t.devices d → d.number ≡ number → ⊥) → device_at t number ≡ None
-    no_device number none = by_found (device_at t number) refl
+    no_device : (number : ℕ) → ((d : Device) → Contains t.devices d → d.number ≡ number → ⊥) → device_by_number t number ≡ None
+    no_device number none = by_found (device_by_number t number) refl
       where
-        by_found : (found : Option Device) → device_at t number ≡ found → found ≡ None
+        by_found : (found : Option Device) → device_by_number t number ≡ found → found ≡ None
         by_found None e = refl
         by_found (Some d) e =
             let here = find-Some (λ x. x.number == number) t.devices d e in
@@ -380,7 +380,7 @@ fresh_number t told id h fresh room = by_place (place_from 0 id t.guests) refl
         by_found (Some x) e k = cc
 
     by_place : (place : Option ℕ) → place_from 0 id t.guests ≡ place
-        → device_at t (unwrap_or place (unused_from 64 (length t.guests) t.devices)) ≡ None
+        → device_by_number t (unwrap_or place (unused_from 64 (length t.guests) t.devices)) ≡ None
     by_place (Some guest) e = no_device guest (λ d there is. of_device d there is (place_from 0 d.id t.guests) refl (h.numbers d there))
       where
         of_device : (d : Device) → Contains t.devices d → d.number ≡ guest → (place : Option ℕ) → place_from 0 d.id t.guests ≡ place
@@ -408,7 +408,7 @@ device_suits s told c h asks =
     let of = named-drive s.table told h.table c.drive asks.1.1.1.1.0 asks.1.1.1.1.1.1.1.0 in
     rw of.found (by_use of (is_file of.row) refl)
   where
-    fresh : device_at s.table (device_number s.table c.id) ≡ None
+    fresh : device_by_number s.table (device_number s.table c.id) ≡ None
     fresh = fresh_number s.table told c.id h.table asks.1.1.1.1.1.0 asks.1.1.1.1.1.1.0
 
     own_disk_of : (of : NamedDrive s.table told h.table c.drive) → IsSome of.row.filename → of.row.is_settled ≡ true
@@ -423,7 +423,7 @@ device_suits s told c h asks =
         cc
 
     by_name : (of : NamedDrive s.table told h.table c.drive) (name : Option (List ℕ)) → of.row.filename ≡ name
-        → AllSuit s (uses name ++ change.AddDevice (new_device s.table c of.row) of.row.id ∷ [])
+        → AllSuit s (file_uses name ++ change.AddDevice (new_device s.table c of.row) of.row.id ∷ [])
     by_name of None is = (
       record {
         suits = device-suits s.table told h.table c of;
@@ -450,7 +450,7 @@ device_suits s told c h asks =
         )
 
     by_use : (of : NamedDrive s.table told h.table c.drive) (b : Bool) → is_file of.row ≡ b
-        → AllSuit s ((if b then uses of.row.filename else []) ++ change.AddDevice (new_device s.table c of.row) of.row.id ∷ [])
+        → AllSuit s ((if b then file_uses of.row.filename else []) ++ change.AddDevice (new_device s.table c of.row) of.row.id ∷ [])
     by_use of true is = by_name of of.row.filename refl
     by_use of false is = (
       record {
@@ -464,7 +464,7 @@ device_suits s told c h asks =
 -- ---- blockdev-del
 
 -- the file over which a node of a kind stands
-abbrev file_by : Table → NodeRecord → Kind → Option (List ℕ)
+abbrev file_by : RunTable → NodeRecord → Kind → Option (List ℕ)
 file_by t row kind = elim kind as (λ _. Option (List ℕ)) [
   | Protocol ↦ row.filename
   | Raw ↦ name_of_file_at t (child t row.id File)
@@ -473,7 +473,7 @@ file_by t row kind = elim kind as (λ _. Option (List ℕ)) [
 ]
 
 -- that of a format node is its `file` node's
-under-file : (t : Table) → TableStands t → (row file : NodeRecord) → LeadsToFile t row file → IsSome file.filename → file_under t row ≡ file.filename
+under-file : (t : RunTable) → TableStands t → (row file : NodeRecord) → LeadsToFile t row file → IsSome file.filename → file_under t row ≡ file.filename
 under-file t h row file f some = by_kind row.kind refl
   where
     taken : filter_role row.kind ≡ None
@@ -500,7 +500,7 @@ under-file t h row file f some = by_kind row.kind refl
     by_kind Mirror e = absurd (let never = subst (λ k. filter_role k ≡ None) e taken in cc)
     by_kind Commit e = absurd (let never = subst (λ k. filter_role k ≡ None) e taken in cc)
 
-own-file : (t : Table) (row : NodeRecord) → row.kind ≡ Protocol → file_under t row ≡ row.filename
+own-file : (t : RunTable) (row : NodeRecord) → row.kind ≡ Protocol → file_under t row ≡ row.filename
 own-file t row e = ap (file_by t row) e
 
 module _ (s : State) (row : NodeRecord) (there : Contains s.table.nodes row) (alone : IsAlone s.table row.id) (h : Stands s)
@@ -508,7 +508,7 @@ module _ (s : State) (row : NodeRecord) (there : Contains s.table.nodes row) (al
   same_row : (a b : NodeRecord) → Contains s.table.nodes a → Contains s.table.nodes b → a.id ≡ b.id → a ≡ b
   same_row a b there_a there_b ids =
       let at_a = h.table.apart a there_a in
-      let at_b = subst (λ n. node_at s.table n ≡ Some b) (sym ids) (h.table.apart b there_b) in
+      let at_b = subst (λ n. node_by_id s.table n ≡ Some b) (sym ids) (h.table.apart b there_b) in
       cc
 
   removal_suits : RemovalSuits s.table row.id
@@ -537,7 +537,7 @@ module _ (s : State) (row : NodeRecord) (there : Contains s.table.nodes row) (al
   inline_suits file file_there with = record {
     alone = inline-left s.table row there alone h.table inline file file_there with;
     own = λ name r over is.
-        let kept = kept_row s.table (changed s.table (change.RemoveNode row.id)) row.id alone refl (kinds_of (without_row row.id s.table.nodes)) refl h.table
+        let kept = kept_row s.table (changed s.table (change.RemoveNode row.id)) row.id alone refl (kinds_of (without_record row.id s.table.nodes)) refl h.table
         r over.there in
         let same = same_row r file kept.0 file_there is in
         let f = inline-file s.table row there alone h.table inline file file_there with in
@@ -575,7 +575,7 @@ unfolding changed
 del_suits s told name h asks = by_row (found-named s.table told name asks.1.0)
   where
     by_use : (row : NodeRecord) → Contains s.table.nodes row → IsAlone s.table row.id → (file : Option (List ℕ)) → file_under s.table row ≡ file
-        → AllSuit s (uses file ++ change.RemoveNode row.id ∷ with_inline s.table row.id)
+        → AllSuit s (file_uses file ++ change.RemoveNode row.id ∷ with_inline s.table row.id)
     by_use row there alone None is =
         gone_suits s row there alone h.stands h.inline (λ name of. absurd cc) (find (goes_with_node row.id) s.table.nodes) refl
     by_use row there alone (Some file) is =
@@ -604,7 +604,7 @@ device_gone_suits : (s : State) (found : Option Device)
 device_gone_suits s None = tt
 device_gone_suits s (Some device) = (tt, tt)
 
-merges-suit : (t : Table) (node target : List ℕ) (sources : SeenSources) (s : State) → AllSuit s (merges t node target sources)
+merges-suit : (t : RunTable) (node target : List ℕ) (sources : SeenSources) (s : State) → AllSuit s (merges t node target sources)
 merges-suit t node target [] s = tt
 merges-suit t node target (source ∷ sources) s =
     let one : Change = change.MergeBitmap (id_or 0 t (Some node)) target (id_or 0 t (Some (source_node node source))) (source_name source) in
@@ -613,16 +613,16 @@ merges-suit t node target (source ∷ sources) s =
 -- ---- every command
 
 -- Where nothing refuses a command that is carried out, its changes leave what holds of all states.
-pub accepted_suits : (s : State) (told exp : Told) (c : Cmd) → StandsAtRest s → MayStop s c (told_by s c).stopped told.stopped
-    → refusal_of s.table told c ≡ None → AllSuit s (command_edits s.table exp c)
-unfolding refusal_of asks_of edits_of
+pub accepted_suits : (s : State) (told exp : Told) (c : Cmd) → StandsAtRest s → MayStop s c (told_for s c).stopped told.stopped
+    → refusal_to s.table told c ≡ None → AllSuit s (command_edits s.table exp c)
+unfolding refusal_to asks_of edits_of
 accepted_suits s told exp c rests may h =
     let known = none-both (unbuilt c) _ h in
     let turn = none-both (out_of_turn (negotiates c) s.table.negotiated) _ known.1 in
-    let asks = none-both (first s.table told (asks_of c)) _ turn.1 in
+    let asks = none-both (first_unmet_ask s.table told (asks_of c)) _ turn.1 in
     by_command c may known.0 (none-holds s.table told (asks_of c) asks.0)
   where
-    by_command : (c : Cmd) → MayStop s c (told_by s c).stopped told.stopped → unbuilt c ≡ None
+    by_command : (c : Cmd) → MayStop s c (told_for s c).stopped told.stopped → unbuilt c ≡ None
         → NoneHolds s.table told (asks_of c) → AllSuit s (command_edits s.table exp c)
     by_command (command.Capabilities enable) may is asks = (tt, tt)
     by_command (command.BlockdevCreate c) may is asks =

@@ -29,14 +29,14 @@ use Rattle.qmp_rules.specs.declared.change.Change.TheVariants as change
 use Rattle.qmp_rules.specs.declared.rows.NodeRecord.{NodeRecord}
 use Rattle.qmp_rules.specs.declared.rows.Device.{Device}
 use Rattle.qmp_rules.specs.declared.told.Told.{Told}
-use Rattle.qmp_rules.specs.Table.{Table, device_named, node_at, node_named, id_named, child, kinds_of}
-use Rattle.qmp_rules.specs.Changes.{changed, all_changed, node_changed, unsettled, lost_with, with_unsettled, without_row, format_edges}
-use Rattle.qmp_rules.specs.Edits.{file_of_node, next_free_id, raw_row, image_row, length_told, goes_with, goes_with_node, with_inline, uses, file_under, del_edits, added_edits, raw_edits, qcow2_edits, add_edits, inline_row, edits_of, created_change, spoiled, device_add_edits, new_device, device_uses, of_row, bitmap_add_edits, bitmap_remove_edits, bitmap_clear_edits, bitmap_turn_edits, merges, merge_edits}
+use Rattle.qmp_rules.specs.Table.{RunTable, device_named, node_by_id, node_named, id_named, child, kinds_of}
+use Rattle.qmp_rules.specs.Changes.{changed, all_changed, node_changed, unsettled, lost_with, with_unsettled, without_record, with_format_edges}
+use Rattle.qmp_rules.specs.Edits.{file_of_node, next_free_id, raw_record, image_row, length_told, goes_with, goes_with_node, with_inline, file_uses, file_under, del_edits, added_edits, raw_edits, qcow2_edits, add_edits, inline_row, edits_of, created_change, spoiled, device_add_edits, new_device, device_uses, of_row, bitmap_add_edits, bitmap_remove_edits, bitmap_clear_edits, bitmap_turn_edits, merges, merge_edits}
 use Rattle.qmp_asks.specs.Naming.{inline_name}
 use Rattle.qmp_asks.specs.NodeAsks.{add_asks, del_asks, device_add_asks, is_read_only, backing_name}
-use Rattle.qmp_rules.specs.Asks.{first, is_file}
+use Rattle.qmp_rules.specs.Asks.{first_unmet_ask, is_file}
 use Rattle.qmp_asks.specs.CommandAsks.{asks_of, negotiates}
-use Rattle.qmp_rules.specs.Answers.{unbuilt, out_of_turn, refusal_of, command_edits}
+use Rattle.qmp_rules.specs.Answers.{unbuilt, out_of_turn, refusal_to, command_edits}
 use Rattle.qmp_rules.specs.Chains.{written_under, unsettled_over}
 use Rattle.flat_machine.specs.Wiring.{LeadsToFile, IsInline, InlineAreUnder, TableStands, TableAtRest}
 use Rattle.flat_machine.specs.Suiting.{IsThere, IsAlone, TableSuits, AllTableSuit}
@@ -54,7 +54,7 @@ use Rattle.flat_machine.proofs.Snapshots.{snapshot_rests}
 
 -- ---- each change
 
-pub table_keeps : (t : Table) (c : Change) → TableSuits t c → TableStands t → TableStands (changed t c)
+pub table_keeps : (t : RunTable) (c : Change) → TableSuits t c → TableStands t → TableStands (changed t c)
 unfolding changed
 table_keeps t change.Negotiate suits h = rows_table t (changed t change.Negotiate) (rows-same t (changed t change.Negotiate) refl h.apart) refl refl refl h
 table_keeps t (change.KeepId id) suits h = rows_table t (changed t (change.KeepId id)) (rows-same t (changed t (change.KeepId id)) refl h.apart) refl refl refl h
@@ -62,10 +62,10 @@ table_keeps t (change.DropId id) suits h = rows_table t (changed t (change.DropI
 table_keeps t (change.MakeFile name size) suits h =
     rows_table t (changed t (change.MakeFile name size)) (rows-same t (changed t (change.MakeFile name size)) refl h.apart) refl refl refl h
 table_keeps t (change.FormatFile node name size backing_file backing_fmt) suits h =
-    let now : Table = changed t (change.FormatFile node name size backing_file backing_fmt) in
+    let now : RunTable = changed t (change.FormatFile node name size backing_file backing_fmt) in
     rows_table t now (rows-mapped t now (node_changed node unsettled) (like_unsettled node) refl h.apart) refl refl refl h
 table_keeps t (change.SpoilFile name) suits h =
-    let now : Table = changed t (change.SpoilFile name) in
+    let now : RunTable = changed t (change.SpoilFile name) in
     rows_table t now (rows-mapped t now (lost_with name) (like_lost name) refl h.apart) refl refl refl h
 table_keeps t (change.UseFile name) suits h = rows_table t (changed t (change.UseFile name)) (rows-same t (changed t (change.UseFile name)) refl h.apart) refl refl refl h
 table_keeps t (change.AddFile row) suits h =
@@ -75,7 +75,7 @@ table_keeps t (change.AddFormat row file backing) suits h =
 table_keeps t (change.AddFilter row child) suits h =
     filter_table t (changed t (change.AddFilter row child)) row child suits refl (kinds_of (t.nodes ++ row ∷ [])) refl h refl refl
 table_keeps t (change.RemoveNode node) suits h =
-    removed_table t (changed t (change.RemoveNode node)) node suits refl (kinds_of (without_row node t.nodes)) refl h refl refl
+    removed_table t (changed t (change.RemoveNode node)) node suits refl (kinds_of (without_record node t.nodes)) refl h refl refl
 table_keeps t (change.AddDevice device node) suits h =
     device_table t (changed t (change.AddDevice device node)) device node suits refl (kinds_of t.nodes) refl h refl refl
 table_keeps t (change.Unsettle id) suits h = suits
@@ -97,17 +97,17 @@ table_keeps t (change.TurnBitmap node name on) suits h =
 table_keeps t (change.ClearBitmap node name) suits h = h
 table_keeps t (change.MergeBitmap node name source_node source) suits h = h
 
-pub all_keep : (changes : List Change) (t : Table) → AllTableSuit t changes → TableStands t → TableStands (all_changed t changes)
+pub all_keep : (changes : List Change) (t : RunTable) → AllTableSuit t changes → TableStands t → TableStands (all_changed t changes)
 all_keep [] t suits h = h
 all_keep (c ∷ changes) t suits h = all_keep changes (changed t c) suits.1 (table_keeps t c suits.0 h)
 
 -- ---- nodes that were made with others
 
 -- so it is with all but these
-abbrev pub InlineBut : Table → (ℕ → Type 0) → Type 0
+abbrev pub InlineBut : RunTable → (ℕ → Type 0) → Type 0
 InlineBut t Q = (row : NodeRecord) (over : ℕ) → Contains t.nodes row → row.made_with ≡ Some over → (Q row.id → ⊥) → IsInline t row over
 
-module _ (t now : Table) (P : ℕ → Type 0) (IsNewRow : NodeRecord → Type 0) (IsNewEdge : Edge → Type 0)
+module _ (t now : RunTable) (P : ℕ → Type 0) (IsNewRow : NodeRecord → Type 0) (IsNewEdge : Edge → Type 0)
     (g : Grows t now P IsNewRow IsNewEdge) (Q : ℕ → Type 0) where
   pub inline_grown : ((row : NodeRecord) (over : ℕ) → IsNewRow row → row.made_with ≡ Some over → Q row.id)
       → ((row : NodeRecord) (over : ℕ) → Contains t.nodes row → P row.id → row.made_with ≡ Some over → (Q row.id → ⊥) → P over)
@@ -127,7 +127,7 @@ module _ (t now : Table) (P : ℕ → Type 0) (IsNewRow : NodeRecord → Type 0)
           let to = g.keeps k.edge over k.there k.parent stays_over in
           let both = g.stays over stays_over in
           let was : old.row.name ≡ inline_name both.row.name None =
-          at_with (λ (node : NodeRecord). old.row.name ≡ inline_name node.name None) (node_at t over) both.row both.found k.named in
+          at_with (λ (node : NodeRecord). old.row.name ≡ inline_name node.name None) (node_by_id t over) both.row both.found k.named in
           record {
             file = subst IsSome (sym old.like.filename) k.file;
             edge = to.edge;
@@ -135,15 +135,15 @@ module _ (t now : Table) (P : ℕ → Type 0) (IsNewRow : NodeRecord → Type 0)
             parent = to.same.parent ∙ k.parent;
             role = to.same.role ∙ k.role;
             child = to.same.child ∙ k.child ∙ sym old.like.id;
-            named = with_at (λ (node : NodeRecord). row.name ≡ inline_name node.name None) (node_at now over) both.later both.found_later
+            named = with_at (λ (node : NodeRecord). row.name ≡ inline_name node.name None) (node_by_id now over) both.later both.found_later
                 (old.like.name ∙ was ∙ ap (λ n. inline_name n None) (sym both.like.name));
           }
 
 -- the node over it is there
-over-there : (t : Table) → TableStands t → (row : NodeRecord) (over : ℕ) → IsInline t row over → IsThere t over
+over-there : (t : RunTable) → TableStands t → (row : NodeRecord) (over : ℕ) → IsInline t row over → IsThere t over
 over-there t h row over k = (h.edges k.edge k.there).parent over k.parent
 
-module _ (t now : Table) (IsNewRow : NodeRecord → Type 0) (IsNewEdge : Edge → Type 0) (g : Grows t now (IsThere t) IsNewRow IsNewEdge)
+module _ (t now : RunTable) (IsNewRow : NodeRecord → Type 0) (IsNewEdge : Edge → Type 0) (g : Grows t now (IsThere t) IsNewRow IsNewEdge)
     (Q : ℕ → Type 0) (h : TableStands t) where
   inline_stays : ((row : NodeRecord) (over : ℕ) → IsNewRow row → row.made_with ≡ Some over → Q row.id) → InlineBut t Q → InlineBut now Q
   inline_stays made inline = inline_grown t now (IsThere t) IsNewRow IsNewEdge g Q made
@@ -171,11 +171,11 @@ MakesNone Q (change.ClearBitmap node name) = Unit {0}
 MakesNone Q (change.MergeBitmap node name source_node source) = Unit {0}
 MakesNone Q c = ⊥
 
-inline_rows : (Q : ℕ → Type 0) (t now : Table) → SameRows t now → now.edges ≡ t.edges → TableStands t → InlineBut t Q → InlineBut now Q
+inline_rows : (Q : ℕ → Type 0) (t now : RunTable) → SameRows t now → now.edges ≡ t.edges → TableStands t → InlineBut t Q → InlineBut now Q
 inline_rows Q t now rows edges h inline =
     inline_stays t now NoRow NoEdge (rows_grow t now rows edges h) Q h (λ row over never. absurd never) inline
 
-inline_keeps : (Q : ℕ → Type 0) (t : Table) (c : Change) → MakesNone Q c → TableSuits t c → TableStands t → InlineBut t Q → InlineBut (changed t c) Q
+inline_keeps : (Q : ℕ → Type 0) (t : RunTable) (c : Change) → MakesNone Q c → TableSuits t c → TableStands t → InlineBut t Q → InlineBut (changed t c) Q
 unfolding changed
 inline_keeps Q t change.Negotiate made suits h inline = inline_rows Q t (changed t change.Negotiate) (rows-same t (changed t change.Negotiate) refl h.apart) refl h inline
 inline_keeps Q t (change.KeepId id) made suits h inline = inline_rows Q t (changed t (change.KeepId id)) (rows-same t (changed t (change.KeepId id)) refl h.apart) refl h inline
@@ -183,10 +183,10 @@ inline_keeps Q t (change.DropId id) made suits h inline = inline_rows Q t (chang
 inline_keeps Q t (change.MakeFile name size) made suits h inline =
     inline_rows Q t (changed t (change.MakeFile name size)) (rows-same t (changed t (change.MakeFile name size)) refl h.apart) refl h inline
 inline_keeps Q t (change.FormatFile node name size backing_file backing_fmt) made suits h inline =
-    let now : Table = changed t (change.FormatFile node name size backing_file backing_fmt) in
+    let now : RunTable = changed t (change.FormatFile node name size backing_file backing_fmt) in
     inline_rows Q t now (rows-mapped t now (node_changed node unsettled) (like_unsettled node) refl h.apart) refl h inline
 inline_keeps Q t (change.SpoilFile name) made suits h inline =
-    let now : Table = changed t (change.SpoilFile name) in
+    let now : RunTable = changed t (change.SpoilFile name) in
     inline_rows Q t now (rows-mapped t now (lost_with name) (like_lost name) refl h.apart) refl h inline
 inline_keeps Q t (change.UseFile name) made suits h inline =
     inline_rows Q t (changed t (change.UseFile name)) (rows-same t (changed t (change.UseFile name)) refl h.apart) refl h inline
@@ -195,24 +195,24 @@ inline_keeps Q t (change.AddFile row) made suits h inline =
     (file_grow t (changed t (change.AddFile row)) row suits refl (kinds_of (t.nodes ++ row ∷ [])) refl h) Q h
     (λ r over is with. subst (λ x. Q x.id) (sym is) (made over (sym (ap (λ x. x.made_with) is) ∙ with))) inline
 inline_keeps Q t (change.AddFormat row file backing) made suits h inline =
-    let now : Table = changed t (change.AddFormat row file backing) in
+    let now : RunTable = changed t (change.AddFormat row file backing) in
     let kinds : List NodeKind = kinds_of (with_unsettled file t.nodes ++ row ∷ []) in
     inline_stays t now (λ r. r ≡ row) (IsNewEdge t now row file backing suits refl kinds refl h)
     (format_grow t now row file backing suits refl kinds refl h) Q h
     (λ r over is with. absurd (let none = ap (λ x. x.made_with) is ∙ made in cc)) inline
 inline_keeps Q t (change.AddFilter row child) made suits h inline =
-    let now : Table = changed t (change.AddFilter row child) in
+    let now : RunTable = changed t (change.AddFilter row child) in
     let kinds : List NodeKind = kinds_of (t.nodes ++ row ∷ []) in
     inline_stays t now (λ r. r ≡ row) (IsFilterEdge t now row child suits refl kinds refl h)
     (filter_grow t now row child suits refl kinds refl h) Q h
     (λ r over is with. absurd (let none = ap (λ x. x.made_with) is ∙ made in cc)) inline
 inline_keeps Q t (change.AddDevice device node) made suits h inline =
-    let now : Table = changed t (change.AddDevice device node) in
+    let now : RunTable = changed t (change.AddDevice device node) in
     inline_stays t now NoRow (IsDriveEdge t now device node suits refl (kinds_of t.nodes) refl h)
     (device_grow t now device node suits refl (kinds_of t.nodes) refl h) Q h
     (λ r over never. absurd never) inline
 inline_keeps Q t (change.RemoveDevice number) made suits h inline =
-    let now : Table = changed t (change.RemoveDevice number) in
+    let now : RunTable = changed t (change.RemoveDevice number) in
     inline_stays t now NoRow NoEdge (gone_grow t now number refl (kinds_of t.nodes) refl h) Q h (λ r over never. absurd never) inline
 inline_keeps Q t (change.AddBitmap row) made suits h inline =
     inline_rows Q t (changed t (change.AddBitmap row)) (rows-same t (changed t (change.AddBitmap row)) refl h.apart) refl h inline
@@ -228,13 +228,13 @@ abbrev AllMakeNone : List Change → Type 0
 AllMakeNone [] = Unit {0}
 AllMakeNone (c ∷ changes) = MakesNone (λ id. ⊥) c × AllMakeNone changes
 
-inline_all : (changes : List Change) (t : Table) → AllMakeNone changes → AllTableSuit t changes → TableStands t → InlineBut t (λ id. ⊥)
+inline_all : (changes : List Change) (t : RunTable) → AllMakeNone changes → AllTableSuit t changes → TableStands t → InlineBut t (λ id. ⊥)
     → InlineBut (all_changed t changes) (λ id. ⊥)
 inline_all [] t made suits h inline = inline
 inline_all (c ∷ changes) t made suits h inline =
     inline_all changes (changed t c) made.1 suits.1 (table_keeps t c suits.0 h) (inline_keeps (λ id. ⊥) t c made.0 suits.0 h inline)
 
-rests : (t : Table) (changes : List Change) → AllMakeNone changes → AllTableSuit t changes → TableAtRest t → TableAtRest (all_changed t changes)
+rests : (t : RunTable) (changes : List Change) → AllMakeNone changes → AllTableSuit t changes → TableAtRest t → TableAtRest (all_changed t changes)
 rests t changes made suits h = record {
   stands = all_keep changes t suits h.stands;
   inline = λ row over there is.
@@ -253,7 +253,7 @@ with-backing id file node edges =
     by_parent true = refl
     by_parent false = refl
 
-pair_rests : (t : Table) (row new : NodeRecord) (backing : Option ℕ) → ((over : ℕ) → row.made_with ≡ Some over → over ≡ new.id)
+pair_rests : (t : RunTable) (row new : NodeRecord) (backing : Option ℕ) → ((over : ℕ) → row.made_with ≡ Some over → over ≡ new.id)
     → ((over : ℕ) → row.made_with ≡ Some over → row.name ≡ inline_name new.name None) → new.made_with ≡ None
     → AllTableSuit t (change.AddFile row ∷ change.AddFormat new row.id backing ∷ []) → TableAtRest t
     → TableAtRest (all_changed t (change.AddFile row ∷ change.AddFormat new row.id backing ∷ []))
@@ -263,10 +263,10 @@ pair_rests t row new backing mine named none suits h = record {
   inline = λ r over there is. by_id r over there is (cases_eq r.id row.id);
 }
   where
-    between : Table
+    between : RunTable
     between = changed t (change.AddFile row)
 
-    now : Table
+    now : RunTable
     now = changed between (change.AddFormat new row.id backing)
 
     stands : TableStands between
@@ -275,7 +275,7 @@ pair_rests t row new backing mine named none suits h = record {
     now_stands : TableStands now
     now_stands = table_keeps between (change.AddFormat new row.id backing) suits.1.0 stands
 
-    new_found : node_at now new.id ≡ Some new
+    new_found : node_by_id now new.id ≡ Some new
     new_found = now_stands.apart new (pushed-new (with_unsettled row.id between.nodes) new)
 
     but : InlineBut now (λ id. id ≡ row.id)
@@ -286,10 +286,10 @@ pair_rests t row new backing mine named none suits h = record {
     kinds = kinds_of (with_unsettled row.id between.nodes ++ new ∷ [])
 
     own : HasLike now.edges (node_edge new.id File row.id)
-    own = refreshed-new kinds (format_edges new.id row.id backing between.edges) (node_edge new.id File row.id)
+    own = refreshed-new kinds (with_format_edges new.id row.id backing between.edges) (node_edge new.id File row.id)
         (kept backing)
       where
-        kept : (below : Option ℕ) → Contains (format_edges new.id row.id below between.edges) (node_edge new.id File row.id)
+        kept : (below : Option ℕ) → Contains (with_format_edges new.id row.id below between.edges) (node_edge new.id File row.id)
         kept None = Contains-with_edge_new (node_edge new.id File row.id) between.edges
         kept (Some node) = with-backing new.id row.id node between.edges
 
@@ -298,7 +298,7 @@ pair_rests t row new backing mine named none suits h = record {
     by_id r over there is (inl same) =
         let row_is : r ≡ unsettled suits.1.0.under = is_under between now new row.id backing suits.1.0 refl kinds refl stands r there (sym same) in
         let found = suits.1.0.found in
-        let here : node_at between row.id ≡ Some row = stands.apart row (pushed-new t.nodes row) in
+        let here : node_by_id between row.id ≡ Some row = stands.apart row (pushed-new t.nodes row) in
         let under_is : suits.1.0.under ≡ row = cc in
         let with : row.made_with ≡ Some over = sym (ap (λ x. x.made_with) row_is ∙ ap (λ x. x.made_with) under_is) ∙ is in
         record {
@@ -308,8 +308,8 @@ pair_rests t row new backing mine named none suits h = record {
           parent = own.same.parent ∙ ap Node (sym (mine over with));
           role = own.same.role;
           child = own.same.child ∙ sym same;
-          named = with_at (λ (node : NodeRecord). r.name ≡ inline_name node.name None) (node_at now over) new
-              (subst (λ n. node_at now n ≡ Some new) (sym (mine over with)) new_found)
+          named = with_at (λ (node : NodeRecord). r.name ≡ inline_name node.name None) (node_by_id now over) new
+              (subst (λ n. node_by_id now n ≡ Some new) (sym (mine over with)) new_found)
               (ap (λ x. x.name) row_is ∙ ap (λ x. x.name) under_is ∙ named over with);
         }
 
@@ -328,12 +328,12 @@ goes_with-made id row h = ap (λ made. unwrap_or (option_map (λ other. other ==
 abbrev pub inline_change : Option NodeRecord → List Change
 inline_change found = elim found as (λ _. List Change) [ None ↦ [] | Some row ↦ change.RemoveNode row.id ∷ [] ]
 
-module _ (t : Table) (row : NodeRecord) (row_there : Contains t.nodes row) (alone : IsAlone t row.id) (h : TableStands t) (inline : InlineAreUnder t) where
-  abbrev pub without : Table
+module _ (t : RunTable) (row : NodeRecord) (row_there : Contains t.nodes row) (alone : IsAlone t row.id) (h : TableStands t) (inline : InlineAreUnder t) where
+  abbrev pub without : RunTable
   without = changed t (change.RemoveNode row.id)
 
   abbrev kinds_left : List NodeKind
-  kinds_left = kinds_of (without_row row.id t.nodes)
+  kinds_left = kinds_of (without_record row.id t.nodes)
 
   without_stands : TableStands without
   without_stands = table_keeps t (change.RemoveNode row.id) alone h
@@ -393,11 +393,11 @@ module _ (t : Table) (row : NodeRecord) (row_there : Contains t.nodes row) (alon
       (λ x o x_there kept x_is other. but x o x_there x_is kept.1)
       r over r_there is (λ never. never)
     where
-      now : Table
+      now : RunTable
       now = changed without (change.RemoveNode file.id)
 
       grow : Grows without now (IsOther without file.id) NoRow NoEdge
-      grow = removed_grow without now file.id left refl (kinds_of (without_row file.id without.nodes)) refl without_stands
+      grow = removed_grow without now file.id left refl (kinds_of (without_record file.id without.nodes)) refl without_stands
 
       but : InlineBut without (λ id. id ≡ file.id)
       but = without_inline (λ id. id ≡ file.id) (λ x x_there x_is. one-inline x file x_there there x_is with)
@@ -443,15 +443,15 @@ module _ (t : Table) (row : NodeRecord) (row_there : Contains t.nodes row) (alon
 
 -- ---- commands
 
-abbrev BothRest : Table → List Change → Type 0
+abbrev BothRest : RunTable → List Change → Type 0
 BothRest t changes = AllTableSuit t changes × TableAtRest (all_changed t changes)
 
-del_rests : (t : Table) (told : Told) (name : List ℕ) → NoneHolds t told (del_asks name) → TableAtRest t → BothRest t (del_edits t name)
+del_rests : (t : RunTable) (told : Told) (name : List ℕ) → NoneHolds t told (del_asks name) → TableAtRest t → BothRest t (del_edits t name)
 unfolding changed
 del_rests t told name asks h = by_row (found-named t told name asks.1.0)
   where
     by_use : (row : NodeRecord) → Contains t.nodes row → IsAlone t row.id → (file : Option (List ℕ))
-        → BothRest t (uses file ++ change.RemoveNode row.id ∷ with_inline t row.id)
+        → BothRest t (file_uses file ++ change.RemoveNode row.id ∷ with_inline t row.id)
     by_use row there alone None =
         let gone = gone_rests t row there alone h.stands h.inline (find (goes_with_node row.id) t.nodes) refl in
         ((alone, gone.0), gone.1)
@@ -466,14 +466,14 @@ del_rests t told name asks h = by_row (found-named t told name asks.1.0)
         let there = (named-row t told h.stands name row named.1).0 in
         rw named.1 (by_use row there (no_edge row.id t.edges (lone-node t told name row named.1 asks.1.1.1.0)) (file_under t row))
 
-both_rest : (t : Table) (changes : List Change) → AllMakeNone changes → AllTableSuit t changes → TableAtRest t → BothRest t changes
+both_rest : (t : RunTable) (changes : List Change) → AllMakeNone changes → AllTableSuit t changes → TableAtRest t → BothRest t changes
 both_rest t changes made suits h = (suits, rests t changes made suits h)
 
 made_with-over : (id over : ℕ) (name : Option (List ℕ)) → goes_with id name ≡ Some over → over ≡ id
 made_with-over id over None h = cc
 made_with-over id over (Some name) h = absurd cc
 
-add_rests : (t : Table) (told exp : Told) (c : BlockdevAdd (List ℕ)) → NoneHolds t told (add_asks c) → TableAtRest t → BothRest t (add_edits t exp c)
+add_rests : (t : RunTable) (told exp : Told) (c : BlockdevAdd (List ℕ)) → NoneHolds t told (add_asks c) → TableAtRest t → BothRest t (add_edits t exp c)
 add_rests t told exp c asks h = by_driver c.driver (add-table t told h.stands c exp asks)
   where
     name : List ℕ
@@ -487,7 +487,7 @@ add_rests t told exp c asks h = by_driver c.driver (add-table t told h.stands c 
     of_raw raw (file_ref.Name file) suits = both_rest t (raw_edits t exp name read_only raw (file_ref.Name file)) (refl, tt) suits h
     of_raw raw (file_ref.Inline file) suits = (
       suits,
-      pair_rests t (inline_row t exp name file) (raw_row (next_free_id t) name (length_told exp) read_only raw) None
+      pair_rests t (inline_row t exp name file) (raw_record (next_free_id t) name (length_told exp) read_only raw) None
           (λ over with. made_with-over (next_free_id t) over file.node_name with)
           (λ over with. goes-named (next_free_id t) over name file.node_name with) refl suits h,
     )
@@ -514,16 +514,16 @@ made-append : (xs ys : List Change) → AllMakeNone xs → AllMakeNone ys → Al
 made-append [] ys h k = k
 made-append (c ∷ xs) ys h k = (h.0, made-append xs ys h.1 k)
 
-device_rests : (t : Table) (told : Told) (c : DeviceAdd (List ℕ)) → NoneHolds t told (device_add_asks c) → TableAtRest t
+device_rests : (t : RunTable) (told : Told) (c : DeviceAdd (List ℕ)) → NoneHolds t told (device_add_asks c) → TableAtRest t
     → BothRest t (device_add_edits t c)
 device_rests t told c asks h =
     both_rest t (device_add_edits t c) (made (node_named t c.drive)) (device-table t told h.stands c asks) h
   where
-    made_uses : (name : Option (List ℕ)) → AllMakeNone (uses name)
+    made_uses : (name : Option (List ℕ)) → AllMakeNone (file_uses name)
     made_uses None = tt
     made_uses (Some name) = (tt, tt)
 
-    made_if : (row : NodeRecord) (b : Bool) → AllMakeNone (if b then uses row.filename else [])
+    made_if : (row : NodeRecord) (b : Bool) → AllMakeNone (if b then file_uses row.filename else [])
     made_if row true = made_uses row.filename
     made_if row false = tt
 
@@ -531,32 +531,32 @@ device_rests t told c asks h =
     made None = tt
     made (Some row) = made-append (device_uses row) (change.AddDevice (new_device t c row) row.id ∷ []) (made_if row (is_file row)) (tt, tt)
 
-device_gone_rests : (t : Table) (found : Option Device) → TableAtRest t
+device_gone_rests : (t : RunTable) (found : Option Device) → TableAtRest t
     → BothRest t (elim found as (λ _. List Change) [ None ↦ [] | Some device ↦ change.RemoveDevice device.number ∷ [] ])
 device_gone_rests t None h = (tt, h)
 device_gone_rests t (Some device) h = both_rest t (change.RemoveDevice device.number ∷ []) (tt, tt) (tt, tt) h
 
-create_rests : (t : Table) (id : List ℕ) (options : Created (List ℕ)) → TableAtRest t → BothRest t (change.KeepId id ∷ created_change t options)
+create_rests : (t : RunTable) (id : List ℕ) (options : Created (List ℕ)) → TableAtRest t → BothRest t (change.KeepId id ∷ created_change t options)
 create_rests t id (created.File c) h = both_rest t (change.KeepId id ∷ created_change t (created.File c)) (tt, (tt, tt)) (tt, (tt, tt)) h
 create_rests t id (created.Qcow2 c) h = both_rest t (change.KeepId id ∷ created_change t (created.Qcow2 c)) (tt, (tt, tt)) (tt, (tt, tt)) h
 create_rests t id created.Unknown h = both_rest t (change.KeepId id ∷ []) (tt, tt) (tt, tt) h
 
-merges-made : (t : Table) (node target : List ℕ) (sources : SeenSources) → AllMakeNone (merges t node target sources)
+merges-made : (t : RunTable) (node target : List ℕ) (sources : SeenSources) → AllMakeNone (merges t node target sources)
 merges-made t node target [] = tt
 merges-made t node target (s ∷ sources) = (tt, merges-made t node target sources)
 
-merges-table : (t : Table) (node target : List ℕ) (sources : SeenSources) (now : Table) → AllTableSuit now (merges t node target sources)
+merges-table : (t : RunTable) (node target : List ℕ) (sources : SeenSources) (now : RunTable) → AllTableSuit now (merges t node target sources)
 merges-table t node target [] now = tt
 merges-table t node target (s ∷ sources) now = (tt, merges-table t node target sources (changed now _))
 
 -- An accepted command leaves the table as it is to be between events, whatever was told.
-pub command_rests : (t : Table) (told exp : Told) (c : Cmd) → TableAtRest t → refusal_of t told c ≡ None
+pub command_rests : (t : RunTable) (told exp : Told) (c : Cmd) → TableAtRest t → refusal_to t told c ≡ None
     → AllTableSuit t (command_edits t exp c) × TableAtRest (all_changed t (command_edits t exp c))
-unfolding refusal_of asks_of edits_of
+unfolding refusal_to asks_of edits_of
 command_rests t told exp c rests h =
     let known = none-both (unbuilt c) _ h in
     let turn = none-both (out_of_turn (negotiates c) t.negotiated) _ known.1 in
-    let asks = none-both (first t told (asks_of c)) _ turn.1 in
+    let asks = none-both (first_unmet_ask t told (asks_of c)) _ turn.1 in
     by_command c rests known.0 (none-holds t told (asks_of c) asks.0)
   where
     by_command : (c : Cmd) → TableAtRest t → unbuilt c ≡ None → NoneHolds t told (asks_of c) → BothRest t (command_edits t exp c)
@@ -580,19 +580,19 @@ command_rests t told exp c rests h =
     by_command _ h is asks = absurd cc
 
 -- so does a creation of which a call failed
-pub spoiled_file_rests : (t : Table) (name : List ℕ) → TableAtRest t → TableAtRest (changed t (change.SpoilFile name))
+pub spoiled_file_rests : (t : RunTable) (name : List ℕ) → TableAtRest t → TableAtRest (changed t (change.SpoilFile name))
 spoiled_file_rests t name h = rests t (change.SpoilFile name ∷ []) (tt, tt) (tt, tt) h
 
-pub spoiled_rests : (t : Table) (options : Created (List ℕ)) → TableAtRest t → TableAtRest (all_changed t (spoiled t options))
+pub spoiled_rests : (t : RunTable) (options : Created (List ℕ)) → TableAtRest t → TableAtRest (all_changed t (spoiled t options))
 spoiled_rests t (created.File c) h = spoiled_file_rests t c.filename h
 spoiled_rests t (created.Qcow2 c) h = spoiled_file_rests t (file_of_node t c.file) h
 spoiled_rests t created.Unknown h = h
 
 -- and a piece of a guest's write
-pub written_rests : (t : Table) (node : ℕ) → TableAtRest t → TableAtRest (written_under node t)
+pub written_rests : (t : RunTable) (node : ℕ) → TableAtRest t → TableAtRest (written_under node t)
 unfolding written_under
 written_rests t node h =
-    let now : Table = written_under node t in
+    let now : RunTable = written_under node t in
     let rows = rows-mapped t now (unsettled_over t node) (like_over t node) refl h.stands.apart in
     record {
       stands = rows_table t now rows refl refl refl h.stands;

@@ -23,10 +23,10 @@ use Rattle.qmp_rules.specs.declared.change.Change.TheVariants as change
 use Rattle.qmp_rules.specs.declared.rows.NodeRecord.{NodeRecord}
 use Rattle.qmp_rules.specs.declared.rows.Device.{Device}
 use Rattle.qmp_rules.specs.declared.told.Told.{Told}
-use Rattle.qmp_rules.specs.Table.{Table, node_at, node_named, id_named, kinds_of}
+use Rattle.qmp_rules.specs.Table.{RunTable, node_by_id, node_named, id_named, kinds_of}
 use Rattle.qmp_rules.specs.Chains.{filter_role, is_settled}
 use Rattle.qmp_rules.specs.Changes.{changed}
-use Rattle.qmp_rules.specs.Edits.{free_id, next_free_id, place_from, unused_from, file_row, format_row, inline_row, image_row, raw_row, length_told, size_of, raw_edits, qcow2_edits, added_edits, add_edits, uses, new_device, device_add_edits}
+use Rattle.qmp_rules.specs.Edits.{free_id, next_free_id, place_from, unused_from, file_row, format_row, inline_row, image_row, raw_record, length_told, size_by_name, raw_edits, qcow2_edits, added_edits, add_edits, file_uses, new_device, device_add_edits}
 use Rattle.qmp_asks.specs.Naming.{is_name}
 use Rattle.qmp_asks.specs.NodeAsks.{device_add_asks, add_asks, add_names, add_values, file_names, added_names, is_read_only, added_rest, raw_rest, qcow2_rest, copy_on_read_rest, is_added, backing_name}
 use Rattle.qmp_rules.specs.Asks.{id_or, holds, takes, is_file}
@@ -45,15 +45,15 @@ use Rattle.flat_machine.proofs.TablesKept.{not-there, not_copying}
 -- ---- rows by name
 
 -- the row there copies nothing of what is read
-plain-row : (t : Table) (row : NodeRecord) (node : ℕ) → filter_role row.kind ≡ None → node_at t node ≡ Some row
-    → (other : NodeRecord) → node_at t node ≡ Some other → other.kind ≢ CopyOnRead
+plain-row : (t : RunTable) (row : NodeRecord) (node : ℕ) → filter_role row.kind ≡ None → node_by_id t node ≡ Some row
+    → (other : NodeRecord) → node_by_id t node ≡ Some other → other.kind ≢ CopyOnRead
 plain-row t row node own found other is = let same : other ≡ row = cc in not_copying other.kind (ap (λ r. filter_role r.kind) same ∙ own)
 
-module _ (t : Table) (told : Told) (h : TableStands t) where
+module _ (t : RunTable) (told : Told) (h : TableStands t) where
   pub named-row : (name : List ℕ) (row : NodeRecord) → node_named t name ≡ Some row → Contains t.nodes row × (bytes_eq row.name name ≡ true)
   named-row name row found = find-Some (λ r. bytes_eq r.name name) t.nodes row found
 
-  pub named-at : (name : List ℕ) (row : NodeRecord) → node_named t name ≡ Some row → node_at t row.id ≡ Some row
+  pub named-at : (name : List ℕ) (row : NodeRecord) → node_named t name ≡ Some row → node_by_id t row.id ≡ Some row
   named-at name row found = h.apart row (named-row name row found).0
 
   pub named-there : (name : List ℕ) (row : NodeRecord) → node_named t name ≡ Some row → IsThere t row.id
@@ -64,9 +64,9 @@ module _ (t : Table) (told : Told) (h : TableStands t) where
   settled-free row there settled other found some under =
       let of = h.single under.edge under.there under.over in
       let parent_there = (h.edges under.edge under.there).parent of.0 of.1.0 in
-      by_parent (node_at t of.0) refl parent_there
+      by_parent (node_by_id t of.0) refl parent_there
     where
-      by_parent : (over : Option NodeRecord) → node_at t (h.single under.edge under.there under.over).0 ≡ over → IsSome over → ⊥
+      by_parent : (over : Option NodeRecord) → node_by_id t (h.single under.edge under.there under.over).0 ≡ over → IsSome over → ⊥
       by_parent None e s = cc
       by_parent (Some over) e s =
           let of = h.single under.edge under.there under.over in
@@ -88,7 +88,7 @@ module _ (t : Table) (told : Told) (h : TableStands t) where
           cc
 
   -- what the table says of a node that has a flat disk of its own
-  pub own-settled : (row : NodeRecord) → node_at t row.id ≡ Some row → filter_role row.kind ≡ None → is_settled t row.id ≡ true
+  pub own-settled : (row : NodeRecord) → node_by_id t row.id ≡ Some row → filter_role row.kind ≡ None → is_settled t row.id ≡ true
       → row.is_settled ≡ true
   own-settled row found own settled =
       let here = own_disk t row.id row found own in rw (here, found) at settled
@@ -231,12 +231,12 @@ module _ (t : Table) (told : Told) (h : TableStands t) where
       let of = named-file file asks.0 asks.1.1.1.0 asks.1.1.1.1.1.1.1.0 in (
         record {
           fresh = free_fresh t (room-left t told 1 asks.1.1.0);
-          own_name = own-name (raw_row (free_id t) name (size_of t file) read_only raw) said;
+          own_name = own-name (raw_record (free_id t) name (size_by_name t file) read_only raw) said;
           format = refl;
           role = refl;
           filename = refl;
           under = of.row;
-          found = subst (λ n. node_at t n ≡ Some of.row) (sym of.id_is) (h.apart of.row of.there);
+          found = subst (λ n. node_by_id t n ≡ Some of.row) (sym of.id_is) (h.apart of.row of.there);
           name = of.name;
           of_file = of.filename;
           alone = subst (IsAlone t) (sym of.id_is) of.alone;
@@ -258,7 +258,7 @@ module _ (t : Table) (told : Told) (h : TableStands t) where
           role = refl;
           filename = refl;
           under = of.row;
-          found = subst (λ n. node_at t n ≡ Some of.row) (sym of.id_is) (h.apart of.row of.there);
+          found = subst (λ n. node_by_id t n ≡ Some of.row) (sym of.id_is) (h.apart of.row of.there);
           name = of.name;
           of_file = of.filename;
           alone = subst (IsAlone t) (sym of.id_is) of.alone;
@@ -275,12 +275,12 @@ module _ (t : Table) (told : Told) (h : TableStands t) where
         there = subst (IsThere t) b.id_is (subst IsSome (sym (h.apart b.row b.there)) refl);
         other = λ same. differs (b.id_is ∙ same ∙ of.id_is);
         free = b.free;
-        plain = plain-row t b.row node b.own (subst (λ n. node_at t n ≡ Some b.row) b.id_is (h.apart b.row b.there));
+        plain = plain-row t b.row node b.own (subst (λ n. node_by_id t n ≡ Some b.row) b.id_is (h.apart b.row b.there));
       }
         where
           differs : b.row.id ≡ of.row.id → ⊥
           differs same =
-              let at_back = subst (λ n. node_at t n ≡ Some b.row) same (h.apart b.row b.there) in
+              let at_back = subst (λ n. node_by_id t n ≡ Some b.row) same (h.apart b.row b.there) in
               let at_file = h.apart of.row of.there in
               let rows : b.row ≡ of.row = cc in
               let name_of = same-bytes_eq b.row.name b.name b.named in
@@ -318,11 +318,11 @@ module _ (t : Table) (told : Told) (h : TableStands t) where
           let id_is : id_or 0 t (Some file) ≡ row.id = rw found refl in (
             record {
               fresh = free_fresh t (room-left t told 1 asks.1.1.0);
-              own_name = own-name (format_row CopyOnRead (free_id t) name (size_of t file) 0 read_only) said;
+              own_name = own-name (format_row CopyOnRead (free_id t) name (size_by_name t file) 0 read_only) said;
               filter = refl;
               filename = refl;
               under = row;
-              found = subst (λ n. node_at t n ≡ Some row) (sym id_is) (h.apart row here.0);
+              found = subst (λ n. node_by_id t n ≡ Some row) (sym id_is) (h.apart row here.0);
               own = kind.0;
               no_file = no_name row here.0 kind.1 row.filename refl;
               writable = writable-node file row found asks.1.1.1.1.0;
@@ -345,10 +345,10 @@ module _ (t : Table) (told : Told) (h : TableStands t) where
 
   -- beside a node that was added
   module _ (row : NodeRecord) (id_is : row.id ≡ free_id t) (room : length t.nodes + 1 ≤ 64) where
-    abbrev pub with_node : Table
+    abbrev pub with_node : RunTable
     with_node = changed t (change.AddFile row)
 
-    pub inline-found : node_at with_node (free_id t) ≡ Some row
+    pub inline-found : node_by_id with_node (free_id t) ≡ Some row
     unfolding changed
     inline-found = found-new (λ r. r.id == free_id t) t.nodes row (free_fresh t room) (eq-eqb row.id (free_id t) id_is)
 
@@ -358,7 +358,7 @@ module _ (t : Table) (told : Told) (h : TableStands t) where
         let old = refreshed-old (kinds_of (t.nodes ++ row ∷ [])) t.edges e there in
         not-there t (free_id t) (free_fresh t room) (subst (IsThere t) (old.same.child ∙ is) (h.edges old.edge old.there).child)
 
-    there-with : (r : NodeRecord) → Contains t.nodes r → node_at with_node r.id ≡ Some r
+    there-with : (r : NodeRecord) → Contains t.nodes r → node_by_id with_node r.id ≡ Some r
     unfolding changed
     there-with r there = found-longer (λ x. x.id == r.id) t.nodes row r (h.apart r there)
 
@@ -367,13 +367,13 @@ module _ (t : Table) (told : Told) (h : TableStands t) where
     free-with r there free other found some under =
         let at_row = there-with r there in
         let same : r ≡ other = cc in
-        free other (subst (λ x. node_at t r.id ≡ Some x) same (h.apart r there)) some
+        free other (subst (λ x. node_by_id t r.id ≡ Some x) same (h.apart r there)) some
         (under-before (kinds_of (t.nodes ++ row ∷ [])) t.edges r.id under)
 
     backing-with : (new : NodeRecord) → has_role new.kind Backing ≡ true → (back : Option (List ℕ)) (node : ℕ) → NamedBacking back node
         → SuitsBacking with_node new (free_id t) node
     backing-with new role back node b =
-        let found = subst (λ n. node_at with_node n ≡ Some b.row) b.id_is (there-with b.row b.there) in
+        let found = subst (λ n. node_by_id with_node n ≡ Some b.row) b.id_is (there-with b.row b.there) in
         record {
           role = role;
           there = subst IsSome (sym found) refl;
@@ -399,7 +399,7 @@ module _ (t : Table) (told : Told) (h : TableStands t) where
         (
           record {
             fresh = next_fresh t row refl room;
-            own_name = own-name (raw_row (next_free_id t) name (length_told exp) read_only raw) said;
+            own_name = own-name (raw_record (next_free_id t) name (length_told exp) read_only raw) said;
             format = refl;
             role = refl;
             filename = refl;
@@ -531,7 +531,7 @@ module _ (t : Table) (told : Told) (h : TableStands t) where
       rw of.found (by_use of (is_file of.row))
     where
       by_name : (of : NamedDrive c.drive) (name : Option (List ℕ))
-          → AllTableSuit t (uses name ++ change.AddDevice (new_device t c of.row) of.row.id ∷ [])
+          → AllTableSuit t (file_uses name ++ change.AddDevice (new_device t c of.row) of.row.id ∷ [])
       by_name of None = (device-suits c of, tt)
       by_name of (Some name) = (tt, (moved (device-suits c of), tt))
         where
@@ -540,6 +540,6 @@ module _ (t : Table) (told : Told) (h : TableStands t) where
           moved suits = record { there = suits.there; free = suits.free; number = suits.number }
 
       by_use : (of : NamedDrive c.drive) (b : Bool)
-          → AllTableSuit t ((if b then uses of.row.filename else []) ++ change.AddDevice (new_device t c of.row) of.row.id ∷ [])
+          → AllTableSuit t ((if b then file_uses of.row.filename else []) ++ change.AddDevice (new_device t c of.row) of.row.id ∷ [])
       by_use of true = by_name of of.row.filename
       by_use of false = by_name of None

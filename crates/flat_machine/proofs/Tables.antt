@@ -14,7 +14,7 @@ use Rattle.blk_graph.proofs.EditLemmas.{IsSameEdge}
 use Rattle.blk_graph.proofs.RefreshLemmas.{ruled-same}
 use Rattle.qmp_rules.specs.declared.rows.FileRow.{FileRow}
 use Rattle.qmp_rules.specs.declared.rows.FileState.{FileState}
-use Rattle.qmp_rules.specs.Table.{in_state, has_file, with_file}
+use Rattle.qmp_rules.specs.Table.{row_in_state, has_file, with_file}
 use Rattle.flat_machine.proofs.Finds.{bytes_eq-same, bytes_eq-other, same-bytes_eq}
 
 module _ {X : Type 0} where
@@ -139,14 +139,14 @@ unfolding with_file has_file
 file_state-with name state files = by_test (list_any (λ row. bytes_eq row.name name) files) refl
   where
     in_rows : (rows : List FileRow) → list_any (λ row. bytes_eq row.name name) rows ≡ true
-        → option_map (λ row. row.state) (find (λ row. bytes_eq row.name name) (map (in_state name state) rows)) ≡ Some state
+        → option_map (λ row. row.state) (find (λ row. bytes_eq row.name name) (map (row_in_state name state) rows)) ≡ Some state
     in_rows [] h = absurd cc
     in_rows (row ∷ rows) h = by_row (bytes_eq row.name name) refl h (in_rows rows)
       where
         by_row : (b : Bool) → bytes_eq row.name name ≡ b → (b || list_any (λ r. bytes_eq r.name name) rows) ≡ true
             → (list_any (λ r. bytes_eq r.name name) rows ≡ true
-            → option_map (λ r. r.state) (find (λ r. bytes_eq r.name name) (map (in_state name state) rows)) ≡ Some state)
-            → option_map (λ r. r.state) (find (λ r. bytes_eq r.name name) (cond b (record row { state = state }) row ∷ map (in_state name state) rows))
+            → option_map (λ r. r.state) (find (λ r. bytes_eq r.name name) (map (row_in_state name state) rows)) ≡ Some state)
+            → option_map (λ r. r.state) (find (λ r. bytes_eq r.name name) (cond b (record row { state = state }) row ∷ map (row_in_state name state) rows))
             ≡ Some state
         by_row true e k ih = rw e refl
         by_row false e k ih = rw e (ih k)
@@ -160,7 +160,7 @@ file_state-with name state files = by_test (list_any (λ row. bytes_eq row.name 
 
     by_test : (b : Bool) → list_any (λ row. bytes_eq row.name name) files ≡ b
         → option_map (λ row. row.state) (find (λ row. bytes_eq row.name name)
-        (cond b (map (in_state name state) files) (files ++ record { name = name; state = state } ∷ []))) ≡ Some state
+        (cond b (map (row_in_state name state) files) (files ++ record { name = name; state = state } ∷ []))) ≡ Some state
     by_test true e = in_rows files e
     by_test false e = behind files e
 
@@ -171,15 +171,15 @@ unfolding with_file has_file
 file_state-other name other state files differ = by_test (list_any (λ row. bytes_eq row.name name) files)
   where
     in_rows : (rows : List FileRow)
-        → option_map (λ row. row.state) (find (λ row. bytes_eq row.name other) (map (in_state name state) rows))
+        → option_map (λ row. row.state) (find (λ row. bytes_eq row.name other) (map (row_in_state name state) rows))
         ≡ option_map (λ row. row.state) (find (λ row. bytes_eq row.name other) rows)
     in_rows [] = refl
     in_rows (row ∷ rows) = by_row (bytes_eq row.name name) refl (in_rows rows)
       where
         by_row : (b : Bool) → bytes_eq row.name name ≡ b
-            → option_map (λ r. r.state) (find (λ r. bytes_eq r.name other) (map (in_state name state) rows))
+            → option_map (λ r. r.state) (find (λ r. bytes_eq r.name other) (map (row_in_state name state) rows))
             ≡ option_map (λ r. r.state) (find (λ r. bytes_eq r.name other) rows)
-            → option_map (λ r. r.state) (find (λ r. bytes_eq r.name other) (cond b (record row { state = state }) row ∷ map (in_state name state) rows))
+            → option_map (λ r. r.state) (find (λ r. bytes_eq r.name other) (cond b (record row { state = state }) row ∷ map (row_in_state name state) rows))
             ≡ option_map (λ r. r.state) (find (λ r. bytes_eq r.name other) (row ∷ rows))
         by_row true e ih =
             let no_other : bytes_eq row.name other ≡ false =
@@ -188,9 +188,9 @@ file_state-other name other state files differ = by_test (list_any (λ row. byte
         by_row false e ih = by_other (bytes_eq row.name other) refl ih
           where
             by_other : (b : Bool) → bytes_eq row.name other ≡ b
-                → option_map (λ r. r.state) (find (λ r. bytes_eq r.name other) (map (in_state name state) rows))
+                → option_map (λ r. r.state) (find (λ r. bytes_eq r.name other) (map (row_in_state name state) rows))
                 ≡ option_map (λ r. r.state) (find (λ r. bytes_eq r.name other) rows)
-                → option_map (λ r. r.state) (find (λ r. bytes_eq r.name other) (row ∷ map (in_state name state) rows))
+                → option_map (λ r. r.state) (find (λ r. bytes_eq r.name other) (row ∷ map (row_in_state name state) rows))
                 ≡ option_map (λ r. r.state) (find (λ r. bytes_eq r.name other) (row ∷ rows))
             by_other true f ih = rw f refl
             by_other false f ih = rw f ih
@@ -211,7 +211,7 @@ file_state-other name other state files differ = by_test (list_any (λ row. byte
 
     by_test : (b : Bool)
         → option_map (λ row. row.state) (find (λ row. bytes_eq row.name other)
-        (cond b (map (in_state name state) files) (files ++ record { name = name; state = state } ∷ [])))
+        (cond b (map (row_in_state name state) files) (files ++ record { name = name; state = state } ∷ [])))
         ≡ option_map (λ row. row.state) (find (λ row. bytes_eq row.name other) files)
     by_test true = in_rows files
     by_test false = behind files

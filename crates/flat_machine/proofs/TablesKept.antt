@@ -22,9 +22,9 @@ use Rattle.blk_graph.proofs.ChildLemmas.{child-edge, child-new, child-kept, chil
 use Rattle.blk_graph.proofs.RefreshLemmas.{child_of-refreshed}
 use Rattle.qmp_rules.specs.declared.rows.NodeRecord.{NodeRecord}
 use Rattle.qmp_rules.specs.declared.rows.Device.{Device}
-use Rattle.qmp_rules.specs.Table.{Table, node_at, child}
+use Rattle.qmp_rules.specs.Table.{RunTable, node_by_id, child}
 use Rattle.qmp_rules.specs.Chains.{filter_role, filtered, disk_from, disk_node}
-use Rattle.qmp_rules.specs.Changes.{node_changed, unsettled, with_unsettled, without_row, backed, format_edges, device_edge}
+use Rattle.qmp_rules.specs.Changes.{node_changed, unsettled, with_unsettled, without_record, with_backing_edge, with_format_edges, device_edge}
 use Rattle.blk_history.specs.Fold.{With}
 use Rattle.flat_machine.specs.Machine.{copies_at, copies_through, is_copying, path, path_from}
 use Rattle.flat_machine.specs.Wiring.{AreApart, EdgesHaveEnds, StandsFor, IsFileOf, LeadsToFile, HasOwnName, IsUnderOne, IsDiskOf, AreNumbered, HasDeviceNumber, TableStands, writes_through}
@@ -39,18 +39,18 @@ use Rattle.flat_machine.proofs.Wired.{OldEdge, Grows, NewRows, NewEdges, NoRow, 
 -- ---- edges and rows
 
 -- the child of a node is there
-pub goes_there : (t : Table) → EdgesHaveEnds t → (node below : ℕ) (role : Role) → child t node role ≡ Some below → IsThere t below
+pub goes_there : (t : RunTable) → EdgesHaveEnds t → (node below : ℕ) (role : Role) → child t node role ≡ Some below → IsThere t below
 goes_there t ends node below role is =
     let e = child-edge (Node node) role t.edges below is in
     subst (IsThere t) e.to (ends e.edge e.there).child
 
-there-row : (t : Table) → AreApart t → (row : NodeRecord) → Contains t.nodes row → IsThere t row.id
+there-row : (t : RunTable) → AreApart t → (row : NodeRecord) → Contains t.nodes row → IsThere t row.id
 there-row t apart row there = subst IsSome (sym (apart row there)) refl
 
-pub not-there : (t : Table) (node : ℕ) → node_at t node ≡ None → IsThere t node → ⊥
+pub not-there : (t : RunTable) (node : ℕ) → node_by_id t node ≡ None → IsThere t node → ⊥
 not-there t node none there = let some = subst IsSome none there in cc
 
-pub old_edge : (t : Table) → EdgesHaveEnds t → (edge e : Edge) → Contains t.edges edge → IsSameEdge edge e → OldEdge t (IsThere t) e
+pub old_edge : (t : RunTable) → EdgesHaveEnds t → (edge e : Edge) → Contains t.edges edge → IsSameEdge edge e → OldEdge t (IsThere t) e
 old_edge t ends edge e there same = record {
   edge = edge;
   there = there;
@@ -61,7 +61,7 @@ old_edge t ends edge e there same = record {
 
 -- ---- rows that stay, and edges that stay
 
-pub rows_grow : (t now : Table) → SameRows t now → now.edges ≡ t.edges → TableStands t → Grows t now (IsThere t) NoRow NoEdge
+pub rows_grow : (t now : RunTable) → SameRows t now → now.edges ≡ t.edges → TableStands t → Grows t now (IsThere t) NoRow NoEdge
 rows_grow t now rows edges h = record {
   rows = λ later there.
       let old = rows.back later there in
@@ -76,11 +76,11 @@ rows_grow t now rows edges h = record {
   goes = λ node below role here is. goes_there t h.edges node below role is;
 }
 
-same_numbers : (t now : Table) → now.guests ≡ t.guests → now.devices ≡ t.devices → AreNumbered t → AreNumbered now
+same_numbers : (t now : RunTable) → now.guests ≡ t.guests → now.devices ≡ t.devices → AreNumbered t → AreNumbered now
 same_numbers t now guests devices h device there =
     subst (λ gs. HasDeviceNumber gs device) (sym guests) (h device (subst (λ ds. Contains ds device) devices there))
 
-pub rows_table : (t now : Table) → SameRows t now → now.edges ≡ t.edges → now.guests ≡ t.guests → now.devices ≡ t.devices
+pub rows_table : (t now : RunTable) → SameRows t now → now.edges ≡ t.edges → now.guests ≡ t.guests → now.devices ≡ t.devices
     → TableStands t → TableStands now
 rows_table t now rows edges guests devices h =
     grown_stands t now (IsThere t) NoRow NoEdge (rows_grow t now rows edges h) (no_rows t now) (no_edges t now) h
@@ -100,12 +100,12 @@ no_copies Commit h = absurd cc
 pub not_copying : (kind : Kind) → filter_role kind ≡ None → kind ≢ CopyOnRead
 not_copying kind own is = let filter : filter_role CopyOnRead ≡ None = subst (λ k. filter_role k ≡ None) is own in cc
 
-path-alone : (t : Table) (node : ℕ) (p : ℕ → Bool) → filtered t node ≡ None → list_any p (path t node) ≡ (p node || false)
+path-alone : (t : RunTable) (node : ℕ) (p : ℕ → Bool) → filtered t node ≡ None → list_any p (path t node) ≡ (p node || false)
 unfolding path
 path-alone t node p none = rw (none, path_from) refl
 
 -- a read of one copies nothing
-pub own_copies : (t : Table) (node : ℕ) (row : NodeRecord) → node_at t node ≡ Some row → filter_role row.kind ≡ None
+pub own_copies : (t : RunTable) (node : ℕ) (row : NodeRecord) → node_by_id t node ≡ Some row → filter_role row.kind ≡ None
     → copies_through t node ≡ false
 own_copies t node row found own =
     let none : filtered t node ≡ None = rw (found, own) refl in
@@ -113,11 +113,11 @@ own_copies t node row found own =
     path-alone t node (copies_at t) none ∙ ap (λ b. b || false) still
 
 -- it reads as itself
-pub own_reads : (t : Table) (row : NodeRecord) → node_at t row.id ≡ Some row → filter_role row.kind ≡ None
-    → With (node_at t (disk_node t row.id)) (IsDiskOf t row)
+pub own_reads : (t : RunTable) (row : NodeRecord) → node_by_id t row.id ≡ Some row → filter_role row.kind ≡ None
+    → With (node_by_id t (disk_node t row.id)) (IsDiskOf t row)
 own_reads t row found own =
-    subst (λ n. With (node_at t n) (IsDiskOf t row)) (sym (own_disk t row.id row found own))
-    (with_at (IsDiskOf t row) (node_at t row.id) row found (record { own = own; itself = λ some. refl; writable = λ w. writes row.read_only (w_only w) }))
+    subst (λ n. With (node_by_id t n) (IsDiskOf t row)) (sym (own_disk t row.id row found own))
+    (with_at (IsDiskOf t row) (node_by_id t row.id) row found (record { own = own; itself = λ some. refl; writable = λ w. writes row.read_only (w_only w) }))
   where
     w_only : writes_through t row.read_only row.id ≡ true → (not row.read_only || false) ≡ true
     w_only w = subst (λ b. (not row.read_only || b) ≡ true) (own_copies t row.id row found own) w
@@ -129,10 +129,10 @@ own_reads t row found own =
 -- ---- one node more
 
 -- the nodes between, and the edges before they are derived
-pub record Adds (t between now : Table) (new : NodeRecord) (IsNew : Edge → Type 0) : Type 0 where
+pub record Adds (t between now : RunTable) (new : NodeRecord) (IsNew : Edge → Type 0) : Type 0 where
   pub rows : SameRows t between
   pub nodes : now.nodes ≡ between.nodes ++ new ∷ []
-  pub fresh : node_at t new.id ≡ None
+  pub fresh : node_by_id t new.id ≡ None
   pub kinds : List NodeKind
   pub before : List Edge
   pub derived : now.edges ≡ refreshed kinds before
@@ -141,17 +141,17 @@ pub record Adds (t between now : Table) (new : NodeRecord) (IsNew : Edge → Typ
   pub keeps : (e : Edge) → Contains t.edges e → Node new.id ≢ e.parent → Contains before e
   pub children : (node : ℕ) (role : Role) → Node new.id ≢ Node node → child_of (Node node) role before ≡ child t node role
 
-module _ (t between now : Table) (new : NodeRecord) (IsNew : Edge → Type 0) (a : Adds t between now new IsNew) (h : TableStands t) where
+module _ (t between now : RunTable) (new : NodeRecord) (IsNew : Edge → Type 0) (a : Adds t between now new IsNew) (h : TableStands t) where
   -- a node that is there is another one
   other_node : (node : ℕ) → IsThere t node → Node new.id ≢ Node node
   other_node node there same =
       let is : new.id ≡ node = cc in
       not-there t new.id a.fresh (subst (IsThere t) (sym is) there)
 
-  fresh_between : node_at between new.id ≡ None
-  fresh_between = by_row (node_at between new.id) refl
+  fresh_between : node_by_id between new.id ≡ None
+  fresh_between = by_row (node_by_id between new.id) refl
     where
-      by_row : (found : Option NodeRecord) → node_at between new.id ≡ found → found ≡ None
+      by_row : (found : Option NodeRecord) → node_by_id between new.id ≡ found → found ≡ None
       by_row None e = refl
       by_row (Some later) e =
           let here = find-Some (λ r. r.id == new.id) between.nodes later e in
@@ -159,17 +159,17 @@ module _ (t between now : Table) (new : NodeRecord) (IsNew : Edge → Type 0) (a
           let same : old.0.id ≡ new.id = sym old.1.1.id ∙ eqb-true later.id new.id here.1 in
           absurd (not-there t new.id a.fresh (subst (IsThere t) same (there-row t h.apart old.0 old.1.0)))
 
-  pub new_found : node_at now new.id ≡ Some new
+  pub new_found : node_by_id now new.id ≡ Some new
   new_found = subst (λ ns. find (λ r. r.id == new.id) ns ≡ Some new) (sym a.nodes)
       (found-new (λ r. r.id == new.id) between.nodes new fresh_between (eq-eqb new.id new.id refl))
 
-  pub later_found : (node : ℕ) (later : NodeRecord) → node_at between node ≡ Some later → node_at now node ≡ Some later
+  pub later_found : (node : ℕ) (later : NodeRecord) → node_by_id between node ≡ Some later → node_by_id now node ≡ Some later
   later_found node later e = subst (λ ns. find (λ r. r.id == node) ns ≡ Some later) (sym a.nodes)
       (found-longer (λ r. r.id == node) between.nodes new later e)
 
-  apart_now : (row : NodeRecord) → (Contains between.nodes row ⊎ (row ≡ new)) → node_at now row.id ≡ Some row
+  apart_now : (row : NodeRecord) → (Contains between.nodes row ⊎ (row ≡ new)) → node_by_id now row.id ≡ Some row
   apart_now row (inl old) = later_found row.id row (a.rows.apart row old)
-  apart_now row (inr same) = subst (λ r. node_at now r.id ≡ Some r) (sym same) new_found
+  apart_now row (inr same) = subst (λ r. node_by_id now r.id ≡ Some r) (sym same) new_found
 
   pub row_cases : (row : NodeRecord) → Contains now.nodes row → Contains between.nodes row ⊎ (row ≡ new)
   row_cases row there = pushed-cases between.nodes new row (subst (λ ns. Contains ns row) a.nodes there)
@@ -214,7 +214,7 @@ module _ (t between now : Table) (new : NodeRecord) (IsNew : Edge → Type 0) (a
   pub row_now : (a b : NodeRecord) → Contains now.nodes a → Contains now.nodes b → a.id ≡ b.id → a ≡ b
   row_now x y there_x there_y same =
       let at_x = apart_now x (row_cases x there_x) in
-      let at_y = subst (λ n. node_at now n ≡ Some y) (sym same) (apart_now y (row_cases y there_y)) in
+      let at_y = subst (λ n. node_by_id now n ≡ Some y) (sym same) (apart_now y (row_cases y there_y)) in
       cc
 
   -- the new edge of a node is its only one for a file
@@ -225,7 +225,7 @@ module _ (t between now : Table) (new : NodeRecord) (IsNew : Edge → Type 0) (a
 
 -- ---- a `file` node
 
-module _ (t now : Table) (row : NodeRecord) (suits : SuitsFile t row) (nodes : now.nodes ≡ t.nodes ++ row ∷ []) (kinds : List NodeKind)
+module _ (t now : RunTable) (row : NodeRecord) (suits : SuitsFile t row) (nodes : now.nodes ≡ t.nodes ++ row ∷ []) (kinds : List NodeKind)
     (derived : now.edges ≡ refreshed kinds t.edges) (h : TableStands t) where
   abbrev file_adds : Adds t t now row NoEdge
   file_adds = record {
@@ -244,7 +244,7 @@ module _ (t now : Table) (row : NodeRecord) (suits : SuitsFile t row) (nodes : n
   pub file_grow : Grows t now (IsThere t) (λ r. r ≡ row) NoEdge
   file_grow = adds_grow t t now row NoEdge file_adds h
 
-  file_found : node_at now row.id ≡ Some row
+  file_found : node_by_id now row.id ≡ Some row
   file_found = new_found t t now row NoEdge file_adds h
 
   file_rows : NewRows t now (λ r. r ≡ row)
@@ -257,7 +257,7 @@ module _ (t now : Table) (row : NodeRecord) (suits : SuitsFile t row) (nodes : n
         let name_is = suits.filename in
         let same : suits.name ≡ name = cc in
         subst (λ n. StandsFor t n old → ⊥) same (suits.closed old) over;
-    reads = λ r is. subst (λ x. With (node_at now (disk_node now x.id)) (IsDiskOf now x)) (sym is)
+    reads = λ r is. subst (λ x. With (node_by_id now (disk_node now x.id)) (IsDiskOf now x)) (sym is)
         (own_reads now row file_found (ap filter_role suits.driver));
   }
 
@@ -287,12 +287,12 @@ child-role parent role new edges differ = ap (option_map (λ (e : Edge). e.child
         by_place false is rest = ap (λ (found : Option Edge). cond (is_edge parent role old) (Some old) found) rest
 
 backed-keeps : (id : ℕ) (backing : Option ℕ) (edges : List Edge) (e : Edge) → Node id ≢ e.parent → Contains edges e
-    → Contains (backed id backing edges) e
+    → Contains (with_backing_edge id backing edges) e
 backed-keeps id None edges e apart there = there
 backed-keeps id (Some node) edges e apart there =
     with_edge-keeps (node_edge id Backing node) edges e (apart-parents (node_edge id Backing node) e apart) there
 
-backed-cases : (id : ℕ) (backing : Option ℕ) (edges : List Edge) (e : Edge) → Contains (backed id backing edges) e
+backed-cases : (id : ℕ) (backing : Option ℕ) (edges : List Edge) (e : Edge) → Contains (with_backing_edge id backing edges) e
     → ((node : ℕ) × ((backing ≡ Some node) × (e ≡ node_edge id Backing node))) ⊎ Contains edges e
 backed-cases id None edges e h = inr h
 backed-cases id (Some node) edges e h = elim (Contains-with_edge (node_edge id Backing node) edges e h) [
@@ -301,20 +301,20 @@ backed-cases id (Some node) edges e h = elim (Contains-with_edge (node_edge id B
 ]
 
 backed-children : (id : ℕ) (backing : Option ℕ) (edges : List Edge) (node : ℕ) (role : Role) → Node id ≢ Node node
-    → child_of (Node node) role (backed id backing edges) ≡ child_of (Node node) role edges
+    → child_of (Node node) role (with_backing_edge id backing edges) ≡ child_of (Node node) role edges
 backed-children id None edges node role apart = refl
 backed-children id (Some below) edges node role apart = child-kept (Node node) role (node_edge id Backing below) edges apart
 
-backed-file : (id : ℕ) (backing : Option ℕ) (edges : List Edge) → child_of (Node id) File (backed id backing edges) ≡ child_of (Node id) File edges
+backed-file : (id : ℕ) (backing : Option ℕ) (edges : List Edge) → child_of (Node id) File (with_backing_edge id backing edges) ≡ child_of (Node id) File edges
 backed-file id None edges = refl
 backed-file id (Some below) edges = child-role (Node id) File (node_edge id Backing below) edges refl
 
 -- edges of a new node are no old ones
-pub new_parent : (t : Table) (id : ℕ) → EdgesHaveEnds t → node_at t id ≡ None → (e : Edge) → Contains t.edges e → Node id ≢ e.parent
+pub new_parent : (t : RunTable) (id : ℕ) → EdgesHaveEnds t → node_by_id t id ≡ None → (e : Edge) → Contains t.edges e → Node id ≢ e.parent
 new_parent t id ends fresh e there same = not-there t id fresh ((ends e there).parent id (sym same))
 
 -- the row of a `file` node that a format node was put over
-pub taken-row : (t : Table) (file : ℕ) (under : NodeRecord) → AreApart t → node_at t file ≡ Some under → (later : NodeRecord)
+pub taken-row : (t : RunTable) (file : ℕ) (under : NodeRecord) → AreApart t → node_by_id t file ≡ Some under → (later : NodeRecord)
     → Contains (with_unsettled file t.nodes) later → later.id ≡ file → later ≡ unsettled under
 taken-row t file under apart found later there is =
     let from = Contains-map (node_changed file unsettled) t.nodes later there in
@@ -325,12 +325,12 @@ taken-row t file under apart found later there is =
   where
     row_at_id : (row : NodeRecord) → Contains t.nodes row → row.id ≡ file → row ≡ under
     row_at_id row row_there is =
-        let at_row = subst (λ n. node_at t n ≡ Some row) is (apart row row_there) in
+        let at_row = subst (λ n. node_by_id t n ≡ Some row) is (apart row row_there) in
         cc
 
-module _ (t now : Table) (row : NodeRecord) (file : ℕ) (backing : Option ℕ) (suits : SuitsFormat t row file backing)
+module _ (t now : RunTable) (row : NodeRecord) (file : ℕ) (backing : Option ℕ) (suits : SuitsFormat t row file backing)
     (nodes : now.nodes ≡ with_unsettled file t.nodes ++ row ∷ []) (kinds : List NodeKind)
-    (derived : now.edges ≡ refreshed kinds (format_edges row.id file backing t.edges)) (h : TableStands t) where
+    (derived : now.edges ≡ refreshed kinds (with_format_edges row.id file backing t.edges)) (h : TableStands t) where
   abbrev pub own_edge : Edge
   own_edge = node_edge row.id File file
 
@@ -341,7 +341,7 @@ module _ (t now : Table) (row : NodeRecord) (file : ℕ) (backing : Option ℕ) 
   abbrev pub IsNewEdge : Edge → Type 0
   IsNewEdge e = IsSameEdge own_edge e ⊎ IsBacked e
 
-  abbrev between : Table
+  abbrev between : RunTable
   between = record t { nodes = with_unsettled file t.nodes }
 
   apart_parents : (e : Edge) → Contains t.edges e → e.parent ≢ own_edge.parent
@@ -353,7 +353,7 @@ module _ (t now : Table) (row : NodeRecord) (file : ℕ) (backing : Option ℕ) 
     nodes = nodes;
     fresh = suits.fresh;
     kinds = kinds;
-    before = format_edges row.id file backing t.edges;
+    before = with_format_edges row.id file backing t.edges;
     derived = derived;
     cases = λ e there. elim (backed-cases row.id backing (with_edge own_edge t.edges) e there) [
       | inl added ↦ inl (inr (added.0, (added.1.0, subst (IsSameEdge (node_edge row.id Backing added.0)) (sym added.1.1) (same-edge (node_edge row.id Backing added.0)))))
@@ -375,7 +375,7 @@ module _ (t now : Table) (row : NodeRecord) (file : ℕ) (backing : Option ℕ) 
   pub format_grow : Grows t now (IsThere t) (λ r. r ≡ row) IsNewEdge
   format_grow = adds_grow t between now row IsNewEdge format_adds h
 
-  pub found_row : node_at now row.id ≡ Some row
+  pub found_row : node_by_id now row.id ≡ Some row
   found_row = new_found t between now row IsNewEdge format_adds h
 
   -- the new node is over the file
@@ -396,7 +396,7 @@ module _ (t now : Table) (row : NodeRecord) (file : ℕ) (backing : Option ℕ) 
     | inl old ↦ taken-row t file suits.under h.apart suits.found under old (sym same)
     | inr is_new ↦
         let id_is : row.id ≡ file = sym (ap (λ r. r.id) is_new) ∙ sym same in
-        let found : node_at t row.id ≡ Some suits.under = subst (λ n. node_at t n ≡ Some suits.under) (sym id_is) suits.found in
+        let found : node_by_id t row.id ≡ Some suits.under = subst (λ n. node_by_id t n ≡ Some suits.under) (sym id_is) suits.found in
         let fresh = suits.fresh in
         absurd cc
   ]
@@ -444,7 +444,7 @@ module _ (t now : Table) (row : NodeRecord) (file : ℕ) (backing : Option ℕ) 
         absurd cc;
     own_names = λ r is. subst HasOwnName (sym is) suits.own_name;
     closed = λ name r old is named over. let none = ap (λ x. x.filename) is ∙ suits.filename in cc;
-    reads = λ r is. subst (λ x. With (node_at now (disk_node now x.id)) (IsDiskOf now x)) (sym is) (own_reads now row found_row suits.format);
+    reads = λ r is. subst (λ x. With (node_by_id now (disk_node now x.id)) (IsDiskOf now x)) (sym is) (own_reads now row found_row suits.format);
   }
 
   format_taken : (over under : NodeRecord) (f : LeadsToFile now over under) → IsNewEdge f.edge → IsUnderOne now over under
@@ -465,7 +465,7 @@ module _ (t now : Table) (row : NodeRecord) (file : ℕ) (backing : Option ℕ) 
   format_free e over under (inl file_edge) f some is = suits.alone f.edge f.there (f.child ∙ sym is ∙ sym file_edge.child)
   format_free e over under (inr backed) f some is =
       let same : backed.0 ≡ under.id = backed.1.1.child ∙ is in
-      (suits.backed backed.0 backed.1.0).free under (subst (λ n. node_at t n ≡ Some under) (sym same) (h.apart under f.under_there)) some
+      (suits.backed backed.0 backed.1.0).free under (subst (λ n. node_by_id t n ≡ Some under) (sym same) (h.apart under f.under_there)) some
       (record { edge = f.edge; there = f.there; over = f.role; child = f.child ∙ sym same })
 
   -- neither the file nor the backing node copies what is read
@@ -477,7 +477,7 @@ module _ (t now : Table) (row : NodeRecord) (file : ℕ) (backing : Option ℕ) 
       not_copying r.kind (ap filter_role kind)
   format_on_top e r (inr backed) there to = elim (format_grow.rows r there) [
     | inl old ↦
-        let at_row = subst (λ n. node_at t n ≡ Some old.row) (sym (backed.1.1.child ∙ to ∙ old.like.id)) (h.apart old.row old.there) in
+        let at_row = subst (λ n. node_by_id t n ≡ Some old.row) (sym (backed.1.1.child ∙ to ∙ old.like.id)) (h.apart old.row old.there) in
         subst (λ k. k ≢ CopyOnRead) (sym old.like.kind) ((suits.backed backed.0 backed.1.0).plain old.row at_row)
     | inr is_new ↦ not_copying r.kind (ap (λ x. filter_role x.kind) is_new ∙ suits.format)
   ]
@@ -523,14 +523,14 @@ file_role Mirror h = absurd cc
 file_role Commit h = absurd cc
 
 -- a node over one that reads by itself reads as that
-over_own : (t : Table) (node below : ℕ) → filtered t node ≡ Some below → filtered t below ≡ None → disk_node t node ≡ below
+over_own : (t : RunTable) (node below : ℕ) → filtered t node ≡ Some below → filtered t below ≡ None → disk_node t node ≡ below
 unfolding disk_node
 over_own t node below over own = from_two 62 over own
   where
     from_two : (more : ℕ) → filtered t node ≡ Some below → filtered t below ≡ None → disk_from (suc (suc more)) t node ≡ below
     from_two more over own = rw (over, own, disk_from) refl
 
-module _ (t now : Table) (row : NodeRecord) (child : ℕ) (suits : SuitsFilter t row child)
+module _ (t now : RunTable) (row : NodeRecord) (child : ℕ) (suits : SuitsFilter t row child)
     (nodes : now.nodes ≡ t.nodes ++ row ∷ []) (kinds : List NodeKind)
     (derived : now.edges ≡ refreshed kinds (with_edge (node_edge row.id File child) t.edges)) (h : TableStands t) where
   abbrev pub filter_edge : Edge
@@ -562,14 +562,14 @@ module _ (t now : Table) (row : NodeRecord) (child : ℕ) (suits : SuitsFilter t
   pub filter_grow : Grows t now (IsThere t) (λ r. r ≡ row) IsFilterEdge
   filter_grow = adds_grow t t now row IsFilterEdge filter_adds h
 
-  filter_found : node_at now row.id ≡ Some row
+  filter_found : node_by_id now row.id ≡ Some row
   filter_found = new_found t t now row IsFilterEdge filter_adds h
 
   is_filter : (over : NodeRecord) → Contains now.nodes over → row.id ≡ over.id → over ≡ row
   is_filter over there same =
       row_now t t now row IsFilterEdge filter_adds h over row there (find-Some (λ r. r.id == row.id) now.nodes row filter_found).0 (sym same)
 
-  child_found : node_at now child ≡ Some suits.under
+  child_found : node_by_id now child ≡ Some suits.under
   child_found = later_found t t now row IsFilterEdge filter_adds h child suits.under suits.found
 
   pub is_child : (under : NodeRecord) → Contains now.nodes under → child ≡ under.id → under ≡ suits.under
@@ -580,12 +580,12 @@ module _ (t now : Table) (row : NodeRecord) (child : ℕ) (suits : SuitsFilter t
   own_file : IsFileOf now filter_edge row.id
   own_file = one_file t t now row IsFilterEdge filter_adds h [] filter_edge (child-new filter_edge t.edges apart_from) refl
 
-  filter_reads : With (node_at now (disk_node now row.id)) (IsDiskOf now row)
+  filter_reads : With (node_by_id now (disk_node now row.id)) (IsDiskOf now row)
   filter_reads =
       let over : filtered now row.id ≡ Some child = rw (filter_found, suits.filter) own_file.1 in
       let own : filtered now child ≡ None = rw (child_found, suits.own) refl in
-      subst (λ n. With (node_at now n) (IsDiskOf now row)) (sym (over_own now row.id child over own))
-      (with_at (IsDiskOf now row) (node_at now child) suits.under child_found (record {
+      subst (λ n. With (node_by_id now n) (IsDiskOf now row)) (sym (over_own now row.id child over own))
+      (with_at (IsDiskOf now row) (node_by_id now child) suits.under child_found (record {
         own = suits.own;
         itself = λ some. absurd (let none = subst IsSome suits.no_file some in cc);
         writable = λ w. suits.writable;
@@ -600,7 +600,7 @@ module _ (t now : Table) (row : NodeRecord) (child : ℕ) (suits : SuitsFilter t
         absurd (let none = rw kind at filter in cc);
     own_names = λ r is. subst HasOwnName (sym is) suits.own_name;
     closed = λ name r old is named over. let none = ap (λ x. x.filename) is ∙ suits.filename in cc;
-    reads = λ r is. subst (λ x. With (node_at now (disk_node now x.id)) (IsDiskOf now x)) (sym is) filter_reads;
+    reads = λ r is. subst (λ x. With (node_by_id now (disk_node now x.id)) (IsDiskOf now x)) (sym is) filter_reads;
   }
 
   over_is : (e : Edge) (node : ℕ) → IsFilterEdge e → e.parent ≡ Node node → row.id ≡ node
@@ -625,7 +625,7 @@ module _ (t now : Table) (row : NodeRecord) (child : ℕ) (suits : SuitsFilter t
         not_copying r.kind (ap (λ x. filter_role x.kind) (is_child r there (is_new.child ∙ to)) ∙ suits.own);
     free = λ e over under is_new f some is.
         let same : child ≡ under.id = is_new.child ∙ is in
-        let at_child = subst (λ n. node_at t n ≡ Some under) (sym same) (h.apart under f.under_there) in
+        let at_child = subst (λ n. node_by_id t n ≡ Some under) (sym same) (h.apart under f.under_there) in
         let found = suits.found in
         let row_is : under ≡ suits.under = cc in
         let none = ap (λ r. r.filename) row_is ∙ suits.no_file in
@@ -640,21 +640,21 @@ module _ (t now : Table) (row : NodeRecord) (child : ℕ) (suits : SuitsFilter t
 
 -- ---- a node that goes
 
-abbrev pub IsOther : Table → ℕ → ℕ → Type 0
+abbrev pub IsOther : RunTable → ℕ → ℕ → Type 0
 IsOther t gone node = IsThere t node × (node ≢ gone)
 
 passes : (b : Bool) → not b ≡ true → b ≡ false
 passes true e = absurd cc
 passes false e = refl
 
-module _ (t now : Table) (node : ℕ) (alone : IsAlone t node) (nodes : now.nodes ≡ without_row node t.nodes) (kinds : List NodeKind)
+module _ (t now : RunTable) (node : ℕ) (alone : IsAlone t node) (nodes : now.nodes ≡ without_record node t.nodes) (kinds : List NodeKind)
     (derived : now.edges ≡ refreshed kinds (without_parent (Node node) t.edges)) (h : TableStands t) where
   pub kept_row : (row : NodeRecord) → Contains now.nodes row → Contains t.nodes row × (row.id ≢ node)
   kept_row row there =
       let old = Contains-filter (λ r. not (r.id == node)) t.nodes row (subst (λ ns. Contains ns row) nodes there) in
       (old.0, eqb-false row.id node (passes (row.id == node) old.1))
 
-  found_still : (other : ℕ) → other ≢ node → node_at now other ≡ node_at t other
+  found_still : (other : ℕ) → other ≢ node → node_by_id now other ≡ node_by_id t other
   found_still other differ = ap (find (λ r. r.id == other)) nodes
       ∙ find-filter (λ r. r.id == other) (λ r. not (r.id == node))
       (λ r e. ap not (ne_eqb r.id node (λ same. differ (sym (eqb-true r.id other e) ∙ same)))) t.nodes
@@ -679,7 +679,7 @@ module _ (t now : Table) (node : ℕ) (alone : IsAlone t node) (nodes : now.node
     rows = λ later there.
         let old = kept_row later there in
         inl (record { row = later; there = old.0; kept = (there-row t h.apart later old.0, old.1); like = like-itself later });
-    stays = λ other here. at_other other here (node_at t other) refl here.0;
+    stays = λ other here. at_other other here (node_by_id t other) refl here.0;
     apart = λ row there. let old = kept_row row there in found_still row.id old.1 ∙ h.apart row old.0;
     others = λ row never here. never;
     one = λ a b never other. absurd never;
@@ -705,7 +705,7 @@ module _ (t now : Table) (node : ℕ) (alone : IsAlone t node) (nodes : now.node
     goes = goes_on;
   }
     where
-      at_other : (other : ℕ) → IsOther t node other → (found : Option NodeRecord) → node_at t other ≡ found → IsSome found
+      at_other : (other : ℕ) → IsOther t node other → (found : Option NodeRecord) → node_by_id t other ≡ found → IsSome found
           → BothAt t now other
       at_other other here None e some = absurd cc
       at_other other here (Some row) e some = record {
@@ -726,7 +726,7 @@ module _ (t now : Table) (node : ℕ) (alone : IsAlone t node) (nodes : now.node
 
 -- ---- a device
 
-module _ (t now : Table) (device : Device) (node : ℕ) (suits : SuitsDevice t device node) (nodes : now.nodes ≡ t.nodes)
+module _ (t now : RunTable) (device : Device) (node : ℕ) (suits : SuitsDevice t device node) (nodes : now.nodes ≡ t.nodes)
     (kinds : List NodeKind) (derived : now.edges ≡ refreshed kinds (with_edge (device_edge device node) t.edges)) (h : TableStands t) where
   abbrev pub drive : Edge
   drive = device_edge device node
@@ -760,7 +760,7 @@ module _ (t now : Table) (device : Device) (node : ℕ) (suits : SuitsDevice t d
     goes = λ other below role here is. goes_there t h.edges other below role is;
   }
     where
-      same_rows : Table
+      same_rows : RunTable
       same_rows = record now { edges = t.edges }
 
   device_new_edges : NewEdges t now IsDriveEdge
@@ -776,7 +776,7 @@ module _ (t now : Table) (device : Device) (node : ℕ) (suits : SuitsDevice t d
     on_top = λ e r over is_new there from. absurd (no_node e over is_new from);
     free = λ e over under is_new f some is.
         let same : node ≡ under.id = is_new.child ∙ is in
-        suits.free under (subst (λ n. node_at t n ≡ Some under) (sym same) (h.apart under f.under_there)) some
+        suits.free under (subst (λ n. node_by_id t n ≡ Some under) (sym same) (h.apart under f.under_there)) some
         (record { edge = f.edge; there = f.there; over = f.role; child = f.child ∙ sym same });
   }
 

@@ -12,7 +12,7 @@ use Rattle.blk_graph.specs.Permissions.{has_role}
 use Rattle.blk_graph.proofs.Members.{find-Some}
 use Rattle.blk_graph.proofs.EditLemmas.{IsSameEdge}
 use Rattle.qmp_rules.specs.declared.rows.NodeRecord.{NodeRecord}
-use Rattle.qmp_rules.specs.Table.{Table, node_at, child}
+use Rattle.qmp_rules.specs.Table.{RunTable, node_by_id, child}
 use Rattle.qmp_rules.specs.Chains.{filter_role, filtered, disk_node}
 use Rattle.blk_history.specs.Fold.{With}
 use Rattle.flat_machine.specs.Machine.{copies_at, is_copying, copies_through}
@@ -22,13 +22,13 @@ use Rattle.flat_machine.proofs.Rows.{IsLike, BothAt, disk_node-same, disk_node-t
 
 -- ---- what stays
 
-pub record OldRow (t : Table) (P : ℕ → Type 0) (later : NodeRecord) : Type 0 where
+pub record OldRow (t : RunTable) (P : ℕ → Type 0) (later : NodeRecord) : Type 0 where
   pub row : NodeRecord
   pub there : Contains t.nodes row
   pub kept : P row.id
   pub like : IsLike row later
 
-pub record OldEdge (t : Table) (P : ℕ → Type 0) (e : Edge) : Type 0 where
+pub record OldEdge (t : RunTable) (P : ℕ → Type 0) (e : Edge) : Type 0 where
   pub edge : Edge
   pub there : Contains t.edges edge
   pub same : IsSameEdge edge e
@@ -36,7 +36,7 @@ pub record OldEdge (t : Table) (P : ℕ → Type 0) (e : Edge) : Type 0 where
   pub child : P edge.child
 
 -- The nodes of which `P` says so stay, with their edges; a row or an edge that isn't one of theirs is new.
-pub record Grows (t now : Table) (P : ℕ → Type 0) (IsNewRow : NodeRecord → Type 0) (IsNewEdge : Edge → Type 0) : Type 0 where
+pub record Grows (t now : RunTable) (P : ℕ → Type 0) (IsNewRow : NodeRecord → Type 0) (IsNewEdge : Edge → Type 0) : Type 0 where
   pub rows : (later : NodeRecord) → Contains now.nodes later → OldRow t P later ⊎ IsNewRow later
   pub stays : (node : ℕ) → P node → BothAt t now node
   pub apart : AreApart now
@@ -49,14 +49,14 @@ pub record Grows (t now : Table) (P : ℕ → Type 0) (IsNewRow : NodeRecord →
 
 -- ---- what is asked of what is new
 
-pub record NewRows (t now : Table) (IsNewRow : NodeRecord → Type 0) : Type 0 where
+pub record NewRows (t now : RunTable) (IsNewRow : NodeRecord → Type 0) : Type 0 where
   pub drivers : (name : List ℕ) (row : NodeRecord) → IsNewRow row → row.filename ≡ Some name → row.kind ≡ Protocol
   pub names : (row : NodeRecord) → IsNewRow row → row.kind ≡ Protocol → IsSome row.filename
   pub own_names : (row : NodeRecord) → IsNewRow row → HasOwnName row
   pub closed : (name : List ℕ) (row old : NodeRecord) → IsNewRow row → row.filename ≡ Some name → StandsFor t name old → ⊥
-  pub reads : (row : NodeRecord) → IsNewRow row → With (node_at now (disk_node now row.id)) (IsDiskOf now row)
+  pub reads : (row : NodeRecord) → IsNewRow row → With (node_by_id now (disk_node now row.id)) (IsDiskOf now row)
 
-pub record NewEdges (t now : Table) (IsNewEdge : Edge → Type 0) : Type 0 where
+pub record NewEdges (t now : RunTable) (IsNewEdge : Edge → Type 0) : Type 0 where
   pub ends : (e : Edge) → IsNewEdge e → HasEnds now e
   pub roles : (e : Edge) (row : NodeRecord) → IsNewEdge e → Contains now.nodes row → e.parent ≡ Node row.id → has_role row.kind e.role ≡ true
   pub single : (e : Edge) → IsNewEdge e → e.role ≡ File → (node : ℕ) × IsFileOf now e node
@@ -74,7 +74,7 @@ NoRow row = ⊥
 abbrev pub NoEdge : Edge → Type 0
 NoEdge e = ⊥
 
-pub no_rows : (t now : Table) → NewRows t now NoRow
+pub no_rows : (t now : RunTable) → NewRows t now NoRow
 no_rows t now = record {
   drivers = λ name row never. absurd never;
   names = λ row never. absurd never;
@@ -83,7 +83,7 @@ no_rows t now = record {
   reads = λ row never. absurd never;
 }
 
-pub no_edges : (t now : Table) → NewEdges t now NoEdge
+pub no_edges : (t now : RunTable) → NewEdges t now NoEdge
 no_edges t now = record {
   ends = λ e never. absurd never;
   roles = λ e row never. absurd never;
@@ -104,7 +104,7 @@ at_with P o a e h = subst (λ x. With x P) e h
 
 -- ---- it stays
 
-module _ (t now : Table) (P : ℕ → Type 0) (IsNewRow : NodeRecord → Type 0) (IsNewEdge : Edge → Type 0)
+module _ (t now : RunTable) (P : ℕ → Type 0) (IsNewRow : NodeRecord → Type 0) (IsNewEdge : Edge → Type 0)
     (g : Grows t now P IsNewRow IsNewEdge) where
   -- what is left of a row that stays
   old_row : (later : NodeRecord) → Contains now.nodes later → P later.id → OldRow t P later
@@ -113,11 +113,11 @@ module _ (t now : Table) (P : ℕ → Type 0) (IsNewRow : NodeRecord → Type 0)
     | inr is_new ↦ absurd (g.others later is_new here)
   ]
 
-  still_there : (node : ℕ) → P node → IsSome (node_at now node)
+  still_there : (node : ℕ) → P node → IsSome (node_by_id now node)
   still_there node here = subst IsSome (sym (g.stays node here).found_later) refl
 
-  abbrev role_at : Table → ℕ → Option Role
-  role_at table node = option_and_then (λ row. filter_role row.kind) (node_at table node)
+  abbrev role_at : RunTable → ℕ → Option Role
+  role_at table node = option_and_then (λ row. filter_role row.kind) (node_by_id table node)
 
   pub filtered-same : (node : ℕ) → P node → filtered now node ≡ filtered t node
   filtered-same node here = ap (option_and_then (child now node)) roles ∙ by_role (role_at t node)
@@ -230,24 +230,24 @@ module _ (t now : Table) (P : ℕ → Type 0) (IsNewRow : NodeRecord → Type 0)
         absurd (rows.closed name a old_b.row new_a over_a.filename (stood_for name b old_b over_b))
     one_id name a b over_a over_b (inr new_a) (inr new_b) = g.one a b new_a new_b
 
-    reads_still : (node : ℕ) (later : NodeRecord) → node_at now node ≡ Some later → With (node_at now (disk_node now node)) (IsDiskOf now later)
+    reads_still : (node : ℕ) (later : NodeRecord) → node_by_id now node ≡ Some later → With (node_by_id now (disk_node now node)) (IsDiskOf now later)
     reads_still node later found =
         let here = find-Some (λ r. r.id == node) now.nodes later found in
         let is : later.id ≡ node = eqb-true later.id node here.1 in
         by_row here.0 is (g.rows later here.0)
       where
         by_row : Contains now.nodes later → later.id ≡ node → (OldRow t P later ⊎ IsNewRow later)
-            → With (node_at now (disk_node now node)) (IsDiskOf now later)
-        by_row there is (inr is_new) = subst (λ n. With (node_at now (disk_node now n)) (IsDiskOf now later)) is (rows.reads later is_new)
+            → With (node_by_id now (disk_node now node)) (IsDiskOf now later)
+        by_row there is (inr is_new) = subst (λ n. With (node_by_id now (disk_node now n)) (IsDiskOf now later)) is (rows.reads later is_new)
         by_row there is (inl old) =
             let same : old.row.id ≡ node = sym old.like.id ∙ is in
             let here : P node = subst P same old.kept in
             let both : BothAt t now (disk_node t node) = g.stays (disk_node t node) (disk_there node here) in
-            let at_node : node_at t node ≡ Some old.row = subst (λ n. node_at t n ≡ Some old.row) same (h.apart old.row old.there) in
+            let at_node : node_by_id t node ≡ Some old.row = subst (λ n. node_by_id t n ≡ Some old.row) same (h.apart old.row old.there) in
             let was : IsDiskOf t old.row both.row =
-            at_with (IsDiskOf t old.row) (node_at t (disk_node t node)) both.row both.found (h.reads node old.row at_node) in
-            subst (λ n. With (node_at now n) (IsDiskOf now later)) (sym (same_disk node here))
-            (with_at (IsDiskOf now later) (node_at now (disk_node t node)) both.later both.found_later
+            at_with (IsDiskOf t old.row) (node_by_id t (disk_node t node)) both.row both.found (h.reads node old.row at_node) in
+            subst (λ n. With (node_by_id now n) (IsDiskOf now later)) (sym (same_disk node here))
+            (with_at (IsDiskOf now later) (node_by_id now (disk_node t node)) both.later both.found_later
             (disk_like old.row later both.row both.later old.kept old.like both.like was))
 
     pub grown_stands : AreNumbered now → TableStands now
@@ -269,7 +269,7 @@ module _ (t now : Table) (P : ℕ → Type 0) (IsNewRow : NodeRecord → Type 0)
       edges = λ e there. elim (g.edges e there) [
         | inl old ↦ record {
           parent = λ node is. still_there node (old.parent node (old.same.parent ∙ is));
-          child = subst (λ n. IsSome (node_at now n)) old.same.child (still_there old.edge.child old.child);
+          child = subst (λ n. IsSome (node_by_id now n)) old.same.child (still_there old.edge.child old.child);
         }
         | inr is_new ↦ edges.ends e is_new
       ];

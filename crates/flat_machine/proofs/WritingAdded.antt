@@ -23,13 +23,13 @@ use Rattle.qmp_rules.specs.declared.change.Change.TheVariants as change
 use Rattle.qmp_rules.specs.declared.rows.NodeRecord.{NodeRecord}
 use Rattle.qmp_rules.specs.declared.rows.Device.{Device}
 use Rattle.qmp_rules.specs.declared.rows.FileState.TheVariants.{Used}
-use Rattle.qmp_rules.specs.Table.{Table, node_at, child, device_at, file_state, has_name, kinds_of}
+use Rattle.qmp_rules.specs.Table.{RunTable, node_by_id, child, device_by_number, file_state, has_name, kinds_of}
 use Rattle.qmp_rules.specs.Chains.{filter_role}
-use Rattle.qmp_rules.specs.Changes.{changed, unsettled, with_unsettled, without_row, device_edge, backed, format_edges}
+use Rattle.qmp_rules.specs.Changes.{changed, unsettled, with_unsettled, without_record, device_edge, with_backing_edge, with_format_edges}
 use Rattle.blk_history.specs.Fold.{With}
 use Rattle.flat_machine.specs.State.{State, Disk, Left, Unknown, content_in, filename_of, drive_of}
 use Rattle.flat_machine.specs.Contents.{with_content, mapped_in, file_bytes}
-use Rattle.flat_machine.specs.Changed.{stepped, put, name_file, add_file, filename_or, with_bytes_of, know_if, content_under, format_bytes, left_disk, left_in, leave, file_of}
+use Rattle.flat_machine.specs.Changed.{stepped, put, name_file, add_file, filename_or, with_bytes_of, know_if, content_under, bytes_by_format, left_disk, left_in, leave, own_filename}
 use Rattle.flat_machine.specs.Wiring.{StandsFor, IsUnder, LeadsToFile, EdgesHaveEnds}
 use Rattle.flat_machine.specs.Standing.{HasBytes, IsUsedUp, MayGuestWrite, WritingStands, Stands}
 use Rattle.flat_machine.specs.Suiting.{IsThere, FileSuits, FormatSuits, SuitsFilter, RemovalSuits, DeviceSuits}
@@ -103,18 +103,18 @@ bytes-drop node k disks differ h =
     (λ d e. ap not (ne_eqb d.node node (λ same. differ (sym (eqb-true d.node k e) ∙ same)))) disks)) h
 
 -- a drive is there
-pub drive_there : (t : Table) → EdgesHaveEnds t → (g node : ℕ) → drive_of t g ≡ Some node → IsThere t node
+pub drive_there : (t : RunTable) → EdgesHaveEnds t → (g node : ℕ) → drive_of t g ≡ Some node → IsThere t node
 drive_there t ends g node is = let e = role_edge (Guest g) Drive t.edges node is in subst (IsThere t) e.to (ends e.edge e.there).child
 
 -- devices that stay, with their drives
 pub same_devices : (s now : State) → now.table.devices ≡ s.table.devices → ((g : ℕ) → drive_of now.table g ≡ drive_of s.table g)
-    → (number : ℕ) (device : Device) → device_at now.table number ≡ Some device
-    → ((device_at s.table number ≡ Some device) × (drive_of now.table number ≡ drive_of s.table number))
+    → (number : ℕ) (device : Device) → device_by_number now.table number ≡ Some device
+    → ((device_by_number s.table number ≡ Some device) × (drive_of now.table number ≡ drive_of s.table number))
     ⊎ With (drive_of now.table number) (MayGuestWrite now device)
 same_devices s now devices drives number device found =
     inl (subst (λ ds. find (λ d. d.number == number) ds ≡ Some device) devices found, drives number)
 
-drive_derived : (t now : Table) (kinds : List NodeKind) (before : List Edge) → now.edges ≡ refreshed kinds before
+drive_derived : (t now : RunTable) (kinds : List NodeKind) (before : List Edge) → now.edges ≡ refreshed kinds before
     → ((g : ℕ) → child_of (Guest g) Drive before ≡ drive_of t g) → (g : ℕ) → drive_of now g ≡ drive_of t g
 drive_derived t now kinds before derived same g =
     ap (child_of (Guest g) Drive) derived ∙ child_of-refreshed kinds (Guest g) Drive before ∙ same g
@@ -223,7 +223,7 @@ format_writing s row file backing suits h =
           (λ e r is_new role child over. unused l used (under_is e r is_new role child over.there) over.filename) used) s.left h.writing.left);
       written = λ node name here entered of known. subst (λ fs. content_in fs name ≡ Some Unknown) (sym files_are) (known_if (filename_of s.table file) s name known);
       emptied = λ node name here entered of none. subst (All (λ l. l.file ≢ name)) (sym left_is) none;
-      devices = same_devices s now refl (drive_derived s.table now.table kinds (format_edges row.id file backing s.table.edges) refl drives_same);
+      devices = same_devices s now refl (drive_derived s.table now.table kinds (with_format_edges row.id file backing s.table.edges) refl drives_same);
       drives = λ g node is. drive_there s.table h.table.edges g node is;
     })
     h.table.apart h.writing
@@ -241,7 +241,7 @@ format_writing s row file backing suits h =
     grow = format_grow s.table now.table row file backing suits.suits refl kinds refl h.table
 
     bytes : List ℕ
-    bytes = format_bytes s row file backing row.kind
+    bytes = bytes_by_format s row file backing row.kind
 
     disks_are : now.disks ≡ with_bytes_of row.id bytes s.disks
     disks_are = (with_format (λ name. None) (filename_of s.table file) row.kind row.id (mapped_in (content_under s file)) bytes s now.table).disks
@@ -278,11 +278,11 @@ format_writing s row file backing suits h =
     unused l used {r} is named =
         suits.unused (subst (λ n. file_state s.table n ≡ Some Used) (sym (name_is l.file r is named)) used.used)
 
-    drives_same : (g : ℕ) → child_of (Guest g) Drive (format_edges row.id file backing s.table.edges) ≡ drive_of s.table g
+    drives_same : (g : ℕ) → child_of (Guest g) Drive (with_format_edges row.id file backing s.table.edges) ≡ drive_of s.table g
     drives_same g = of_backing backing ∙ child-kept (Guest g) Drive (node_edge row.id File file) s.table.edges (λ is. cc)
       where
         of_backing : (below : Option ℕ)
-            → child_of (Guest g) Drive (backed row.id below (with_edge (node_edge row.id File file) s.table.edges))
+            → child_of (Guest g) Drive (with_backing_edge row.id below (with_edge (node_edge row.id File file) s.table.edges))
             ≡ child_of (Guest g) Drive (with_edge (node_edge row.id File file) s.table.edges)
         of_backing None = refl
         of_backing (Some node) = child-kept (Guest g) Drive (node_edge row.id Backing node) (with_edge (node_edge row.id File file) s.table.edges) (λ is. cc)
@@ -347,9 +347,9 @@ remove_writing s node suits h =
       bytes = λ other here some. subst (λ ds. IsSome (find (λ d. d.node == other) (filter (λ d. not (d.node == node)) ds))) (sym disks_are)
           (bytes-drop node other s.disks here.1 some);
       bytes_new = λ r never. absurd never;
-      left = by_row (node_at s.table node) refl refl;
+      left = by_row (node_by_id s.table node) refl refl;
       written = λ other name here entered of known. subst (λ fs. content_in fs name ≡ Some Unknown) (sym files_are) known;
-      emptied = λ other name here entered of none. empty_row other name here entered of none (node_at s.table node) refl refl;
+      emptied = λ other name here entered of none. empty_row other name here entered of none (node_by_id s.table node) refl refl;
       devices = same_devices s now refl (drive_derived s.table now.table kinds (without_parent (Node node) s.table.edges) refl
           (λ g. child-without (Node node) (Guest g) Drive s.table.edges (λ is. cc)));
       drives = λ g drive is. (
@@ -363,13 +363,13 @@ remove_writing s node suits h =
     now = stepped s (change.RemoveNode node)
 
     kinds : List NodeKind
-    kinds = kinds_of (without_row node s.table.nodes)
+    kinds = kinds_of (without_record node s.table.nodes)
 
     grow : Grows s.table now.table (IsOther s.table node) NoRow NoEdge
     grow = removed_grow s.table now.table node suits.alone refl kinds refl h.table
 
     gone_one : Option Left
-    gone_one = option_and_then (left_disk s) (node_at s.table node)
+    gone_one = option_and_then (left_disk s) (node_by_id s.table node)
 
     disks_are : (leave gone_one s).disks ≡ s.disks
     disks_are = (left_alone (λ name. None) gone_one s).disks
@@ -384,13 +384,13 @@ remove_writing s node suits h =
     all_still = All-weaker (IsUsedUp s) (IsUsedUp now) (λ l used. left_still s now (IsOther s.table node) NoRow NoEdge grow l used.used
         (λ r never. absurd never) (λ e r never. absurd never) used) s.left h.writing.left
 
-    row_of : (row : NodeRecord) → node_at s.table node ≡ Some row → Contains s.table.nodes row × (row.id ≡ node)
+    row_of : (row : NodeRecord) → node_by_id s.table node ≡ Some row → Contains s.table.nodes row × (row.id ≡ node)
     row_of row found =
         let here = find-Some (λ r. r.id == node) s.table.nodes row found in
         (here.0, eqb-true row.id node here.1)
 
     -- the edge by which it has the file under it
-    file_edge : (row file : NodeRecord) → node_at s.table node ≡ Some row → Contains s.table.nodes file → child s.table node File ≡ Some file.id
+    file_edge : (row file : NodeRecord) → node_by_id s.table node ≡ Some row → Contains s.table.nodes file → child s.table node File ≡ Some file.id
         → LeadsToFile s.table row file
     file_edge row file found there is =
         let e = role_edge (Node node) File s.table.edges file.id is in
@@ -408,10 +408,10 @@ remove_writing s node suits h =
     same_node : (a b : NodeRecord) → Contains s.table.nodes a → Contains s.table.nodes b → a.id ≡ b.id → a ≡ b
     same_node a b there_a there_b is =
         let at_a = h.table.apart a there_a in
-        let at_b = subst (λ n. node_at s.table n ≡ Some b) (sym is) (h.table.apart b there_b) in
+        let at_b = subst (λ n. node_by_id s.table n ≡ Some b) (sym is) (h.table.apart b there_b) in
         cc
 
-    used_up : (row : NodeRecord) (name : List ℕ) → node_at s.table node ≡ Some row → WritesFile s.table node name
+    used_up : (row : NodeRecord) (name : List ℕ) → node_by_id s.table node ≡ Some row → WritesFile s.table node name
         → IsUsedUp now (left_in s.disks row name)
     used_up row name found of = by_from of.from
       where
@@ -448,12 +448,12 @@ remove_writing s node suits h =
                 (old.parent node (sole.0 ∙ ap Node (row_of row found).1)).1 refl
 
     -- the disk that it leaves is in the file that it writes
-    left_of : (row : NodeRecord) (gone : Left) → node_at s.table node ≡ Some row → left_disk s row ≡ Some gone
+    left_of : (row : NodeRecord) (gone : Left) → node_by_id s.table node ≡ Some row → left_disk s row ≡ Some gone
         → WritesFile s.table node gone.file × (gone ≡ left_in s.disks row gone.file)
     left_of row gone found is =
-        by_test (row.is_settled && is_none (child s.table row.id Backing)) (file_of s.table row row.kind) refl is
+        by_test (row.is_settled && is_none (child s.table row.id Backing)) (own_filename s.table row row.kind) refl is
       where
-        by_test : (b : Bool) (file : Option (List ℕ)) → file_of s.table row row.kind ≡ file
+        by_test : (b : Bool) (file : Option (List ℕ)) → own_filename s.table row row.kind ≡ file
             → cond b (option_map (left_in s.disks row) file) None ≡ Some gone
             → WritesFile s.table node gone.file × (gone ≡ left_in s.disks row gone.file)
         by_test false file e k = absurd cc
@@ -461,27 +461,27 @@ remove_writing s node suits h =
         by_test true (Some name) e k =
             let same : left_in s.disks row name ≡ gone = cc in
             let name_is : name ≡ gone.file = ap (λ l. l.file) same in
-            let of = writes_file s.table node name (ap (option_and_then (λ r. file_of s.table r r.kind)) found ∙ e) in
+            let of = writes_file s.table node name (ap (option_and_then (λ r. own_filename s.table r r.kind)) found ∙ e) in
             (subst (WritesFile s.table node) name_is of, sym same ∙ ap (left_in s.disks row) name_is)
 
-    used_left : (row : NodeRecord) (gone : Left) → node_at s.table node ≡ Some row → left_disk s row ≡ Some gone → IsUsedUp now gone
+    used_left : (row : NodeRecord) (gone : Left) → node_by_id s.table node ≡ Some row → left_disk s row ≡ Some gone → IsUsedUp now gone
     used_left row gone found is =
         let of = left_of row gone found is in
         subst (IsUsedUp now) (sym of.1) (used_up row gone.file found of.0)
 
-    by_left : (row : NodeRecord) → node_at s.table node ≡ Some row → (gone : Option Left) → left_disk s row ≡ gone
+    by_left : (row : NodeRecord) → node_by_id s.table node ≡ Some row → (gone : Option Left) → left_disk s row ≡ gone
         → now.left ≡ (leave gone s).left → All (IsUsedUp now) now.left
     by_left row found None none is = subst (All (IsUsedUp now)) (sym is) all_still
     by_left row found (Some gone) left is =
         subst (All (IsUsedUp now)) (sym is) (All-push (IsUsedUp now) s.left gone all_still (used_left row gone found left))
 
-    by_row : (found : Option NodeRecord) → node_at s.table node ≡ found
+    by_row : (found : Option NodeRecord) → node_by_id s.table node ≡ found
         → now.left ≡ (leave (option_and_then (left_disk s) found) s).left → All (IsUsedUp now) now.left
     by_row None e is = subst (All (IsUsedUp now)) (sym is) all_still
     by_row (Some row) e is = by_left row e (left_disk s row) refl is
 
     -- no guest that stays writes the same file
-    apart : (row : NodeRecord) (other : ℕ) (name : List ℕ) → node_at s.table node ≡ Some row → IsOther s.table node other
+    apart : (row : NodeRecord) (other : ℕ) (name : List ℕ) → node_by_id s.table node ≡ Some row → IsOther s.table node other
         → IsEntered s.table other → WritesFile s.table node name → WritesFile s.table other name → ⊥
     apart row other name found here entered mine its = by_from mine.from its.from
       where
@@ -512,7 +512,7 @@ remove_writing s node suits h =
             here.1 (same ∙ own.1)
 
     empty_left : (other : ℕ) (name : List ℕ) → IsOther s.table node other → IsEntered s.table other → WritesFile s.table other name
-        → All (λ l. l.file ≢ name) s.left → (row : NodeRecord) → node_at s.table node ≡ Some row → (gone : Option Left)
+        → All (λ l. l.file ≢ name) s.left → (row : NodeRecord) → node_by_id s.table node ≡ Some row → (gone : Option Left)
         → left_disk s row ≡ gone → now.left ≡ (leave gone s).left → All (λ l. l.file ≢ name) now.left
     empty_left other name here entered of none row found None left is = subst (All (λ l. l.file ≢ name)) (sym is) none
     empty_left other name here entered of none row found (Some gone) left is =
@@ -521,7 +521,7 @@ remove_writing s node suits h =
         (λ same. apart row other name found here entered (subst (WritesFile s.table node) same (left_of row gone found left).0) of))
 
     empty_row : (other : ℕ) (name : List ℕ) → IsOther s.table node other → IsEntered s.table other → WritesFile s.table other name
-        → All (λ l. l.file ≢ name) s.left → (found : Option NodeRecord) → node_at s.table node ≡ found
+        → All (λ l. l.file ≢ name) s.left → (found : Option NodeRecord) → node_by_id s.table node ≡ found
         → now.left ≡ (leave (option_and_then (left_disk s) found) s).left → All (λ l. l.file ≢ name) now.left
     empty_row other name here entered of none None e is = subst (All (λ l. l.file ≢ name)) (sym is) none
     empty_row other name here entered of none (Some row) e is =
@@ -595,12 +595,12 @@ device_writing s device node suits h =
     drive_now : (g : ℕ) → drive_of now.table g ≡ child_of (Guest g) Drive (with_edge (device_edge device node) s.table.edges)
     drive_now g = child_of-refreshed kinds (Guest g) Drive (with_edge (device_edge device node) s.table.edges)
 
-    by_other : (number : ℕ) (other : Device) → device_at s.table number ≡ Some other → drive_of now.table number ≡ drive_of s.table number
+    by_other : (number : ℕ) (other : Device) → device_by_number s.table number ≡ Some other → drive_of now.table number ≡ drive_of s.table number
     by_other number other was =
         drive_now number
         ∙ child-kept (Guest number) Drive (device_edge device node) s.table.edges (λ same. (
         let is : device.number ≡ number = cc in
-        let none = subst (λ n. device_at s.table n ≡ None) is suits.fresh in
+        let none = subst (λ n. device_by_number s.table n ≡ None) is suits.fresh in
         cc))
 
     may : MayGuestWrite now device node

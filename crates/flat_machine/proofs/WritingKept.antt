@@ -18,11 +18,11 @@ use Rattle.blk_graph.proofs.RoleLemmas.{same_role-true}
 use Rattle.qmp_rules.specs.declared.rows.NodeRecord.{NodeRecord}
 use Rattle.qmp_rules.specs.declared.rows.Device.{Device}
 use Rattle.qmp_rules.specs.declared.rows.FileState.TheVariants.{Used}
-use Rattle.qmp_rules.specs.Table.{Table, node_at, child, device_at, file_state, has_name}
+use Rattle.qmp_rules.specs.Table.{RunTable, node_by_id, child, device_by_number, file_state, has_name}
 use Rattle.qmp_rules.specs.Chains.{filter_role, filtered, disk_node}
 use Rattle.blk_history.specs.Fold.{With}
 use Rattle.flat_machine.specs.State.{State, Unknown, Left, content_in, filename_of, drive_of}
-use Rattle.flat_machine.specs.Changed.{file_of}
+use Rattle.flat_machine.specs.Changed.{own_filename}
 use Rattle.flat_machine.specs.Writing.{IsGuestWritable, written_file}
 use Rattle.flat_machine.specs.Wiring.{AreApart, StandsFor, LeadsToFile, writes_through}
 use Rattle.flat_machine.specs.Standing.{HasBytes, IsUsedUp, MayGuestWrite, WritingStands}
@@ -57,16 +57,16 @@ role_edge parent role edges child = by_found (find (is_edge parent role) edges) 
         }
 
 -- an edge of a guest or of a filter leads to the node
-pub record IsEntered (t : Table) (node : ℕ) : Type 0 where
+pub record IsEntered (t : RunTable) (node : ℕ) : Type 0 where
   pub edge : Edge
   pub there : Contains t.edges edge
   pub child : edge.child ≡ node
   pub from : (over : NodeRecord) → Contains t.nodes over → edge.parent ≡ Node over.id → IsSome (filter_role over.kind)
 
-filtered-enters : (t : Table) → AreApart t → (node below : ℕ) → filtered t node ≡ Some below → IsEntered t below
-filtered-enters t apart node below = by_row (node_at t node) refl
+filtered-enters : (t : RunTable) → AreApart t → (node below : ℕ) → filtered t node ≡ Some below → IsEntered t below
+filtered-enters t apart node below = by_row (node_by_id t node) refl
   where
-    by_row : (found : Option NodeRecord) → node_at t node ≡ found
+    by_row : (found : Option NodeRecord) → node_by_id t node ≡ found
         → option_and_then (child t node) (option_and_then (λ row. filter_role row.kind) found) ≡ Some below → IsEntered t below
     by_row None e is = absurd cc
     by_row (Some row) e is = by_role (filter_role row.kind) refl is
@@ -81,13 +81,13 @@ filtered-enters t apart node below = by_row (node_at t node) refl
               child = to.to;
               from = λ over there parent.
                   let id_is : over.id ≡ node = (let both = sym parent ∙ to.from in cc) in
-                  let at_node : node_at t node ≡ Some over = subst (λ n. node_at t n ≡ Some over) id_is (apart over there) in
+                  let at_node : node_by_id t node ≡ Some over = subst (λ n. node_by_id t n ≡ Some over) id_is (apart over there) in
                   let same : over ≡ row = cc in
                   subst IsSome (sym (ap (λ r. filter_role r.kind) same ∙ f)) refl;
             }
 
 -- so it is with the disk of a drive
-pub drive-enters : (t : Table) (g drive : ℕ) → drive_of t g ≡ Some drive → IsEntered t drive
+pub drive-enters : (t : RunTable) (g drive : ℕ) → drive_of t g ≡ Some drive → IsEntered t drive
 drive-enters t g drive is =
     let to = role_edge (Guest g) Drive t.edges drive is in
     record {
@@ -97,26 +97,26 @@ drive-enters t g drive is =
       from = λ over there parent. absurd (let both = sym parent ∙ to.from in cc);
     }
 
-pub disk-enters : (t : Table) → AreApart t → (drive : ℕ) → IsEntered t drive → IsEntered t (disk_node t drive)
+pub disk-enters : (t : RunTable) → AreApart t → (drive : ℕ) → IsEntered t drive → IsEntered t (disk_node t drive)
 disk-enters t apart drive here =
     disk_node-there t t (IsEntered t) (λ node h. refl) (λ node below h is. filtered-enters t apart node below is) drive here
 
 -- ---- the file that a node writes
 
 -- the `file` node is the node or under it
-pub record WritesFile (t : Table) (node : ℕ) (name : List ℕ) : Type 0 where
+pub record WritesFile (t : RunTable) (node : ℕ) (name : List ℕ) : Type 0 where
   pub row : NodeRecord
   pub stands : StandsFor t name row
   pub from : (row.id ≡ node) ⊎ (child t node File ≡ Some row.id)
 
-pub writes_file : (t : Table) (node : ℕ) (name : List ℕ) → written_file t node ≡ Some name → WritesFile t node name
-writes_file t node name = by_row (node_at t node) refl
+pub writes_file : (t : RunTable) (node : ℕ) (name : List ℕ) → written_file t node ≡ Some name → WritesFile t node name
+writes_file t node name = by_row (node_by_id t node) refl
   where
     under : (found : Option ℕ) → child t node File ≡ found → option_and_then (filename_of t) found ≡ Some name → WritesFile t node name
     under None e is = absurd cc
-    under (Some file) e is = at_file (node_at t file) refl is
+    under (Some file) e is = at_file (node_by_id t file) refl is
       where
-        at_file : (row : Option NodeRecord) → node_at t file ≡ row → option_and_then (λ r. r.filename) row ≡ Some name → WritesFile t node name
+        at_file : (row : Option NodeRecord) → node_by_id t file ≡ row → option_and_then (λ r. r.filename) row ≡ Some name → WritesFile t node name
         at_file None f named = absurd cc
         at_file (Some row) f named =
             let here = find-Some (λ r. r.id == file) t.nodes row f in
@@ -126,7 +126,7 @@ writes_file t node name = by_row (node_at t node) refl
               from = inr (e ∙ ap Some (sym (eqb-true row.id file here.1)));
             }
 
-    by_kind : (row : NodeRecord) → node_at t node ≡ Some row → (kind : Kind) → file_of t row kind ≡ Some name → WritesFile t node name
+    by_kind : (row : NodeRecord) → node_by_id t node ≡ Some row → (kind : Kind) → own_filename t row kind ≡ Some name → WritesFile t node name
     by_kind row e Protocol is =
         let here = find-Some (λ r. r.id == node) t.nodes row e in
         record { row = row; stands = record { there = here.0; filename = is }; from = inl (eqb-true row.id node here.1) }
@@ -141,7 +141,7 @@ writes_file t node name = by_row (node_at t node) refl
     by_kind row e Mirror is = absurd cc
     by_kind row e Commit is = absurd cc
 
-    by_row : (found : Option NodeRecord) → node_at t node ≡ found → option_and_then (λ row. file_of t row row.kind) found ≡ Some name
+    by_row : (found : Option NodeRecord) → node_by_id t node ≡ found → option_and_then (λ row. own_filename t row row.kind) found ≡ Some name
         → WritesFile t node name
     by_row None e is = absurd cc
     by_row (Some row) e is = by_kind row e row.kind is
@@ -153,9 +153,9 @@ module _ (s now : State) (P : ℕ → Type 0) (IsNewRow : NodeRecord → Type 0)
   pub file_same : (node : ℕ) → P node → written_file now.table node ≡ written_file s.table node
   file_same node here =
       let both = g.stays node here in
-      ap (option_and_then (λ row. file_of now.table row row.kind)) both.found_later
+      ap (option_and_then (λ row. own_filename now.table row row.kind)) both.found_later
       ∙ of_rows both both.row.kind refl
-      ∙ sym (ap (option_and_then (λ row. file_of s.table row row.kind)) both.found)
+      ∙ sym (ap (option_and_then (λ row. own_filename s.table row row.kind)) both.found)
     where
       names_same : (found : Option ℕ) → child s.table node File ≡ found
           → option_and_then (filename_of now.table) found ≡ option_and_then (filename_of s.table) found
@@ -169,7 +169,7 @@ module _ (s now : State) (P : ℕ → Type 0) (IsNewRow : NodeRecord → Type 0)
       under_same = ap (option_and_then (filename_of now.table)) (g.children node File here) ∙ names_same (child s.table node File) refl
 
       of_kind : (row later : NodeRecord) → row.id ≡ node → later.id ≡ node → later.filename ≡ row.filename → (kind : Kind)
-          → file_of now.table later kind ≡ file_of s.table row kind
+          → own_filename now.table later kind ≡ own_filename s.table row kind
       of_kind row later is is_later same Protocol = same
       of_kind row later is is_later same Raw = rw (is, is_later) under_same
       of_kind row later is is_later same Qcow2 = rw (is, is_later) under_same
@@ -179,10 +179,10 @@ module _ (s now : State) (P : ℕ → Type 0) (IsNewRow : NodeRecord → Type 0)
       of_kind row later is is_later same Commit = refl
 
       of_rows : (both : BothAt s.table now.table node) (kind : Kind) → both.row.kind ≡ kind
-          → file_of now.table both.later both.later.kind ≡ file_of s.table both.row both.row.kind
+          → own_filename now.table both.later both.later.kind ≡ own_filename s.table both.row both.row.kind
       of_rows both kind is =
           let id_is = eqb-true both.row.id node (find-Some (λ r. r.id == node) s.table.nodes both.row both.found).1 in
-          ap (file_of now.table both.later) both.like.kind
+          ap (own_filename now.table both.later) both.like.kind
           ∙ of_kind both.row both.later id_is (both.like.id ∙ id_is) both.like.filename both.row.kind
 
   -- what is done to the file that it writes
@@ -244,8 +244,8 @@ module _ (s now : State) (P : ℕ → Type 0) (IsNewRow : NodeRecord → Type 0)
     pub emptied : (node : ℕ) (name : List ℕ) → P node → IsEntered s.table node → WritesFile s.table node name
         → All (λ l. l.file ≢ name) s.left → All (λ l. l.file ≢ name) now.left
     -- a device was there, with its drive, or it may write as it does
-    pub devices : (number : ℕ) (device : Device) → device_at now.table number ≡ Some device
-        → ((device_at s.table number ≡ Some device) × (drive_of now.table number ≡ drive_of s.table number))
+    pub devices : (number : ℕ) (device : Device) → device_by_number now.table number ≡ Some device
+        → ((device_by_number s.table number ≡ Some device) × (drive_of now.table number ≡ drive_of s.table number))
         ⊎ With (drive_of now.table number) (MayGuestWrite now device)
     pub drives : (number drive : ℕ) → drive_of s.table number ≡ Some drive → P drive
 

@@ -10,13 +10,13 @@ use Rattle.blk_graph.proofs.Members.{find-Some}
 use Rattle.trace_codec.specs.declared.op.Op.{Op}
 use Rattle.trace_codec.specs.declared.op.Op.TheVariants.{Read, Write, Zero, Flush, Discard}
 use Rattle.qmp_rules.specs.declared.rows.NodeRecord.{NodeRecord}
-use Rattle.qmp_rules.specs.Table.{Table, node_at, has_name}
+use Rattle.qmp_rules.specs.Table.{RunTable, node_by_id, has_name}
 use Rattle.qmp_rules.specs.Chains.{disk_node, is_over, unsettled_over, written_under}
 use Rattle.blk_history.specs.Fold.{With}
 use Rattle.blk_history.specs.Disk.{done_in, payload_in}
 use Rattle.blk_history.specs.Machine.{done_by}
 use Rattle.flat_machine.specs.State.{State, Content, Unknown, Left, Disk, bytes_in, content_in}
-use Rattle.flat_machine.specs.Machine.{disk_changed, with_disk, written, with_part, note, noted as noted_dirty, is_noted, read_through, copies_at, path}
+use Rattle.flat_machine.specs.Machine.{disk_changed, with_disk, node_written, with_part, note, noted as noted_dirty, is_noted, read_through, copies_at, path}
 use Rattle.flat_machine.specs.Jobs.{unsure}
 use Rattle.flat_machine.specs.Final.{IsDiskIn}
 use Rattle.flat_machine.specs.Agreement.{Contents, HasDisk, ReadAsDisks, IsAsKnown, IsLeftAs, Agrees}
@@ -53,7 +53,7 @@ bytes_in-unchanged node n f (d ∷ disks) differ = by_test (d.node == node) refl
 
 -- ---- rows
 
-like_over : (t : Table) (node : ℕ) (row : NodeRecord) → (unsettled_over t node row).id ≡ row.id
+like_over : (t : RunTable) (node : ℕ) (row : NodeRecord) → (unsettled_over t node row).id ≡ row.id
 like_over t node row = by_test (is_over t node row.id)
   where
     by_test : (b : Bool) → (cond b (record row { is_settled = false }) row).id ≡ row.id
@@ -61,7 +61,7 @@ like_over t node row = by_test (is_over t node row.id)
     by_test false = refl
 
 -- one that keeps its disk doesn't read the node as a backing node
-disk_over : (t : Table) (node : ℕ) (row : NodeRecord) → HasDisk (unsettled_over t node row) → (is_over t node row.id ≡ false) × HasDisk row
+disk_over : (t : RunTable) (node : ℕ) (row : NodeRecord) → HasDisk (unsettled_over t node row) → (is_over t node row.id ≡ false) × HasDisk row
 disk_over t node row = by_test (is_over t node row.id) refl
   where
     by_test : (b : Bool) → is_over t node row.id ≡ b → HasDisk (cond b (record row { is_settled = false }) row)
@@ -69,7 +69,7 @@ disk_over t node row = by_test (is_over t node row.id) refl
     by_test true e h = absurd (let settled = h.settled in cc)
     by_test false e h = (e, h)
 
-not_over : (t : Table) (node n : ℕ) (row : NodeRecord) → find (λ r. r.id == n) (map (unsettled_over t node) t.nodes) ≡ Some row → HasDisk row
+not_over : (t : RunTable) (node n : ℕ) (row : NodeRecord) → find (λ r. r.id == n) (map (unsettled_over t node) t.nodes) ≡ Some row → HasDisk row
     → is_over t node n ≡ false
 not_over t node n row found disk =
     let of_old = sym (find-map (λ r. r.id == n) (unsettled_over t node) (λ r. ap (λ k. k == n) (like_over t node r)) t.nodes) ∙ found in
@@ -153,7 +153,7 @@ module _ (opening : List ℕ → Option (List ℕ)) (s now : State) (node : ℕ)
           → new.reads n ≡ bytes_in (map (disk_changed node (done_in op part done)) s.disks) n
       by_node n over (inl never) same = absurd never
       by_node n over (inr had) (inl same) =
-          let at_node : node_at s.table node ≡ Some had.row = subst (λ m. node_at s.table m ≡ Some had.row) same had.found in
+          let at_node : node_by_id s.table node ≡ Some had.row = subst (λ m. node_by_id s.table m ≡ Some had.row) same had.found in
           subst (λ m. new.reads m ≡ bytes_in (map (disk_changed node (done_in op part done)) s.disks) m) (sym same)
           (did.written ∙ ap (done_in op part done) (h.disks node had.row at_node had.disk)
           ∙ sym (bytes_in-changed node (done_in op part done) s.disks can.disk))
@@ -267,12 +267,12 @@ module _ (opening : List ℕ → Option (List ℕ)) where
   piece_keeps s drive (Write span payload) outcome part old new can did h =
       let node : ℕ = disk_node s.table drive in
       let op : Op = Write span payload in
-      let beside = noted outcome part drive (written node (with_disk node (done_in op part (done_by outcome part)) s)) in
+      let beside = noted outcome part drive (node_written node (with_disk node (done_in op part (done_by outcome part)) s)) in
       write_keeps opening s (with_part drive op outcome part s) node op part (done_by outcome part) old new
       beside.nodes beside.disks beside.files beside.left beside.named can did h
   piece_keeps s drive (Zero span) outcome part old new can did h =
       let node : ℕ = disk_node s.table drive in
       let op : Op = Zero span in
-      let beside = noted outcome part drive (written node (with_disk node (done_in op part (done_by outcome part)) s)) in
+      let beside = noted outcome part drive (node_written node (with_disk node (done_in op part (done_by outcome part)) s)) in
       write_keeps opening s (with_part drive op outcome part s) node op part (done_by outcome part) old new
       beside.nodes beside.disks beside.files beside.left beside.named can did h

@@ -3,7 +3,7 @@ use Rattle.std.specs.Prelude.{◌≡◌, ℕ, true, false, List, length, All, Op
 use Rattle.q2_format.specs.Created.{Creation, CanBeCreated, IsCreated, creation_of}
 use Rattle.qmp_rules.specs.declared.rows.NodeRecord.{NodeRecord}
 use Rattle.qmp_rules.specs.declared.rows.JobRecord.{JobRecord}
-use Rattle.qmp_rules.specs.Table.{node_at, job_at, has_name}
+use Rattle.qmp_rules.specs.Table.{node_by_id, job_at, has_name}
 use Rattle.qmp_rules.specs.Chains.{filter_role}
 use Rattle.blk_history.specs.Fold.{With}
 use Rattle.flat_machine.specs.State.{State, Content, Bytes, Blank, Unknown, Left, bytes_in, bytes_at_node, content_in}
@@ -23,7 +23,7 @@ pub record HasDisk (row : NodeRecord) : Type 0 where
 
 abbrev pub ReadAsDisks : State → Contents → Type 0
 ReadAsDisks s c =
-    (node : ℕ) (row : NodeRecord) → node_at s.table node ≡ Some row → HasDisk row
+    (node : ℕ) (row : NodeRecord) → node_by_id s.table node ≡ Some row → HasDisk row
     → c.reads node ≡ bytes_in s.disks node
 
 -- ---- files

@@ -6,7 +6,7 @@ use Rattle.blk_bitmaps.specs.Rows.{AreSingle, IsCountable, records, written}
 use Rattle.blk_bitmaps.specs.Calls.{where_so}
 use Rattle.qmp_rules.specs.declared.change.Change.{Change}
 use Rattle.qmp_rules.specs.declared.rows.BitmapRow.{BitmapRow}
-use Rattle.qmp_rules.specs.Table.{Table}
+use Rattle.qmp_rules.specs.Table.{RunTable}
 use Rattle.qmp_rules.specs.Changes.{all_changed}
 use Rattle.flat_machine.specs.Recording.{dirty_after}
 use Rattle.flat_machine.specs.State.{Dirty}
@@ -50,6 +50,7 @@ pub record AreBitmapsOf (rows : List BitmapRow) (bitmaps : List Bitmap) : Type 0
   pub each : (row : Bitmap) → Contains bitmaps row → IsFreeBitmap row
 
 -- they are what the changes make of rows and of dirty granules
-pub record FollowChanges (t : Table) (old now : List Bitmap) (changes : List Change) : Type 0 where
+pub record FollowChanges (t : RunTable) (old now : List Bitmap)
+    (changes : List Change) : Type 0 where
   pub listed : AreBitmapsOf (all_changed t changes).bitmaps now
   pub dirty : map dirty_in now ≡ dirty_after t (map dirty_in old) changes

@@ -2,7 +2,7 @@
 use Rattle.std.specs.Prelude.{◌≡◌, ◌⊎◌, ℕ, ◌+◌, ◌<◌, ◌≤◌, true, List, [], ◌∷◌, length, Contains, Option, Some, None}
 use Rattle.qmp_rules.specs.declared.rows.JobRecord.{JobRecord}
 use Rattle.qmp_rules.specs.declared.rows.Asked.TheVariants as asked
-use Rattle.qmp_rules.specs.Table.{device_at, job_in}
+use Rattle.qmp_rules.specs.Table.{device_by_number, job_in}
 use Rattle.trace_codec.specs.declared.awaiting.Await.{Await}
 use Rattle.trace_codec.specs.declared.awaiting.Await.TheVariants as await
 use Rattle.blk_history.specs.Fold.{With}
@@ -30,7 +30,7 @@ ScriptWaits s orders waits = ⊥
 abbrev pub TraceWaits : State → ℕ → List Wish → Waits (List ℕ) → Type 0
 TraceWaits s g [] waits = ⊥
 TraceWaits s g (Wait line ∷ wishes) waits = waits ≡ Line line
-TraceWaits s g (Ask op ∷ wishes) waits = (device_at s.table g ≡ None) × (waits ≡ Attached)
+TraceWaits s g (Ask op ∷ wishes) waits = (device_by_number s.table g ≡ None) × (waits ≡ Attached)
 
 pub record GuestWaits (s : State) (c : Course) (g : ℕ) (waits : Waits (List ℕ)) : Type 0 where
   pub idle : With (guest_at s g) (λ row. row.flight ≡ None)

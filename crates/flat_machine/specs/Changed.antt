@@ -14,12 +14,12 @@ use Rattle.qmp_rules.specs.declared.rows.JobRecord.{JobRecord}
 use Rattle.qmp_rules.specs.declared.rows.BitmapRow.{BitmapRow}
 use Rattle.qmp_rules.specs.declared.change.Change.{Change}
 use Rattle.qmp_rules.specs.declared.change.Change.TheVariants as change
-use Rattle.qmp_rules.specs.Table.{Table, node_at, child}
+use Rattle.qmp_rules.specs.Table.{RunTable, node_by_id, child}
 use Rattle.qmp_rules.specs.Changes.{changed}
 use Rattle.blk_history.specs.Fold.{run}
-use Rattle.flat_machine.specs.State.{State, Disk, Left, Content, Bytes, Unknown, Mapped, bytes_in, bytes_at_node, content_in, filename_of, size_of}
+use Rattle.flat_machine.specs.State.{State, Disk, Left, Content, Bytes, Unknown, Mapped, bytes_in, bytes_at_node, content_in, filename_of, size_by_id}
 use Rattle.flat_machine.specs.Contents.{with_content, formatted, mapped_in, file_bytes, image_bytes}
-use Rattle.flat_machine.specs.Marking.{clean, emptied, is_dirty_of, dirty_at, where_so, merge_from}
+use Rattle.flat_machine.specs.Marking.{clean, made_clean, is_dirty_of, dirty_at, where_dirty, merge_from}
 
 -- ---- rows
 
@@ -72,10 +72,11 @@ bytes_below s None = []
 bytes_below s (Some node) = bytes_at_node s node
 
 -- a raw node reads as its part of the `file` node, and a qcow2 node as the image over its backing node
-abbrev pub format_bytes : State → NodeRecord → ℕ → Option ℕ → Kind → List ℕ
-format_bytes s row file backing Raw = raw_disk row.offset row.size (bytes_in s.disks file)
-format_bytes s row file backing Qcow2 = image_bytes (content_under s file) (bytes_below s backing)
-format_bytes s row file backing kind = []
+abbrev pub bytes_by_format : State → NodeRecord → ℕ → Option ℕ → Kind → List ℕ
+bytes_by_format s row file backing Raw = raw_disk row.offset row.size (bytes_in s.disks file)
+bytes_by_format s row file backing Qcow2 =
+    image_bytes (content_under s file) (bytes_below s backing)
+bytes_by_format s row file backing kind = []
 
 abbrev pub note_image : Kind → ℕ → Mapped → State → State
 note_image Qcow2 node mapped s =
@@ -92,16 +93,16 @@ abbrev pub add_format : NodeRecord → ℕ → Option ℕ → State → State
 add_format row file backing s =
     know_if (filename_of s.table file) Unknown
     (note_image row.kind row.id (mapped_in (content_under s file))
-    (put row.id (format_bytes s row file backing row.kind) s))
+    (put row.id (bytes_by_format s row file backing row.kind) s))
 
 -- ---- nodes that go
 
 -- the file that a node reads by itself
-abbrev pub file_of : Table → NodeRecord → Kind → Option (List ℕ)
-file_of t row Protocol = row.filename
-file_of t row Raw = option_and_then (filename_of t) (child t row.id File)
-file_of t row Qcow2 = option_and_then (filename_of t) (child t row.id File)
-file_of t row kind = None
+abbrev pub own_filename : RunTable → NodeRecord → Kind → Option (List ℕ)
+own_filename t row Protocol = row.filename
+own_filename t row Raw = option_and_then (filename_of t) (child t row.id File)
+own_filename t row Qcow2 = option_and_then (filename_of t) (child t row.id File)
+own_filename t row kind = None
 
 -- a settled node without a backing node leaves its disk in its file
 abbrev pub left_in : List Disk → NodeRecord → List ℕ → Left
@@ -119,7 +120,7 @@ leave (Some left) s = record s { left = s.left ++ left ∷ [] }
 abbrev pub left_disk : State → NodeRecord → Option Left
 left_disk s row =
     if row.is_settled && is_none (child s.table row.id Backing)
-    then option_map (left_in s.disks row) (file_of s.table row row.kind)
+    then option_map (left_in s.disks row) (own_filename s.table row row.kind)
     else None
 
 abbrev pub drop_node : ℕ → State → State
@@ -130,17 +131,18 @@ drop_node node s = record s {
 }
 
 abbrev pub remove_node : ℕ → State → State
-remove_node node s = drop_node node (leave (option_and_then (left_disk s) (node_at s.table node)) s)
+remove_node node s =
+    drop_node node (leave (option_and_then (left_disk s) (node_by_id s.table node)) s)
 
 -- ---- bitmaps
 
 abbrev pub add_bitmap : BitmapRow → State → State
-add_bitmap row s = record s { dirty = s.dirty ++ clean row (size_of s.table row.node) ∷ [] }
+add_bitmap row s = record s { dirty = s.dirty ++ clean row (size_by_id s.table row.node) ∷ [] }
 
 -- ---- jobs
 
 -- the file of the overlay in whose header a commit to an inner base writes a name
-abbrev pub overlay_file : Table → JobRecord → JobKind → Option (List ℕ)
+abbrev pub overlay_file : RunTable → JobRecord → JobKind → Option (List ℕ)
 overlay_file t row Commit = over_file row.read
   where
     over_file : List ℕ → Option (List ℕ)
@@ -173,7 +175,7 @@ beside s (change.AddBitmap row) = add_bitmap row s
 beside s (change.RemoveBitmap node name) =
     record s { dirty = filter (λ d. not (is_dirty_of node name d)) s.dirty }
 beside s (change.ClearBitmap node name) =
-    record s { dirty = where_so (is_dirty_of node name) emptied s.dirty }
+    record s { dirty = where_dirty (is_dirty_of node name) made_clean s.dirty }
 beside s (change.MergeBitmap node name source_node source) =
     record s { dirty = merge_from (dirty_at s.dirty source_node source) node name s.dirty }
 beside s other = s

@@ -4,7 +4,7 @@ use Rattle.qmp_rules.specs.declared.rows.JobRecord.{JobRecord}
 use Rattle.qmp_rules.specs.Table.{job_at}
 use Rattle.blk_history.specs.Fold.{run, change}
 use Rattle.blk_history.specs.Names.{JobLine, RowNames, no_job}
-use Rattle.flat_machine.specs.State.{State, Guest, size_of}
+use Rattle.flat_machine.specs.State.{State, Guest, size_by_id}
 use Rattle.flat_machine.specs.Machine.{after, replay, admitted, finished, past_piece}
 use Rattle.flat_machine.specs.Legal.{Legal, IsAtRest}
 use Rattle.flat_machine.specs.Marks.{NoneSplits}
@@ -26,7 +26,7 @@ job_line_of s None = no_job
 job_line_of s (Some row) = record {
   id = row.id;
   kind = row.kind;
-  size = size_of s.table row.source;
+  size = size_by_id s.table row.source;
 }
 
 -- the jobs that a history starts, in order

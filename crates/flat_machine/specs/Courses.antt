@@ -41,8 +41,8 @@ abbrev pub behind : List Wish → List Wish
 behind [] = []
 behind (wish ∷ wishes) = wishes
 
-abbrev pub asked : ℕ → Course → Course
-asked g c =
+abbrev pub request_asked : ℕ → Course → Course
+request_asked g c =
     record c { traces = change g (λ wishes. behind (past_waits c.answered wishes)) c.traces }
 
 abbrev pub Begins : Op → List Wish → Type 0
@@ -73,8 +73,8 @@ IsWatched line what orders = ⊥
 -- ---- each entry
 
 abbrev pub onward : Course → Event → Course
-onward c (Admit g r op) = asked g c
-onward c (Refuse g r op why) = asked g c
+onward c (Admit g r op) = request_asked g c
+onward c (Refuse g r op why) = request_asked g c
 onward c (Reply line given command text) = answered_line line c
 onward c (Reached line what) = answered_line line c
 onward c (Done actor) = record c { ended = c.ended ++ actor ∷ [] }

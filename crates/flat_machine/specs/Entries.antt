@@ -2,7 +2,7 @@
 use Rattle.std.specs.Prelude.{◌≡◌, ◌≢◌, ℕ, ◌-◌, if◌then◌else◌, List, [], ◌∷◌, ◌++◌, map, Contains, AllPairs, Option, Some, None}
 use Rattle.std.specs.List.{range_with_len}
 use Rattle.qmp_rules.specs.declared.rows.JobRecord.{JobRecord}
-use Rattle.qmp_rules.specs.Table.{Table, job_at}
+use Rattle.qmp_rules.specs.Table.{RunTable, job_at}
 use Rattle.blk_history.specs.Fold.{With}
 use Rattle.flat_machine.specs.State.{State}
 use Rattle.flat_machine.specs.Replies.{replied, is_accepted}
@@ -25,7 +25,7 @@ ended_job (End job outcome offset) = Some job
 ended_job e = None
 
 -- the ends of all members of a group, each once
-pub record AreEndsOf (t : Table) (group : ℕ) (es : List Event) : Type 0 where
+pub record AreEndsOf (t : RunTable) (group : ℕ) (es : List Event) : Type 0 where
   pub ends : (e : Event) → Contains es e
       → With (ended_job e) (λ job. With (job_at t job) (λ row. row.group ≡ Some group))
   pub all : (row : JobRecord) → Contains t.jobs row → row.group ≡ Some group
@@ -33,7 +33,7 @@ pub record AreEndsOf (t : Table) (group : ℕ) (es : List Event) : Type 0 where
   pub once : AllPairs (λ a b. a ≢ b) (map ended_job es)
 
 -- the end of a job without a group, or those of all members of its group side by side
-abbrev pub AreEnds : Table → Option ℕ → List Event → Type 0
+abbrev pub AreEnds : RunTable → Option ℕ → List Event → Type 0
 AreEnds t None (e ∷ es) = es ≡ []
 AreEnds t None [] = ⊥
 AreEnds t (Some group) es = AreEndsOf t group es

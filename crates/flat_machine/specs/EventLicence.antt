@@ -22,14 +22,14 @@ use Rattle.qmp_codec.specs.declared.nodes.Added.TheVariants as added
 use Rattle.qmp_codec.specs.declared.nodes.Created.{Created}
 use Rattle.qmp_codec.specs.declared.nodes.Created.TheVariants as created
 use Rattle.qmp_rules.specs.declared.rows.JobRecord.{JobRecord}
-use Rattle.qmp_rules.specs.Table.{Table, id_named}
+use Rattle.qmp_rules.specs.Table.{RunTable, id_named}
 use Rattle.qmp_rules.specs.Chains.{reaches}
 use Rattle.blk_history.specs.Disk.{is_write}
 use Rattle.blk_history.specs.Fold.{With}
 use Rattle.flat_machine.specs.State.{State, drive_of}
 use Rattle.flat_machine.specs.Machine.{path}
-use Rattle.flat_machine.specs.Replies.{command_in, desc_of}
-use Rattle.flat_machine.specs.Licence.{Counts, IsBetween, fault_at, source_of, named_in}
+use Rattle.flat_machine.specs.Replies.{command_read, desc_of}
+use Rattle.flat_machine.specs.Licence.{Counts, IsBetween, fault_at, fault_source, named_in}
 use Rattle.blk_history.specs.declared.entry.Cause.TheVariants.{Group}
 use Rattle.blk_history.specs.declared.entry.JobEnd.{JobEnd}
 use Rattle.blk_history.specs.declared.entry.JobEnd.TheVariants.{Failed, Cancelled}
@@ -45,17 +45,17 @@ pub record Sources : Type 0 where
 -- ---- devices of nodes
 
 -- a `file` node that the node is, or to which a path of edges leads, has the device
-pub record ReachesDevice (t : Table) (sources : Sources) (node dev : ℕ) : Type 0 where
+pub record ReachesDevice (t : RunTable) (sources : Sources) (node dev : ℕ) : Type 0 where
   pub file : ℕ
   pub leads : (node ≡ file) ⊎ (reaches t node file ≡ true)
   pub device : sources.device_of file ≡ Some dev
 
 -- the device that a fault of a piece, or of a job, names
-abbrev pub device_in : Outcome → Option DevNo
-device_in Good = None
-device_in (Torn done dev count) = Some dev
-device_in (Io dev count) = Some dev
-device_in (NoSpace dev) = Some dev
+abbrev pub faulty_device : Outcome → Option DevNo
+faulty_device Good = None
+faulty_device (Torn done dev count) = Some dev
+faulty_device (Io dev count) = Some dev
+faulty_device (NoSpace dev) = Some dev
 
 abbrev pub device_at_fault : Fault → DevNo
 device_at_fault (faults.Io dev count) = dev
@@ -63,27 +63,27 @@ device_at_fault (faults.NoSpace dev) = dev
 
 -- ---- pieces: a device that the guest's node reaches
 
-abbrev pub IsOnTheWay : Table → Sources → Option ℕ → Option DevNo → Type 0
+abbrev pub IsOnTheWay : RunTable → Sources → Option ℕ → Option DevNo → Type 0
 IsOnTheWay t sources drive None = Unit {0}
 IsOnTheWay t sources drive (Some dev) = With drive (λ node. ReachesDevice t sources node dev.0)
 
 -- ---- commands: the store, the device of the node that it names, or that of the file that it opens
 
-abbrev pub IsDeviceFor : Table → Sources → Counts → ℕ → FileRef (List ℕ) → Type 0
+abbrev pub IsDeviceFor : RunTable → Sources → Counts → ℕ → FileRef (List ℕ) → Type 0
 IsDeviceFor t sources before dev (file_ref.Name name) =
     With (id_named t name) (λ node. sources.device_of node ≡ Some dev)
 IsDeviceFor t sources before dev (file_ref.Inline file) = dev ≡ length before.devices
 
-abbrev pub IsOfAddition : Table → Sources → Counts → ℕ → Added (List ℕ) → Type 0
+abbrev pub IsOfAddition : RunTable → Sources → Counts → ℕ → Added (List ℕ) → Type 0
 IsOfAddition t sources before dev (added.Qcow2 image) = IsDeviceFor t sources before dev image.file
 IsOfAddition t sources before dev driver = ⊥
 
-abbrev pub IsOfCreation : Table → Sources → Counts → ℕ → Created (List ℕ) → Type 0
+abbrev pub IsOfCreation : RunTable → Sources → Counts → ℕ → Created (List ℕ) → Type 0
 IsOfCreation t sources before dev (created.Qcow2 c) =
     IsDeviceFor t sources before dev (file_ref.Name c.file)
 IsOfCreation t sources before dev options = ⊥
 
-abbrev pub IsCalledBy : Table → Sources → Counts → FaultFrom → Option Cmd → Type 0
+abbrev pub IsCalledBy : RunTable → Sources → Counts → FaultFrom → Option Cmd → Type 0
 IsCalledBy t sources before (Dev dev) (Some (command.BlockdevAdd c)) =
     IsOfAddition t sources before dev.0 c.driver
 IsCalledBy t sources before (Dev dev) (Some (command.BlockdevCreate c)) =
@@ -102,7 +102,7 @@ pub data Deed : Type 0 where
   PieceOn : ℕ → Op → Deed
 
 -- it is done for the job: a piece of a guest's write copies for a backup whose filter it passes
-abbrev pub IsDoneFor : Table → Deed → JobRecord → Type 0
+abbrev pub IsDoneFor : RunTable → Deed → JobRecord → Type 0
 IsDoneFor t (Turn slot) row = row.slot ≡ slot
 IsDoneFor t (Take slot) row = row.slot ≡ slot
 IsDoneFor t (Settle job) row = row.number ≡ job
@@ -118,7 +118,7 @@ HasFaultCause opened now would_pass (faults.Io dev count) =
 HasFaultCause opened now would_pass (faults.NoSpace dev) = would_pass dev.0
 
 -- A job meets a fault once, in what is done for it, of a device that one of its nodes reaches.
-pub record MayMeet (t : Table) (sources : Sources) (deed : Deed) (opened now : Counts)
+pub record MayMeet (t : RunTable) (sources : Sources) (deed : Deed) (opened now : Counts)
     (would_pass : ℕ → Type 0) (row : JobRecord)
     (fault : Fault) : Type 0 where
   pub first : sources.met_by row.number ≡ None
@@ -140,7 +140,7 @@ abbrev pub RoseIn : Counts → Counts → Option FaultAt → Type 0
 RoseIn opened now None = Unit {0}
 RoseIn opened now (Some fault) = IsBetween opened now fault
 
-abbrev pub IsCommandsFault : Table → Sources → Counts → Option FaultAt → Option Cmd → Type 0
+abbrev pub IsCommandsFault : RunTable → Sources → Counts → Option FaultAt → Option Cmd → Type 0
 IsCommandsFault t sources before None c = Unit {0}
 IsCommandsFault t sources before (Some fault) c = IsCalledBy t sources before fault.from c
 
@@ -155,7 +155,8 @@ device_from source = None
 
 abbrev pub full_in_words : List (List ℕ) → Option ℕ
 full_in_words (verb ∷ source ∷ []) =
-    if bytes_eq verb (codes "nospace") then option_and_then device_from (source_of source) else None
+    if bytes_eq verb (codes "nospace") then option_and_then device_from (fault_source source)
+    else None
 full_in_words words = None
 
 abbrev pub full_in_text : List ℕ → Option ℕ
@@ -167,7 +168,8 @@ WouldPass would_pass None = Unit {0}
 WouldPass would_pass (Some dev) = would_pass dev
 
 -- a command's write: it is a device that the command calls
-abbrev pub IsCommandsFull : Table → Sources → Counts → (ℕ → Type 0) → Option ℕ → Option Cmd → Type 0
+abbrev pub IsCommandsFull : RunTable → Sources → Counts → (ℕ → Type 0) → Option ℕ → Option Cmd
+    → Type 0
 IsCommandsFull t sources before would_pass None c = Unit {0}
 IsCommandsFull t sources before would_pass (Some dev) c =
     IsCalledBy t sources before (Dev (record { 0 = dev })) c × would_pass dev
@@ -175,15 +177,15 @@ IsCommandsFull t sources before would_pass (Some dev) c =
 abbrev pub IsLicensedBy : State → Sources → (before opened now : Counts) → (ℕ → Type 0) → Event
     → Type 0
 IsLicensedBy s sources before opened now would_pass (Piece g r k outcome got) =
-    IsOnTheWay s.table sources (drive_of s.table g) (device_in outcome)
+    IsOnTheWay s.table sources (drive_of s.table g) (faulty_device outcome)
     × RoseIn opened now (named_in (Piece g r k outcome got))
     × WouldPass would_pass (full_by outcome)
 IsLicensedBy s sources before opened now would_pass (Reply line given command text) =
     IsCommandsFault s.table sources before (named_in (Reply line given command text))
-    (command_in (command_at given))
+    (command_read (command_at given))
     × RoseIn opened now (named_in (Reply line given command text))
     × IsCommandsFull s.table sources before would_pass (full_in_text text)
-    (command_in (command_at given))
+    (command_read (command_at given))
 IsLicensedBy s sources before opened now would_pass (End job outcome offset) =
     EndsAsMet sources job outcome
 IsLicensedBy s sources before opened now would_pass e = Unit {0}

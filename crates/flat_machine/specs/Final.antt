@@ -8,7 +8,7 @@ use Rattle.blk_graph.specs.declared.kind.Kind.TheVariants.{Protocol, Raw, Qcow2}
 use Rattle.q2_format.specs.Contents.{file_disk, raw_disk, image_disk}
 use Rattle.q2_format.specs.Sound.{IsSound}
 use Rattle.qmp_rules.specs.declared.rows.NodeRecord.{NodeRecord}
-use Rattle.qmp_rules.specs.Table.{Table, has_name, node_at, child}
+use Rattle.qmp_rules.specs.Table.{RunTable, has_name, node_by_id, child}
 use Rattle.qmp_rules.specs.Chains.{filtered, is_settled}
 use Rattle.blk_history.specs.Fold.{With}
 use Rattle.flat_machine.specs.State.{State, Left, bytes_at_node, filename_of}
@@ -31,7 +31,7 @@ abbrev pub bytes_named : List File → List ℕ → Option (List ℕ)
 bytes_named files name = option_map (λ f. f.bytes) (file_at name files)
 
 -- the bytes of the file that a `file` node stands for
-abbrev pub bytes_under : List File → Table → ℕ → List ℕ
+abbrev pub bytes_under : List File → RunTable → ℕ → List ℕ
 bytes_under files t node = unwrap_or (option_and_then (bytes_named files) (filename_of t node)) []
 
 -- that of a node below, where there is one
@@ -41,7 +41,7 @@ below_as reads (Some node) = reads node
 
 -- A `file` node is its file, `raw` its part of the `file` node, qcow2 the image in the file over what the backing node reads
 -- as, and a filter what its child does.
-abbrev pub row_bytes : List File → Table → (ℕ → List ℕ) → NodeRecord → Kind → List ℕ
+abbrev pub row_bytes : List File → RunTable → (ℕ → List ℕ) → NodeRecord → Kind → List ℕ
 row_bytes files t reads row Protocol = file_disk row.size (bytes_under files t row.id)
 row_bytes files t reads row Raw =
     raw_disk row.offset row.size (below_as reads (child t row.id FileRole))
@@ -50,15 +50,15 @@ row_bytes files t reads row Qcow2 =
     (below_as reads (child t row.id Backing))
 row_bytes files t reads row filter = below_as reads (filtered t row.id)
 
-abbrev pub node_bytes_in : ℕ → List File → Table → ℕ → List ℕ
+abbrev pub node_bytes_in : ℕ → List File → RunTable → ℕ → List ℕ
 node_bytes_in zero files t node = []
-node_bytes_in (suc turns) files t node = elim (node_at t node) as (λ _. List ℕ) [
+node_bytes_in (suc turns) files t node = elim (node_by_id t node) as (λ _. List ℕ) [
   | None ↦ []
   | Some row ↦ row_bytes files t (node_bytes_in turns files t) row row.kind
 ]
 
 -- what a node reads as by the files alone; there are at most 64 nodes, and none reaches itself
-unfoldable pub node_bytes : List File → Table → ℕ → List ℕ
+unfoldable pub node_bytes : List File → RunTable → ℕ → List ℕ
 node_bytes files t node = node_bytes_in 64 files t node
 
 -- each node with a flat disk reads as it

@@ -6,7 +6,7 @@ use Rattle.blk_graph.specs.declared.kind.Kind.{Kind}
 use Rattle.blk_graph.specs.declared.kind.Kind.TheVariants.{Qcow2}
 use Rattle.qmp_rules.specs.declared.change.Change.{Change}
 use Rattle.qmp_rules.specs.declared.change.Change.TheVariants as change
-use Rattle.qmp_rules.specs.Table.{Table, node_at}
+use Rattle.qmp_rules.specs.Table.{RunTable, node_by_id}
 use Rattle.qmp_rules.specs.Changes.{changed}
 use Rattle.blk_history.specs.Fold.{With}
 use Rattle.flat_machine.specs.State.{State, Image}
@@ -30,11 +30,11 @@ abbrev pub is_qcow2 : Kind → Bool
 is_qcow2 Qcow2 = true
 is_qcow2 kind = false
 
-abbrev pub is_qcow2_at : Table → ℕ → Bool
-is_qcow2_at t node = unwrap_or (option_map (λ row. is_qcow2 row.kind) (node_at t node)) false
+abbrev pub is_qcow2_at : RunTable → ℕ → Bool
+is_qcow2_at t node = unwrap_or (option_map (λ row. is_qcow2 row.kind) (node_by_id t node)) false
 
 -- the file of each qcow2 node is there, and the image in it is sound
-abbrev pub ImagesAreSound : Table → (List ℕ → Option (List ℕ)) → Type 0
+abbrev pub ImagesAreSound : RunTable → (List ℕ → Option (List ℕ)) → Type 0
 ImagesAreSound t held = (node : ℕ) → is_qcow2_at t node ≡ true
     → With (written_file t node) (λ name. With (held name) IsSound)
 
@@ -51,7 +51,7 @@ ShowsImages s c = (node : ℕ) → ShowsImage s c node
 -- ---- what keeps that so
 
 -- no image gets another file
-abbrev pub StayInFiles : Table → Table → Type 0
+abbrev pub StayInFiles : RunTable → RunTable → Type 0
 StayInFiles t now = (node : ℕ) (name : List ℕ) → is_qcow2_at t node ≡ true
     → written_file now node ≡ Some name → written_file t node ≡ Some name
 
@@ -70,7 +70,7 @@ AllKeepImages s [] = Unit {0}
 AllKeepImages s (c ∷ changes) = KeepsImages s c × AllKeepImages (stepped s c) changes
 
 -- where the image of a node mapped a cluster it still does
-abbrev pub KeepsMapping : Table → ℕ → Contents → Contents → Type 0
+abbrev pub KeepsMapping : RunTable → ℕ → Contents → Contents → Type 0
 KeepsMapping t node old new = is_qcow2_at t node ≡ true → (name after : List ℕ)
     → written_file t node ≡ Some name → new.held name ≡ Some after
     → With (old.held name) (λ before. maps_some before ≡ true → maps_some after ≡ true)

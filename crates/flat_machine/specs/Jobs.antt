@@ -17,10 +17,10 @@ use Rattle.qmp_rules.specs.declared.rows.NodeRecord.{NodeRecord}
 use Rattle.qmp_rules.specs.declared.rows.BitmapRow.{BitmapRow}
 use Rattle.qmp_rules.specs.declared.rows.JobRecord.{JobRecord}
 use Rattle.qmp_rules.specs.declared.rows.UsedBitmap.{UsedBitmap}
-use Rattle.qmp_rules.specs.Table.{Table, node_at, child, kinds_of}
-use Rattle.qmp_rules.specs.Chains.{has_id}
+use Rattle.qmp_rules.specs.Table.{RunTable, node_by_id, child, kinds_of}
+use Rattle.qmp_rules.specs.Chains.{is_listed}
 use Rattle.flat_machine.specs.State.{State, Mapped, MapsNone, Unsure, Image, Dirty, Begun, Ending, bytes_at_node}
-use Rattle.flat_machine.specs.Marking.{filled, put_aside, taken_back, is_dirty_of, dirty_at, where_so, where_recording}
+use Rattle.flat_machine.specs.Marking.{made_dirty, put_aside, taken_back, is_dirty_of, dirty_at, where_dirty, where_recording}
 use Rattle.flat_machine.specs.Changed.{put, forget_left}
 use Rattle.blk_history.specs.declared.entry.JobEnd.{JobEnd}
 use Rattle.blk_history.specs.declared.entry.JobEnd.TheVariants.{Completed, Pivoted, Copied, Failed, Cancelled}
@@ -64,8 +64,8 @@ is_cause outcome = false
 -- ---- starts
 
 -- the target that a job writes
-abbrev pub written_by : JobRecord → Option ℕ
-written_by row = if writes_target row.kind then row.target else None
+abbrev pub target_written : JobRecord → Option ℕ
+target_written row = if writes_target row.kind then row.target else None
 
 abbrev pub target_bytes : State → Option ℕ → List ℕ
 target_bytes s None = []
@@ -87,7 +87,7 @@ begin s row = record {
 -- a job holds these nodes, be it for reading: whether their images map a cluster isn't known any more
 abbrev pub unsure : List ℕ → Image → Image
 unsure nodes image =
-    if has_id image.node nodes then record image { mapped = blurred image.mapped } else image
+    if is_listed image.node nodes then record image { mapped = blurred image.mapped } else image
   where
     blurred : Mapped → Mapped
     blurred MapsNone = Unsure
@@ -95,13 +95,13 @@ unsure nodes image =
 
 abbrev pub aside_by : ℕ → Option UsedBitmap → List Dirty → List Dirty
 aside_by node None ds = ds
-aside_by node (Some used) ds = where_so (is_dirty_of node used.name) put_aside ds
+aside_by node (Some used) ds = where_dirty (is_dirty_of node used.name) put_aside ds
 
 -- the bitmap that it copies by is put aside, and those of its target or base are wholly dirty
 abbrev pub dirty_at_start : State → JobRecord → Option ℕ → List Dirty
 dirty_at_start s row None = aside_by row.source row.bitmap s.dirty
 dirty_at_start s row (Some node) =
-    where_recording s.table node filled (aside_by row.source row.bitmap s.dirty)
+    where_recording s.table node made_dirty (aside_by row.source row.bitmap s.dirty)
 
 -- the target of a backup or mirror
 abbrev pub copied_to : JobRecord → JobKind → Option ℕ
@@ -110,7 +110,7 @@ copied_to row Mirror = row.target
 copied_to row kind = None
 
 -- the file of a target that is a `file` node
-abbrev pub target_file : Table → Option NodeRecord → Option (List ℕ)
+abbrev pub target_file : RunTable → Option NodeRecord → Option (List ℕ)
 target_file t None = None
 target_file t (Some row) = file_name row.kind
   where
@@ -126,7 +126,7 @@ abbrev pub noted_start : State → JobRecord → State
 noted_start s row = record s {
   begun = s.begun ++ begin s row ∷ [];
   images = map (unsure (row.held ++ row.read)) s.images;
-  dirty = dirty_at_start s row (written_by row);
+  dirty = dirty_at_start s row (target_written row);
   starts = s.starts + 1;
 }
 
@@ -134,7 +134,7 @@ noted_start s row = record s {
 abbrev pub started : State → Option JobRecord → State
 started s None = s
 started s (Some row) =
-    unleft (target_file s.table (option_and_then (node_at s.table) (copied_to row row.kind)))
+    unleft (target_file s.table (option_and_then (node_by_id s.table) (copied_to row row.kind)))
     (noted_start s row)
 
 -- ---- ends: the disks
@@ -167,7 +167,8 @@ put_target (Some node) bytes s = put node bytes s
 
 abbrev pub disks_at_end : State → JobRecord → JobEnd → State
 disks_at_end s row outcome =
-    if is_success outcome then put_target (written_by row) (result_bytes s row row.kind) s else s
+    if is_success outcome then put_target (target_written row) (result_bytes s row row.kind) s
+    else s
 
 -- the bitmap is given back: what stands aside is dropped after a success where that is its mode
 abbrev pub drops : JobEnd → BitmapMode → Bool
@@ -177,7 +178,7 @@ drops outcome mode = false
 abbrev pub dirty_at_end : List Dirty → JobRecord → JobEnd → Option UsedBitmap → List Dirty
 dirty_at_end ds row outcome None = ds
 dirty_at_end ds row outcome (Some used) =
-    where_so (is_dirty_of row.source used.name) (taken_back (drops outcome used.mode)) ds
+    where_dirty (is_dirty_of row.source used.name) (taken_back (drops outcome used.mode)) ds
 
 -- ---- ends: the table
 
@@ -237,7 +238,7 @@ loses_top kind outcome = false
 abbrev pub settled_at_end : JobRecord → JobEnd → NodeRecord → NodeRecord
 settled_at_end row outcome node =
     settle_if (loses_top row.kind outcome) false (Some row.source)
-    (settle_if (is_success outcome && settles_target row.bitmap) true (written_by row) node)
+    (settle_if (is_success outcome && settles_target row.bitmap) true (target_written row) node)
 
 -- what a commit made writable stays so after a pivot alone
 abbrev pub is_pivot : JobEnd → Bool
@@ -248,17 +249,17 @@ abbrev pub read_only_if : Bool → Option ℕ → NodeRecord → NodeRecord
 read_only_if so None row = row
 read_only_if so (Some id) row = if so && row.id == id then record row { read_only = true } else row
 
-abbrev pub writable_at_end : Table → JobRecord → JobEnd → NodeRecord → NodeRecord
+abbrev pub writable_at_end : RunTable → JobRecord → JobEnd → NodeRecord → NodeRecord
 writable_at_end t row outcome node =
     let again = not (is_pivot outcome) in
     read_only_if (again && row.made_writable.base) row.target
     (read_only_if (again && row.made_writable.file)
     (option_and_then (λ base. child t base File) row.target) node)
 
-abbrev pub node_at_end : Table → JobRecord → JobEnd → NodeRecord → NodeRecord
+abbrev pub node_at_end : RunTable → JobRecord → JobEnd → NodeRecord → NodeRecord
 node_at_end t row outcome node = writable_at_end t row outcome (settled_at_end row outcome node)
 
-abbrev pub nodes_at_end : Table → JobRecord → JobEnd → List NodeRecord
+abbrev pub nodes_at_end : RunTable → JobRecord → JobEnd → List NodeRecord
 nodes_at_end t row outcome =
     map (node_at_end t row outcome) (filter (λ node. not (is_filter_of row.filter node)) t.nodes)
 
@@ -271,7 +272,7 @@ abbrev pub bitmap_at_end : ℕ → BitmapRow → BitmapRow
 bitmap_at_end job row = if is_number job row.busy then record row { busy = None } else row
 
 -- the table without the job: its row, its edges and its filter are gone, and its moves are made
-abbrev pub table_at_end : Table → JobRecord → JobEnd → Table
+abbrev pub table_at_end : RunTable → JobRecord → JobEnd → RunTable
 table_at_end t row outcome = record t {
   nodes = nodes_at_end t row outcome;
   edges = refreshed (kinds_of (nodes_at_end t row outcome)) (edges_at_end row outcome t.edges);
@@ -285,7 +286,7 @@ abbrev pub in_group : ℕ → JobRecord → Bool
 in_group group row = is_number group row.group
 
 -- other members are in the table
-abbrev pub has_others : Table → ℕ → ℕ → Bool
+abbrev pub has_others : RunTable → ℕ → ℕ → Bool
 has_others t group job = list_any (λ row. in_group group row && not (row.number == job)) t.jobs
 
 abbrev pub had_cause : Option Ending → Bool

@@ -7,10 +7,10 @@ use Rattle.trace_codec.specs.declared.awaiting.Await.TheVariants as await
 use Rattle.qmp_codec.specs.declared.event.JobKind.TheVariants.{Mirror}
 use Rattle.qmp_rules.specs.declared.rows.Asked.TheVariants as asked
 use Rattle.qmp_rules.specs.declared.rows.JobRecord.{JobRecord}
-use Rattle.qmp_rules.specs.Table.{device_at, job_at, job_named}
+use Rattle.qmp_rules.specs.Table.{device_by_number, job_at, job_named}
 use Rattle.blk_history.specs.Fold.{Each, With}
 use Rattle.blk_history.specs.Disk.{span_of, is_write}
-use Rattle.flat_machine.specs.State.{State, Guest, Ending, guest_at, flat_disk_of, disk_of_guest, size_of}
+use Rattle.flat_machine.specs.State.{State, Guest, Ending, guest_at, flat_disk_of, disk_of_guest, size_by_id}
 use Rattle.blk_history.specs.Machine.{Flight}
 use Rattle.blk_history.specs.Legal.{IsNextPiece, IsOver}
 use Rattle.flat_machine.specs.Jobs.{can_be_ready, is_success, is_cause, has_others, had_cause}
@@ -55,8 +55,9 @@ IsNotDone s actor = Contains s.ended actor → ⊥
 -- the next request of a guest that is attached, which is judged by whether it is read-only and by its disk's size
 abbrev pub IsNextJudged : State → ℕ → ℕ → (Bool → ℕ → Type 0) → Type 0
 IsNextJudged s g r P = IsNotDone s (g + 1) × With (guest_at s g) (λ row. IsNext row r)
-    × With (device_at s.table g)
-    (λ device. With (disk_of_guest s.table g) (λ node. P device.read_only (size_of s.table node)))
+    × With (device_by_number s.table g)
+    (λ device. With (disk_of_guest s.table g)
+    (λ node. P device.read_only (size_by_id s.table node)))
 
 abbrev pub guest_disk : State → ℕ → Option (List ℕ)
 guest_disk s g = option_and_then (flat_disk_of s) (disk_of_guest s.table g)
@@ -92,7 +93,7 @@ MayEnd s row (Cancelled RunEnd) = AllDone s × (row.is_ready ≡ true) × (row.a
 -- the source's size once the job was ready and at an end without error, and else 0
 abbrev pub offset_at_end : State → JobRecord → JobEnd → ℕ
 offset_at_end s row outcome =
-    if row.is_ready || is_success outcome then size_of s.table row.source else 0
+    if row.is_ready || is_success outcome then size_by_id s.table row.source else 0
 
 -- members of a group end without error side by side or not at all
 abbrev pub IsLike : Option Ending → JobEnd → Type 0

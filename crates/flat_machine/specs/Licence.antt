@@ -34,8 +34,8 @@ named_at_end outcome = None
 abbrev pub value_of : List ℕ → ℕ
 value_of digits = fold (λ n digit. n * 10 + (digit - 48)) 0 digits
 
-abbrev pub source_of : List ℕ → Option FaultFrom
-source_of word =
+abbrev pub fault_source : List ℕ → Option FaultFrom
+fault_source word =
     if bytes_eq word (codes "store") then Some Store
     else if starts_with nat_eq word (codes "dev")
     then Some (Dev (record { 0 = value_of (drop 3 word) }))
@@ -45,7 +45,7 @@ source_of word =
 abbrev pub named_in_words : List (List ℕ) → Option FaultAt
 named_in_words (verb ∷ source ∷ count ∷ []) =
     if bytes_eq verb (codes "io")
-    then option_and_then (λ from. Some (fault_at from (value_of count))) (source_of source)
+    then option_and_then (λ from. Some (fault_at from (value_of count))) (fault_source source)
     else None
 named_in_words words = None
 
@@ -66,10 +66,10 @@ pub record Counts : Type 0 where
   pub store : ℕ
   pub devices : List ℕ
 
-abbrev pub count_of : Counts → FaultFrom → Option ℕ
-count_of counts Store = Some counts.store
-count_of counts (Dev dev) = slice_get counts.devices dev.0
-count_of counts Sink = None
+abbrev pub source_count : Counts → FaultFrom → Option ℕ
+source_count counts Store = Some counts.store
+source_count counts (Dev dev) = slice_get counts.devices dev.0
+source_count counts Sink = None
 
 -- ---- all that a history names
 
@@ -78,8 +78,8 @@ faults_of h = filter_map named_in h
 
 -- the count lies above the one at the opening, and is at most the one at the end
 pub record IsBetween (opening closing : Counts) (fault : FaultAt) : Type 0 where
-  pub risen : With (count_of opening fault.from) (λ before. HasFailedSince before fault.count)
-  pub reached : With (count_of closing fault.from) (λ now. fault.count ≤ now)
+  pub risen : With (source_count opening fault.from) (λ before. HasFailedSince before fault.count)
+  pub reached : With (source_count closing fault.from) (λ now. fault.count ≤ now)
 
 -- a count stands still at its last value
 abbrev pub Differ : FaultAt → FaultAt → Type 0

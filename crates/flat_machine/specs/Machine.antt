@@ -8,7 +8,7 @@ use Rattle.blk_graph.specs.declared.kind.Kind.{Kind}
 use Rattle.blk_graph.specs.declared.kind.Kind.TheVariants.{CopyOnRead}
 use Rattle.trace_codec.specs.declared.op.Op.{Op}
 use Rattle.trace_codec.specs.declared.op.Op.TheVariants.{Read, Write, Zero}
-use Rattle.qmp_rules.specs.Table.{Table, node_at, job_at}
+use Rattle.qmp_rules.specs.Table.{RunTable, node_by_id, job_at}
 use Rattle.qmp_rules.specs.Chains.{filtered, disk_node, written_under}
 use Rattle.blk_history.specs.Fold.{run, change}
 use Rattle.blk_history.specs.Disk.{piece, done_in}
@@ -43,7 +43,7 @@ abbrev pub with_disk : ℕ → (List ℕ → List ℕ) → State → State
 with_disk node f s = record s { disks = map (disk_changed node f) s.disks }
 
 -- from a node down to the one that it reads as
-abbrev pub path_from : ℕ → Table → ℕ → List ℕ
+abbrev pub path_from : ℕ → RunTable → ℕ → List ℕ
 path_from zero t node = node ∷ []
 path_from (suc more) t node =
     node ∷ (elim (filtered t node) as (λ _. List ℕ) [
@@ -52,7 +52,7 @@ path_from (suc more) t node =
           below
     ])
 
-unfoldable pub path : Table → ℕ → List ℕ
+unfoldable pub path : RunTable → ℕ → List ℕ
 path t node = path_from 64 t node
 
 -- something was written of it: the bitmaps on the guest's path note the whole piece
@@ -61,7 +61,7 @@ is_noted Good = true
 is_noted (Torn done dev count) = true
 is_noted outcome = false
 
-abbrev pub noted : Table → Extent → List Dirty → List ℕ → List Dirty
+abbrev pub noted : RunTable → Extent → List Dirty → List ℕ → List Dirty
 noted t part = run (λ ds node. where_recording t node (marked part) ds)
 
 abbrev pub note : Outcome → Extent → ℕ → State → State
@@ -70,8 +70,8 @@ note outcome part drive s =
     else s
 
 -- every other node that reaches the disk's node by backing edges is unsettled, and its image may map a cluster
-abbrev pub written : ℕ → State → State
-written node s = record s {
+abbrev pub node_written : ℕ → State → State
+node_written node s = record s {
   table = written_under node s.table;
   images = map (unsure (node ∷ [])) s.images;
 }
@@ -81,11 +81,11 @@ abbrev pub is_copying : Kind → Bool
 is_copying CopyOnRead = true
 is_copying kind = false
 
-abbrev pub copies_at : Table → ℕ → Bool
+abbrev pub copies_at : RunTable → ℕ → Bool
 copies_at t node =
-    elim (node_at t node) as (λ _. Bool) [ None ↦ false | Some row ↦ is_copying row.kind ]
+    elim (node_by_id t node) as (λ _. Bool) [ None ↦ false | Some row ↦ is_copying row.kind ]
 
-abbrev pub copies_through : Table → ℕ → Bool
+abbrev pub copies_through : RunTable → ℕ → Bool
 copies_through t node = list_any (copies_at t) (path t node)
 
 abbrev pub read_through : ℕ → State → State
@@ -98,9 +98,9 @@ read_through drive s =
 abbrev pub touched : Op → Outcome → Extent → ℕ → State → State
 touched (Read span) outcome part drive s = read_through drive s
 touched (Write span payload) outcome part drive s =
-    note outcome part drive (written (disk_node s.table drive) s)
+    note outcome part drive (node_written (disk_node s.table drive) s)
 touched (Zero span) outcome part drive s =
-    note outcome part drive (written (disk_node s.table drive) s)
+    note outcome part drive (node_written (disk_node s.table drive) s)
 touched op outcome part drive s = s
 
 -- piece k of a request in flight, on the disk of the guest's device

@@ -4,7 +4,7 @@ use Rattle.blk_base.specs.Pieces.{Extent}
 use Rattle.blk_bits.specs.Granules.{contains, those_below, merged}
 use Rattle.blk_bitmaps.specs.Rows.{granule_count, touches, with_frozen}
 use Rattle.qmp_rules.specs.declared.rows.BitmapRow.{BitmapRow}
-use Rattle.qmp_rules.specs.Table.{Table, bitmap_at}
+use Rattle.qmp_rules.specs.Table.{RunTable, bitmap_at}
 use Rattle.flat_machine.specs.State.{Dirty}
 
 -- a new bitmap of a disk of so many bytes: nothing is dirty
@@ -17,11 +17,11 @@ clean row size = record {
   aside = None;
 }
 
-abbrev pub emptied : Dirty → Dirty
-emptied d = record d { set = replicate (length d.set) false }
+abbrev pub made_clean : Dirty → Dirty
+made_clean d = record d { set = replicate (length d.set) false }
 
-abbrev pub filled : Dirty → Dirty
-filled d = record d { set = replicate (length d.set) true }
+abbrev pub made_dirty : Dirty → Dirty
+made_dirty d = record d { set = replicate (length d.set) true }
 
 -- each granule with a byte of the span
 abbrev pub marked : Extent → Dirty → Dirty
@@ -32,8 +32,8 @@ marked span d =
     }
 
 -- each granule that overlaps a dirty one of the source
-abbrev pub joined : Dirty → Dirty → Dirty
-joined source d =
+abbrev pub dirtied_by : Dirty → Dirty → Dirty
+dirtied_by source d =
     record d {
       set = merged (record { mine = d.granularity; theirs = source.granularity }) d.set
           source.set;
@@ -67,18 +67,19 @@ abbrev pub dirty_at : List Dirty → ℕ → List ℕ → Option Dirty
 dirty_at ds node name = find (is_dirty_of node name) ds
 
 -- those that pass a test are changed
-abbrev pub where_so : (Dirty → Bool) → (Dirty → Dirty) → List Dirty → List Dirty
-where_so test change ds = map (λ d. if test d then change d else d) ds
+abbrev pub where_dirty : (Dirty → Bool) → (Dirty → Dirty) → List Dirty → List Dirty
+where_dirty test change ds = map (λ d. if test d then change d else d) ds
 
 -- a bitmap that records writes
-abbrev pub records : Table → Dirty → Bool
-records t d = unwrap_or (option_map (λ row. row.enabled) (bitmap_at t d.node d.name)) false
+abbrev pub records_writes : RunTable → Dirty → Bool
+records_writes t d = unwrap_or (option_map (λ row. row.enabled) (bitmap_at t d.node d.name)) false
 
 -- the bitmaps of a node that record are changed
-abbrev pub where_recording : Table → ℕ → (Dirty → Dirty) → List Dirty → List Dirty
-where_recording t node change ds = where_so (λ d. (d.node == node) && records t d) change ds
+abbrev pub where_recording : RunTable → ℕ → (Dirty → Dirty) → List Dirty → List Dirty
+where_recording t node change ds =
+    where_dirty (λ d. (d.node == node) && records_writes t d) change ds
 
 -- the source's granules are dirty in the target too, where the source is there
 abbrev pub merge_from : Option Dirty → ℕ → List ℕ → List Dirty → List Dirty
 merge_from None node name ds = ds
-merge_from (Some source) node name ds = where_so (is_dirty_of node name) (joined source) ds
+merge_from (Some source) node name ds = where_dirty (is_dirty_of node name) (dirtied_by source) ds

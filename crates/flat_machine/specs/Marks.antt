@@ -10,10 +10,10 @@ use Rattle.qmp_codec.specs.declared.event.JobKind.TheVariants.{Commit, Mirror, B
 use Rattle.qmp_rules.specs.declared.rows.Asked.{Asked}
 use Rattle.qmp_rules.specs.declared.rows.Asked.TheVariants as asked
 use Rattle.qmp_rules.specs.declared.rows.JobRecord.{JobRecord}
-use Rattle.qmp_rules.specs.Table.{Table, id_named, device_named, job_at}
+use Rattle.qmp_rules.specs.Table.{RunTable, id_named, device_named, job_at}
 use Rattle.qmp_rules.specs.declared.told.Told.{Told}
-use Rattle.qmp_rules.specs.Answers.{refusal_of}
-use Rattle.qmp_rules.specs.Chains.{has_id, disk_node}
+use Rattle.qmp_rules.specs.Answers.{refusal_to}
+use Rattle.qmp_rules.specs.Chains.{is_listed, disk_node}
 use Rattle.blk_history.specs.Fold.{Each, With}
 use Rattle.flat_machine.specs.State.{State, Guest, guest_at, disk_of_guest}
 use Rattle.flat_machine.specs.Jobs.{can_be_ready}
@@ -31,12 +31,12 @@ ids_of None = []
 ids_of (Some id) = id ∷ []
 
 -- the node of a snapshot
-abbrev pub action_marks : Table → List Act → List ℕ
+abbrev pub action_marks : RunTable → List Act → List ℕ
 action_marks t [] = []
 action_marks t (action.Snapshot c ∷ actions) = ids_of (id_named t c.node) ++ action_marks t actions
 action_marks t (act ∷ actions) = action_marks t actions
 
-abbrev pub snapshot_marks : Table → Result Cmd Stop → List ℕ
+abbrev pub snapshot_marks : RunTable → Result Cmd Stop → List ℕ
 snapshot_marks t (Ok (command.BlockdevSnapshot c)) = ids_of (id_named t c.node)
 snapshot_marks t (Ok (command.Transaction c)) = action_marks t c.actions
 snapshot_marks t line = []
@@ -57,7 +57,7 @@ of_job None f = []
 of_job (Some row) f = f row
 
 -- an accepted line, what its command marks
-abbrev pub reply_marks : Table → (given text : List ℕ) → List ℕ
+abbrev pub reply_marks : RunTable → (given text : List ℕ) → List ℕ
 reply_marks t given text = if is_accepted text then snapshot_marks t (command_at given) else []
 
 -- The start of a backup marks its source, an accepted snapshot its node, the end of a mirror that pivots or leaves a copy its
@@ -70,12 +70,12 @@ marks_of s (End job outcome offset) =
 marks_of s e = []
 
 -- none of these guests that is on the node has a request in flight
-abbrev pub IsCalm : Table → List Guest → ℕ → Type 0
+abbrev pub IsCalm : RunTable → List Guest → ℕ → Type 0
 IsCalm t guests node = (g : ℕ) (row : Guest) → slice_get guests g ≡ Some row
     → disk_of_guest t g ≡ Some (disk_node t node) → row.flight ≡ None
 
 -- nor on any of these
-abbrev pub AreCalm : Table → List Guest → List ℕ → Type 0
+abbrev pub AreCalm : RunTable → List Guest → List ℕ → Type 0
 AreCalm t guests disks = All (IsCalm t guests) disks
 
 -- no mark splits a request
@@ -85,19 +85,19 @@ NoneSplits = Each after (λ s e. AreCalm s.table s.guests (marks_of s e))
 -- ---- what must be drained
 
 -- the sources of the backups of a transaction
-abbrev pub backup_sources : Table → List Act → List ℕ
+abbrev pub backup_sources : RunTable → List Act → List ℕ
 backup_sources t [] = []
 backup_sources t (action.Backup c ∷ actions) =
     ids_of (id_named t c.device) ++ backup_sources t actions
 backup_sources t (act ∷ actions) = backup_sources t actions
 
 -- the disk of the guest whose device goes
-abbrev pub device_disk : Table → List ℕ → List ℕ
+abbrev pub device_disk : RunTable → List ℕ → List ℕ
 device_disk t id =
     ids_of (option_and_then (λ device. disk_of_guest t device.number) (device_named t id))
 
 -- a command must drain the disks of the marks that it makes, and `device_del` that of its guest
-abbrev pub drained_by : Table → Cmd → List ℕ
+abbrev pub drained_by : RunTable → Cmd → List ℕ
 drained_by t (command.BlockdevSnapshot c) = ids_of (id_named t c.node)
 drained_by t (command.BlockdevBackup c) = ids_of (id_named t c.device)
 drained_by t (command.Transaction c) = action_marks t c.actions ++ backup_sources t c.actions
@@ -136,27 +136,27 @@ after_reply drains = record drains { command = [] }
 -- a turn of a job that is asked to end, and its end
 abbrev pub after_turn : ℕ → Drained → Drained
 after_turn job drains =
-    if has_id job drains.jobs then drains else record drains { jobs = drains.jobs ++ job ∷ [] }
+    if is_listed job drains.jobs then drains else record drains { jobs = drains.jobs ++ job ∷ [] }
 
 abbrev pub after_end : ℕ → Drained → Drained
 after_end job drains = record drains { jobs = filter (λ other. not (other == job)) drains.jobs }
 
 -- the disks that jobs hold
-abbrev pub job_disks : Table → List ℕ → List ℕ
+abbrev pub job_disks : RunTable → List ℕ → List ℕ
 job_disks t [] = []
 job_disks t (job ∷ jobs) = of_job (job_at t job) (λ row. row.source ∷ []) ++ job_disks t jobs
 
 -- a drain holds the guests of these disks, and nothing else holds a guest
-abbrev pub is_on : Table → ℕ → ℕ → Bool
+abbrev pub is_on : RunTable → ℕ → ℕ → Bool
 is_on t node disk = disk_node t disk == node
 
-abbrev pub holds_disk : Table → Drained → Option ℕ → Bool
+abbrev pub holds_disk : RunTable → Drained → Option ℕ → Bool
 holds_disk t drains None = false
 holds_disk t drains (Some node) =
     list_any (is_on t node) (drains.command ++ job_disks t drains.jobs)
 
-abbrev pub is_held : State → Drained → ℕ → Bool
-is_held s drains g = holds_disk s.table drains (disk_of_guest s.table g)
+abbrev pub is_guest_held : State → Drained → ℕ → Bool
+is_guest_held s drains g = holds_disk s.table drains (disk_of_guest s.table g)
 
 -- ---- what has to come again
 
@@ -173,7 +173,7 @@ pub record MustWait (s : State) (disks : List ℕ) (g r : ℕ) : Type 0 where
 -- A command has to come again where nothing refuses it, and such a request is on a disk that it must drain; so has a job that
 -- is asked to end, for its source.
 pub record HasToComeAgain (s : State) (told : Told) (c : Cmd) (g r : ℕ) : Type 0 where
-  pub accepted : refusal_of s.table told c ≡ None
+  pub accepted : refusal_to s.table told c ≡ None
   pub waits : MustWait s (drained_by s.table c) g r
 
 pub record HasToWait (s : State) (row : JobRecord) (g r : ℕ) : Type 0 where

@@ -1,7 +1,7 @@
 -- The state in which a run begins.
 use Rattle.std.specs.Prelude.{ℕ, List, [], map, None}
 use Rattle.blk_base.specs.declared.file.File.{File}
-use Rattle.qmp_rules.specs.Table.{Table, opening_table}
+use Rattle.qmp_rules.specs.Table.{RunTable, opening_table}
 use Rattle.flat_machine.specs.State.{State, Guest}
 use Rattle.flat_machine.specs.Contents.{found}
 use Rattle.flat_machine.specs.declared.opening.Opening.{Opening}
@@ -11,7 +11,7 @@ abbrev pub new_guest : Guest
 new_guest = record { done = 0; flight = None }
 
 -- the state of a table without nodes' disks, over these files
-abbrev pub state_over : List File → ℕ → Table → List (List ℕ) → State
+abbrev pub state_over : List File → ℕ → RunTable → List (List ℕ) → State
 state_over files room table guests = record {
   room = room;
   table = table;

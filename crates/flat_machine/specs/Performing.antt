@@ -8,11 +8,11 @@ use Rattle.blk_graph.specs.declared.kind.Kind.TheVariants.{Protocol, Raw, Qcow2}
 use Rattle.qmp_rules.specs.declared.rows.NodeRecord.{NodeRecord}
 use Rattle.qmp_rules.specs.declared.change.Change.{Change}
 use Rattle.qmp_rules.specs.declared.change.Change.TheVariants as change
-use Rattle.qmp_rules.specs.Table.{node_at, child}
+use Rattle.qmp_rules.specs.Table.{node_by_id, child}
 use Rattle.qmp_rules.specs.Chains.{filter_role}
 use Rattle.blk_history.specs.Fold.{With}
 use Rattle.flat_machine.specs.State.{State, Content, Bytes, Blank, content_in, filename_of}
-use Rattle.flat_machine.specs.Changed.{content_under, file_of, filename_or, format_name, stepped}
+use Rattle.flat_machine.specs.Changed.{content_under, own_filename, filename_or, format_name, stepped}
 use Rattle.flat_machine.specs.Final.{IsDiskIn}
 use Rattle.flat_machine.specs.Agreement.{Contents, HasDisk}
 
@@ -20,7 +20,7 @@ use Rattle.flat_machine.specs.Agreement.{Contents, HasDisk}
 
 -- no node has the id yet
 abbrev pub IsNewNode : State → NodeRecord → Type 0
-IsNewNode s row = node_at s.table row.id ≡ None
+IsNewNode s row = node_by_id s.table row.id ≡ None
 
 -- all bytes of the file are known
 abbrev pub IsWholly : Content → Type 0
@@ -35,7 +35,7 @@ pub record CanAddFile (s : State) (row : NodeRecord) : Type 0 where
 -- a backing node has a flat disk of its own
 abbrev pub IsBacking : State → Option ℕ → Type 0
 IsBacking s None = Unit {0}
-IsBacking s (Some node) = With (node_at s.table node) HasDisk
+IsBacking s (Some node) = With (node_by_id s.table node) HasDisk
 
 -- a raw node over a `file` node with a flat disk, or a qcow2 node over a file of which all is known that its disk needs
 abbrev pub IsReadable : Content → Type 0
@@ -44,7 +44,7 @@ IsReadable (Blank new len) = Unit {0}
 IsReadable content = ⊥
 
 abbrev pub CanFileBeRead : State → ℕ → Kind → Type 0
-CanFileBeRead s file Raw = With (node_at s.table file) HasDisk
+CanFileBeRead s file Raw = With (node_by_id s.table file) HasDisk
 CanFileBeRead s file Qcow2 = With (content_under s file) IsReadable
 CanFileBeRead s file driver = ⊥
 
@@ -63,7 +63,7 @@ Can s (change.AddFile row) = CanAddFile s row
 Can s (change.AddFormat row file backing) = CanAddFormat s row file backing
 Can s (change.AddFilter row child) = CanAddFilter s row
 Can s (change.PutFilter row node) = CanAddFilter s row
-Can s (change.Attach overlay node) = With (node_at s.table node) HasDisk
+Can s (change.Attach overlay node) = With (node_by_id s.table node) HasDisk
 Can s c = Unit {0}
 
 -- ---- what it does
@@ -93,13 +93,13 @@ pub record Puts (node : ℕ) (bytes : List ℕ) (old new : Contents) : Type 0 wh
 pub record Removes (s : State) (node : ℕ) (old new : Contents) : Type 0 where
   pub nodes : ReadSame (λ other. other ≡ node) old new
   pub files : HeldSame Nothing old new
-  pub alone : (row : NodeRecord) → node_at s.table node ≡ Some row
+  pub alone : (row : NodeRecord) → node_by_id s.table node ≡ Some row
       → child s.table node Backing ≡ None
-      → (name : List ℕ) → file_of s.table row row.kind ≡ Some name
+      → (name : List ℕ) → own_filename s.table row row.kind ≡ Some name
       → With (old.held name) (IsDiskIn row.kind row.offset (old.reads node))
 
 -- a file alone changes, and no node reads otherwise but these
-pub record Makes (but : ℕ → Type 0) (name : List ℕ) (old new : Contents) : Type 0 where
+pub record ChangesFileAlone (but : ℕ → Type 0) (name : List ℕ) (old new : Contents) : Type 0 where
   pub nodes : ReadSame but old new
   pub files : HeldSame (λ other. other ≡ name) old new
 
@@ -132,14 +132,14 @@ Performed s (change.AddFilter row node) old new = Puts row.id (old.reads node) o
 Performed s (change.PutFilter row node) old new = Puts row.id (old.reads node) old new
 Performed s (change.RemoveNode node) old new = Removes s node old new
 Performed s (change.MakeFile name size) old new =
-    Makes Nothing name old new × (new.held name ≡ Some (replicate size 0))
+    ChangesFileAlone Nothing name old new × (new.held name ≡ Some (replicate size 0))
 Performed s (change.FormatFile node name size backing_file backing_fmt) old new =
-    Makes (λ other. other ≡ node) name old new
+    ChangesFileAlone (λ other. other ≡ node) name old new
     × With (new.held name)
     (IsFormatted (creation_of size backing_file (option_map format_name backing_fmt))
     (held_bytes old name))
 Performed s (change.SpoilFile name) old new =
-    Makes (λ node. filename_of s.table node ≡ Some name) name old new
+    ChangesFileAlone (λ node. filename_of s.table node ≡ Some name) name old new
 Performed s (change.Attach overlay node) old new = Puts overlay (old.reads node) old new
 Performed s c old new = IsQuiet old new
 

@@ -9,7 +9,7 @@ use Rattle.qmp_codec.specs.Lines.{Stop, command_at}
 use Rattle.qmp_codec.specs.declared.command.Command.TheVariants as command
 use Rattle.qmp_rules.specs.declared.change.Change.{Change}
 use Rattle.qmp_rules.specs.declared.told.Told.{Told}
-use Rattle.qmp_rules.specs.Table.{Table}
+use Rattle.qmp_rules.specs.Table.{RunTable}
 use Rattle.qmp_rules.specs.Edits.{spoiled}
 use Rattle.qmp_rules.specs.Answers.{command_edits, line_text}
 use Rattle.flat_machine.specs.State.{State}
@@ -35,13 +35,13 @@ is_failed_call desc =
     || (starts_with nat_eq desc (codes "io store ")
     || starts_with nat_eq desc (codes "nospace dev"))
 
-abbrev pub is_failure : List ℕ → Bool
-is_failure text = option_map_or is_failed_call (desc_of text) false
+abbrev pub tells_failure : List ℕ → Bool
+tells_failure text = option_map_or is_failed_call (desc_of text) false
 
 -- ---- what it does
 
 -- of the commands of which a call failed a creation alone leaves something: its file used, and a file node unsettled
-abbrev pub failed_edits : Table → Cmd → List Change
+abbrev pub failed_edits : RunTable → Cmd → List Change
 failed_edits t (command.BlockdevCreate c) = spoiled t c.options
 failed_edits t c = []
 
@@ -49,7 +49,7 @@ abbrev pub edits_by : State → List ℕ → Result Cmd Stop → List Change
 edits_by s text (Err why) = []
 edits_by s text (Ok c) =
     if is_accepted text then command_edits s.table (expected s c) c
-    else if is_failure text then failed_edits s.table c
+    else if tells_failure text then failed_edits s.table c
     else []
 
 abbrev pub replied : State → List ℕ → List ℕ → State
@@ -58,9 +58,9 @@ replied s given text = all_stepped s (edits_by s text (command_at given))
 -- ---- which one fits
 
 -- the command of the line, where it was read as one
-abbrev pub command_in : Result Cmd Stop → Option Cmd
-command_in (Ok c) = Some c
-command_in (Err why) = None
+abbrev pub command_read : Result Cmd Stop → Option Cmd
+command_read (Ok c) = Some c
+command_read (Err why) = None
 
 -- what is told of a line; of one that is no command nothing is asked
 abbrev pub IsToldOf : State → Option Cmd → Told → Type 0
@@ -70,7 +70,7 @@ IsToldOf s (Some c) told = IsTold s c told
 -- the text is the answer to the line, for something that the files may tell
 pub record IsAnswer (s : State) (given : List ℕ) (command : Option Cmd) (text : List ℕ) : Type 0
   where
-    pub understood : command ≡ command_in (command_at given)
+    pub understood : command ≡ command_read (command_at given)
     pub told : Told
-    pub is_told : IsToldOf s (command_in (command_at given)) told
+    pub is_told : IsToldOf s (command_read (command_at given)) told
     pub answered : text ≡ line_text s.table told given

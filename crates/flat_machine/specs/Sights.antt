@@ -25,9 +25,9 @@ use Rattle.qmp_rules.specs.declared.told.Told.{Told}
 use Rattle.qmp_rules.specs.declared.refusal.FileFault.TheVariants.{Absent}
 use Rattle.qmp_rules.specs.declared.refusal.Refusal.{Refusal}
 use Rattle.qmp_rules.specs.declared.refusal.Refusal.TheVariants as refusal
-use Rattle.qmp_rules.specs.Table.{Table, node_named, id_named, has_name}
+use Rattle.qmp_rules.specs.Table.{RunTable, node_named, id_named, has_name}
 use Rattle.qmp_rules.specs.Looks.{FileSight, ImageSight, is_unopened, is_free_file, add_told, create_told}
-use Rattle.qmp_rules.specs.Answers.{untold}
+use Rattle.qmp_rules.specs.Answers.{told_none}
 use Rattle.blk_history.specs.Fold.{With}
 use Rattle.flat_machine.specs.State.{State, Content, Bytes, Blank, Unknown, Mapped, MapsNone, MapsSome, Unsure, Image, content_in}
 use Rattle.flat_machine.specs.Marking.{dirty_bytes}
@@ -65,21 +65,21 @@ image_sight (Blank new len) = record {
 image_sight Unknown = record { stop = None; size = 0; names_backing = false }
 
 -- what a file of which no length is known would tell of it isn't asked: a node stands for it, or it was used
-abbrev pub length_of : Content → ℕ
-length_of (Bytes file) = length file
-length_of (Blank new None) = created_length new
-length_of (Blank new (Some len)) = len
-length_of Unknown = 0
+abbrev pub content_length : Content → ℕ
+content_length (Bytes file) = length file
+content_length (Blank new None) = created_length new
+content_length (Blank new (Some len)) = len
+content_length Unknown = 0
 
 abbrev pub sight_of : Content → FileSight
-sight_of content = record { length = length_of content; image = image_sight content }
+sight_of content = record { length = content_length content; image = image_sight content }
 
 -- the file that a command opens, or that of the file node under a new format node
-abbrev pub file_of_ref : Table → FileRef (List ℕ) → Option (List ℕ)
+abbrev pub file_of_ref : RunTable → FileRef (List ℕ) → Option (List ℕ)
 file_of_ref t (file_ref.Name name) = option_and_then (λ row. row.filename) (node_named t name)
 file_of_ref t (file_ref.Inline file) = Some file.filename
 
-abbrev pub file_looked_at : Table → Added (List ℕ) → Option (List ℕ)
+abbrev pub file_looked_at : RunTable → Added (List ℕ) → Option (List ℕ)
 file_looked_at t (added.File filename) = Some filename
 file_looked_at t (added.Raw raw) = file_of_ref t raw.file
 file_looked_at t (added.Qcow2 image) = file_of_ref t image.file
@@ -89,14 +89,14 @@ abbrev pub sight_for : State → Added (List ℕ) → Option FileSight
 sight_for s driver =
     option_map sight_of (option_and_then (content_in s.files) (file_looked_at s.table driver))
 
-abbrev pub told_by : State → Cmd → Told
-told_by s (command.BlockdevAdd c) = add_told s.table c (sight_for s c.driver)
-told_by s (command.BlockdevCreate c) = create_told c.options s.room
-told_by s c = untold
+abbrev pub told_for : State → Cmd → Told
+told_for s (command.BlockdevAdd c) = add_told s.table c (sight_for s c.driver)
+told_for s (command.BlockdevCreate c) = create_told c.options s.room
+told_for s c = told_none
 
 -- where no call fails and no image maps a cluster
 abbrev pub expected : State → Cmd → Told
-expected s c = record (told_by s c) { dirty = map dirty_bytes s.dirty }
+expected s c = record (told_for s c) { dirty = map dirty_bytes s.dirty }
 
 -- ---- failed calls
 
@@ -109,17 +109,17 @@ order_of look.Backing = 4
 order_of look.Size = 5
 order_of look.Format = 6
 
-abbrev pub opens_file : Table → FileRef (List ℕ) → Bool
+abbrev pub opens_file : RunTable → FileRef (List ℕ) → Bool
 opens_file t (file_ref.Name name) = false
 opens_file t (file_ref.Inline file) = not (is_unopened t file.filename)
 
 -- the image under a file node that has a parent is not read
-abbrev pub reads_image : Table → FileRef (List ℕ) → Bool
+abbrev pub reads_image : RunTable → FileRef (List ℕ) → Bool
 reads_image t (file_ref.Name name) = is_free_file t name
 reads_image t (file_ref.Inline file) = not (is_unopened t file.filename)
 
 -- the calls of an addition: a file is opened, that of a part to see where it may begin, and an image is read
-abbrev pub adds_at : Table → Look → Added (List ℕ) → Bool
+abbrev pub adds_at : RunTable → Look → Added (List ℕ) → Bool
 adds_at t look.File (added.File filename) = not (is_unopened t filename)
 adds_at t look.Begin (added.Raw raw) = opens_file t raw.file
 adds_at t look.File (added.Qcow2 image) = opens_file t image.file
@@ -132,7 +132,7 @@ creates_at look.File (created.File c) = true
 creates_at look.Format (created.Qcow2 c) = true
 creates_at what driver = false
 
-abbrev pub calls_at : Table → Look → Cmd → Bool
+abbrev pub calls_at : RunTable → Look → Cmd → Bool
 calls_at t what (command.BlockdevAdd c) = adds_at t what c.driver
 calls_at t what (command.BlockdevCreate c) = creates_at what c.options
 calls_at t what c = false
@@ -160,7 +160,7 @@ IsReached c what None = Unit {0}
 IsReached c what (Some expected) =
     (order_of what ≤ order_of expected.look) × (is_opened c expected.refusal ≡ true)
 
-pub record Fails (t : Table) (c : Cmd) (expected : Option Stopped) (stopped : Stopped) : Type 0
+pub record Fails (t : RunTable) (c : Cmd) (expected : Option Stopped) (stopped : Stopped) : Type 0
   where
     pub call : calls_at t stopped.look c ≡ true
     pub failure : IsFailure stopped.look stopped.refusal
@@ -217,8 +217,8 @@ MayMap s overlays mapped =
 -- ---- all that is told
 
 pub record IsTold (s : State) (c : Cmd) (told : Told) : Type 0 where
-  pub file : told.length ≡ (told_by s c).length
-  pub image : told.size ≡ (told_by s c).size
-  pub refusal : MayStop s c (told_by s c).stopped told.stopped
+  pub file : told.length ≡ (told_for s c).length
+  pub image : told.size ≡ (told_for s c).size
+  pub refusal : MayStop s c (told_for s c).stopped told.stopped
   pub clusters : MayMap s (overlays_of c) told.mapped
   pub bitmaps : told.dirty ≡ map dirty_bytes s.dirty

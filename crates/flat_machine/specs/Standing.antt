@@ -4,7 +4,7 @@ use Rattle.qmp_rules.specs.declared.rows.NodeRecord.{NodeRecord}
 use Rattle.qmp_rules.specs.declared.rows.Device.{Device}
 use Rattle.qmp_rules.specs.declared.rows.FileState.{FileState}
 use Rattle.qmp_rules.specs.declared.rows.FileState.TheVariants.{Made, Formatted, Used}
-use Rattle.qmp_rules.specs.Table.{Table, device_at, file_state, has_name}
+use Rattle.qmp_rules.specs.Table.{RunTable, device_by_number, file_state, has_name}
 use Rattle.qmp_rules.specs.Chains.{filter_role, disk_node}
 use Rattle.blk_history.specs.Fold.{With}
 use Rattle.flat_machine.specs.State.{State, Content, Bytes, Blank, Unknown, Left, content_in, drive_of}
@@ -26,12 +26,12 @@ AreNamed s =
     → has_name name s.named ≡ true
 
 -- why a `file` node has no flat disk: its file was used or formatted, or a format node is over it
-abbrev pub IsLostBy : Table → List ℕ → NodeRecord → Type 0
+abbrev pub IsLostBy : RunTable → List ℕ → NodeRecord → Type 0
 IsLostBy t name row =
     (file_state t name ≡ Some Used)
     ⊎ ((file_state t name ≡ Some Formatted) ⊎ IsUnder t.edges row.id)
 
-abbrev pub LostHaveCause : Table → Type 0
+abbrev pub LostHaveCause : RunTable → Type 0
 LostHaveCause t =
     (name : List ℕ) (row : NodeRecord) → StandsFor t name row → row.is_settled ≡ false
     → IsLostBy t name row
@@ -54,7 +54,7 @@ IsOfState (Some Formatted) content = IsBlankFile content
 IsOfState (Some Used) content = Unit {0}
 
 -- so it is with each file of which there is word, but for one under a format node
-abbrev pub IsOpenlyKnown : Table → List ℕ → Type 0
+abbrev pub IsOpenlyKnown : RunTable → List ℕ → Type 0
 IsOpenlyKnown t name = (row : NodeRecord) → StandsFor t name row → IsUnder t.edges row.id → ⊥
 
 abbrev pub FilesAreOfState : State → Type 0
@@ -71,7 +71,7 @@ TakenAreUnknown s =
     → content_in s.files name ≡ Some Unknown
 
 -- a formatted file has a node over it
-abbrev pub FormattedAreOpen : Table → Type 0
+abbrev pub FormattedAreOpen : RunTable → Type 0
 FormattedAreOpen t =
     (name : List ℕ) → file_state t name ≡ Some Formatted → (row : NodeRecord) × StandsFor t name row
 
@@ -101,7 +101,7 @@ MayGuestWrite s device drive =
 
 abbrev pub WritersStand : State → Type 0
 WritersStand s =
-    (g : ℕ) (device : Device) → device_at s.table g ≡ Some device
+    (g : ℕ) (device : Device) → device_by_number s.table g ≡ Some device
     → With (drive_of s.table g) (MayGuestWrite s device)
 
 -- ---- all of it

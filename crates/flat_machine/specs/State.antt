@@ -5,7 +5,7 @@ use Rattle.blk_graph.specs.declared.edge.Parent.TheVariants.{Guest as GuestOf}
 use Rattle.blk_graph.specs.declared.edge.Role.TheVariants.{Drive}
 use Rattle.blk_graph.specs.Edits.{child_of}
 use Rattle.q2_format.specs.Created.{Creation}
-use Rattle.qmp_rules.specs.Table.{Table, node_at}
+use Rattle.qmp_rules.specs.Table.{RunTable, node_by_id}
 use Rattle.qmp_rules.specs.Chains.{disk_node, is_settled}
 use Rattle.blk_history.specs.Machine.{Flight}
 
@@ -73,7 +73,7 @@ pub record Ending : Type 0 where
 pub record State : Type 0 where
   -- the capacity of files that are made
   pub room : ℕ
-  pub table : Table
+  pub table : RunTable
   -- by number
   pub guests : List Guest
   pub disks : List Disk
@@ -96,11 +96,11 @@ abbrev pub guest_at : State → ℕ → Option Guest
 guest_at s g = slice_get s.guests g
 
 -- the node that a guest's device is on, where it has one
-abbrev pub drive_of : Table → ℕ → Option ℕ
+abbrev pub drive_of : RunTable → ℕ → Option ℕ
 drive_of t g = child_of (GuestOf g) Drive t.edges
 
 -- a guest's disk is the node that it reaches through filters
-abbrev pub disk_of_guest : Table → ℕ → Option ℕ
+abbrev pub disk_of_guest : RunTable → ℕ → Option ℕ
 disk_of_guest t g = option_map (disk_node t) (drive_of t g)
 
 -- ---- disks
@@ -124,8 +124,8 @@ content_in files name =
     option_map (λ known. known.content) (find (λ known. bytes_eq known.name name) files)
 
 -- the file of the store that a `file` node stands for
-abbrev pub filename_of : Table → ℕ → Option (List ℕ)
-filename_of t node = option_and_then (λ row. row.filename) (node_at t node)
+abbrev pub filename_of : RunTable → ℕ → Option (List ℕ)
+filename_of t node = option_and_then (λ row. row.filename) (node_by_id t node)
 
-abbrev pub size_of : Table → ℕ → ℕ
-size_of t node = unwrap_or (option_map (λ row. row.size) (node_at t node)) 0
+abbrev pub size_by_id : RunTable → ℕ → ℕ
+size_by_id t node = unwrap_or (option_map (λ row. row.size) (node_by_id t node)) 0

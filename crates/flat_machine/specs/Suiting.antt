@@ -10,7 +10,7 @@ use Rattle.qmp_rules.specs.declared.change.Change.TheVariants as change
 use Rattle.qmp_rules.specs.declared.rows.NodeRecord.{NodeRecord}
 use Rattle.qmp_rules.specs.declared.rows.Device.{Device}
 use Rattle.qmp_rules.specs.declared.rows.FileState.TheVariants.{Used}
-use Rattle.qmp_rules.specs.Table.{Table, node_at, device_at, file_state}
+use Rattle.qmp_rules.specs.Table.{RunTable, node_by_id, device_by_number, file_state}
 use Rattle.qmp_rules.specs.Chains.{filter_role}
 use Rattle.qmp_rules.specs.Changes.{changed}
 use Rattle.flat_machine.specs.State.{State, content_in}
@@ -18,27 +18,28 @@ use Rattle.flat_machine.specs.Changed.{stepped}
 use Rattle.flat_machine.specs.Wiring.{StandsFor, IsUnder, HasDeviceNumber, HasOwnName, TableStands}
 use Rattle.flat_machine.specs.Standing.{MayGuestWrite, Stands}
 
-abbrev pub IsThere : Table → ℕ → Type 0
-IsThere t node = IsSome (node_at t node)
+abbrev pub IsThere : RunTable → ℕ → Type 0
+IsThere t node = IsSome (node_by_id t node)
 
 -- no node stands for the file
-abbrev pub HasNoNode : Table → List ℕ → Type 0
+abbrev pub HasNoNode : RunTable → List ℕ → Type 0
 HasNoNode t name = (row : NodeRecord) → StandsFor t name row → ⊥
 
 -- no edge leads to the node
-abbrev pub IsAlone : Table → ℕ → Type 0
+abbrev pub IsAlone : RunTable → ℕ → Type 0
 IsAlone t node = (edge : Edge) → Contains t.edges edge → edge.child ≡ node → ⊥
 
 -- it is no `file` node that a format node is over
-abbrev pub IsUnderNoFormat : Table → ℕ → Type 0
+abbrev pub IsUnderNoFormat : RunTable → ℕ → Type 0
 IsUnderNoFormat t node =
-    (row : NodeRecord) → node_at t node ≡ Some row → IsSome row.filename → IsUnder t.edges node → ⊥
+    (row : NodeRecord) → node_by_id t node ≡ Some row → IsSome row.filename → IsUnder t.edges node
+    → ⊥
 
 -- ---- tables
 
 -- a new `file` node over a file for which no other node stands
-pub record SuitsFile (t : Table) (row : NodeRecord) : Type 0 where
-  pub fresh : node_at t row.id ≡ None
+pub record SuitsFile (t : RunTable) (row : NodeRecord) : Type 0 where
+  pub fresh : node_by_id t row.id ≡ None
   pub own_name : HasOwnName row
   pub driver : row.kind ≡ Protocol
   pub name : List ℕ
@@ -46,22 +47,23 @@ pub record SuitsFile (t : Table) (row : NodeRecord) : Type 0 where
   pub closed : HasNoNode t name
 
 -- the backing node of a new one
-pub record SuitsBacking (t : Table) (row : NodeRecord) (file backing : ℕ) : Type 0 where
+pub record SuitsBacking (t : RunTable) (row : NodeRecord) (file backing : ℕ) : Type 0 where
   pub role : has_role row.kind Backing ≡ true
   pub there : IsThere t backing
   pub other : backing ≢ file
   pub free : IsUnderNoFormat t backing
-  pub plain : (row : NodeRecord) → node_at t backing ≡ Some row → row.kind ≢ CopyOnRead
+  pub plain : (row : NodeRecord) → node_by_id t backing ≡ Some row → row.kind ≢ CopyOnRead
 
 -- a new format node over a `file` node that has no parent
-pub record SuitsFormat (t : Table) (row : NodeRecord) (file : ℕ) (backing : Option ℕ) : Type 0 where
-  pub fresh : node_at t row.id ≡ None
+pub record SuitsFormat (t : RunTable) (row : NodeRecord) (file : ℕ)
+    (backing : Option ℕ) : Type 0 where
+  pub fresh : node_by_id t row.id ≡ None
   pub own_name : HasOwnName row
   pub format : filter_role row.kind ≡ None
   pub role : has_role row.kind File ≡ true
   pub filename : row.filename ≡ None
   pub under : NodeRecord
-  pub found : node_at t file ≡ Some under
+  pub found : node_by_id t file ≡ Some under
   pub name : List ℕ
   pub of_file : under.filename ≡ Some name
   pub alone : IsAlone t file
@@ -69,24 +71,24 @@ pub record SuitsFormat (t : Table) (row : NodeRecord) (file : ℕ) (backing : Op
   pub backed : (node : ℕ) → backing ≡ Some node → SuitsBacking t row file node
 
 -- a new filter that copies what is read, over a format node that may be written
-pub record SuitsFilter (t : Table) (row : NodeRecord) (child : ℕ) : Type 0 where
-  pub fresh : node_at t row.id ≡ None
+pub record SuitsFilter (t : RunTable) (row : NodeRecord) (child : ℕ) : Type 0 where
+  pub fresh : node_by_id t row.id ≡ None
   pub own_name : HasOwnName row
   pub filter : filter_role row.kind ≡ Some File
   pub filename : row.filename ≡ None
   pub under : NodeRecord
-  pub found : node_at t child ≡ Some under
+  pub found : node_by_id t child ≡ Some under
   pub own : filter_role under.kind ≡ None
   pub no_file : under.filename ≡ None
   pub writable : under.read_only ≡ false
 
-pub record SuitsDevice (t : Table) (device : Device) (node : ℕ) : Type 0 where
+pub record SuitsDevice (t : RunTable) (device : Device) (node : ℕ) : Type 0 where
   pub there : IsThere t node
   pub free : IsUnderNoFormat t node
   pub number : HasDeviceNumber t.guests device
 
 -- Of the kinds that jobs and snapshots bring it is asked that they leave it.
-abbrev pub TableSuits : Table → Change → Type 0
+abbrev pub TableSuits : RunTable → Change → Type 0
 TableSuits t change.Negotiate = Unit {0}
 TableSuits t (change.KeepId id) = Unit {0}
 TableSuits t (change.DropId id) = Unit {0}
@@ -107,14 +109,14 @@ TableSuits t (change.ClearBitmap node name) = Unit {0}
 TableSuits t (change.MergeBitmap node name source_node source) = Unit {0}
 TableSuits t c = TableStands (changed t c)
 
-abbrev pub AllTableSuit : Table → List Change → Type 0
+abbrev pub AllTableSuit : RunTable → List Change → Type 0
 AllTableSuit t [] = Unit {0}
 AllTableSuit t (c ∷ changes) = TableSuits t c × AllTableSuit (changed t c) changes
 
 -- ---- states
 
 -- no node that stands for the file has been used
-abbrev pub IsUnused : Table → List ℕ → Type 0
+abbrev pub IsUnused : RunTable → List ℕ → Type 0
 IsUnused t name = file_state t name ≢ Some Used
 
 -- there is word of the file of a new `file` node, and it was not used
@@ -129,7 +131,7 @@ pub record FormatSuits (s : State) (row : NodeRecord) (file : ℕ) (backing : Op
   pub unused : IsUnused s.table suits.name
 
 -- a node without parents, whose file was used
-pub record RemovalSuits (t : Table) (node : ℕ) : Type 0 where
+pub record RemovalSuits (t : RunTable) (node : ℕ) : Type 0 where
   pub alone : IsAlone t node
   pub own : (name : List ℕ) (row : NodeRecord) → StandsFor t name row → row.id ≡ node
       → file_state t name ≡ Some Used
@@ -138,7 +140,7 @@ pub record RemovalSuits (t : Table) (node : ℕ) : Type 0 where
       → edge.role ≡ File → edge.child ≡ row.id → file_state t name ≡ Some Used
 
 -- the node stands for the file, and has no parent
-pub record FormattingSuits (t : Table) (node : ℕ) (name : List ℕ) : Type 0 where
+pub record FormattingSuits (t : RunTable) (node : ℕ) (name : List ℕ) : Type 0 where
   pub row : NodeRecord
   pub stands : StandsFor t name row
   pub is_node : row.id ≡ node
@@ -147,7 +149,7 @@ pub record FormattingSuits (t : Table) (node : ℕ) (name : List ℕ) : Type 0 w
 -- a device with a number of its own, on a node that it may use so
 pub record DeviceSuits (s : State) (device : Device) (node : ℕ) : Type 0 where
   pub suits : SuitsDevice s.table device node
-  pub fresh : device_at s.table device.number ≡ None
+  pub fresh : device_by_number s.table device.number ≡ None
   pub writes : MayGuestWrite s device node
 
 abbrev pub Suits : State → Change → Type 0

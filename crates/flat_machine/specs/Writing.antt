@@ -6,12 +6,12 @@ use Rattle.trace_codec.specs.declared.op.Op.{Op}
 use Rattle.trace_codec.specs.declared.op.Op.TheVariants.{Read, Write, Zero}
 use Rattle.blk_base.specs.declared.fault.Outcome.{Outcome}
 use Rattle.qmp_rules.specs.declared.rows.NodeRecord.{NodeRecord}
-use Rattle.qmp_rules.specs.Table.{Table, node_at, child, has_name}
+use Rattle.qmp_rules.specs.Table.{RunTable, node_by_id, child, has_name}
 use Rattle.qmp_rules.specs.Chains.{disk_node, is_over}
 use Rattle.blk_history.specs.Disk.{done_in}
 use Rattle.blk_history.specs.Machine.{done_by}
 use Rattle.flat_machine.specs.State.{State, Unknown, content_in}
-use Rattle.flat_machine.specs.Changed.{file_of}
+use Rattle.flat_machine.specs.Changed.{own_filename}
 use Rattle.flat_machine.specs.Machine.{copies_through}
 use Rattle.flat_machine.specs.Agreement.{Contents, HasDisk}
 use Rattle.flat_machine.specs.Performing.{ReadSame, HeldSame, IsQuiet}
@@ -19,15 +19,15 @@ use Rattle.flat_machine.specs.Performing.{ReadSame, HeldSame, IsQuiet}
 -- ---- the node that is written
 
 -- the file that it writes
-abbrev pub written_file : Table → ℕ → Option (List ℕ)
-written_file t node = option_and_then (λ row. file_of t row row.kind) (node_at t node)
+abbrev pub written_file : RunTable → ℕ → Option (List ℕ)
+written_file t node = option_and_then (λ row. own_filename t row row.kind) (node_by_id t node)
 
 -- A node that a guest may write: it has a flat disk, the `file` node under it has none, and of its file nothing is known, no
 -- disk is left in it, and a command named it.
 pub record IsGuestWritable (s : State) (node : ℕ) : Type 0 where
   pub disk : IsSome (find (λ d. d.node == node) s.disks)
   pub under : (file : ℕ) (row : NodeRecord) → child s.table node File ≡ Some file
-      → node_at s.table file ≡ Some row → HasDisk row → ⊥
+      → node_by_id s.table file ≡ Some row → HasDisk row → ⊥
   pub known : (name : List ℕ) → written_file s.table node ≡ Some name
       → content_in s.files name ≡ Some Unknown
   pub left : (name : List ℕ) → written_file s.table node ≡ Some name
@@ -37,7 +37,7 @@ pub record IsGuestWritable (s : State) (node : ℕ) : Type 0 where
 -- ---- what is done
 
 -- a node reads otherwise: the written one, and a filter over it, the `file` node under it, and what reads it as a backing node
-abbrev pub ReadsWritten : Table → ℕ → ℕ → Type 0
+abbrev pub ReadsWritten : RunTable → ℕ → ℕ → Type 0
 ReadsWritten t node other =
     (disk_node t other ≡ node) ⊎ ((child t node File ≡ Some other) ⊎ (is_over t node other ≡ true))
 

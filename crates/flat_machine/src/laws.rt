@@ -17,11 +17,11 @@ ghost use Rattle.qmp_codec.specs.declared.nodes.Created.{Created};
 ghost use Rattle.qmp_rules.specs.declared.told.Told.{Told};
 ghost use Rattle.qmp_rules.specs.declared.rows.Device.{Device};
 ghost use Rattle.qmp_asks.specs.Naming.{inline_name, is_name};
-ghost use Rattle.qmp_rules.specs.Table.{Table, device_at, node_named};
+ghost use Rattle.qmp_rules.specs.Table.{RunTable, device_by_number, node_named};
 ghost use Rattle.qmp_rules.specs.Chains.{disk_node, written_under};
 ghost use Rattle.qmp_rules.specs.Changes.{all_changed};
 ghost use Rattle.qmp_rules.specs.Edits.{spoiled};
-ghost use Rattle.qmp_rules.specs.Answers.{refusal_of, command_edits};
+ghost use Rattle.qmp_rules.specs.Answers.{refusal_to, command_edits};
 ghost use Rattle.qmp_rules.specs.declared.change.Change.{Change};
 ghost use Rattle.blk_history.specs.Disk.{is_write};
 ghost use Rattle.flat_machine.specs.State.{State, drive_of};
@@ -55,7 +55,7 @@ pub fn changes_keep_disks()
 /// Where nothing that may be told refuses a command, its changes can be made, one after another.
 pub fn accepted_changes_can_be_made()
     ensures { (s : State) (told : Told) (c : Cmd) → Stands s → IsTold s c told
-        → refusal_of s.table told c ≡ None → AllCan s (command_edits s.table (expected s c) c) }
+        → refusal_to s.table told c ≡ None → AllCan s (command_edits s.table (expected s c) c) }
 {}
 
 /// What holds of states between events holds at the beginning, and changes that suit a state leave what each is to leave. What
@@ -65,16 +65,17 @@ pub fn tables_stand()
     ensures beginning { (o : Opening) → StandsAtRest (start o) }
     ensures changes { (changes : List Change) (s : State)
         → AllSuit s changes → Stands s → Stands (all_stepped s changes) }
-    ensures commands { (t : Table) (told : Told) (c : Cmd) → TableAtRest t
-        → refusal_of t told c ≡ None → TableAtRest (all_changed t (command_edits t told c)) }
-    ensures failures { (t : Table) (options : Created (List ℕ)) → TableAtRest t
+    ensures commands { (t : RunTable) (told : Told) (c : Cmd) → TableAtRest t
+        → refusal_to t told c ≡ None → TableAtRest (all_changed t (command_edits t told c)) }
+    ensures failures { (t : RunTable) (options : Created (List ℕ)) → TableAtRest t
         → TableAtRest (all_changed t (spoiled t options)) }
-    ensures writes { (t : Table) (node : ℕ) → TableAtRest t → TableAtRest (written_under node t) }
+    ensures writes { (t : RunTable) (node : ℕ) → TableAtRest t
+        → TableAtRest (written_under node t) }
 {}
 
 /// Between events the name that a `file` node gets by the node over it is free where that node's own name is.
 pub fn inline_names_are_free()
-    ensures { (t : Table) (name : List ℕ) → TableAtRest t → is_name name ≡ true
+    ensures { (t : RunTable) (name : List ℕ) → TableAtRest t → is_name name ≡ true
         → node_named t name ≡ None → node_named t (inline_name name None) ≡ None }
 {}
 
@@ -82,10 +83,10 @@ pub fn inline_names_are_free()
 /// refused one, whether or not a call of it failed. A reply to a line that is no command changes nothing.
 pub fn replies_keep_standing()
     ensures suits { (s : State) (told : Told) (c : Cmd) → StandsAtRest s → IsTold s c told
-        → refusal_of s.table told c ≡ None → AllSuit s (command_edits s.table told c) }
+        → refusal_to s.table told c ≡ None → AllSuit s (command_edits s.table told c) }
     ensures accepted { (s : State) (told : Told) (c : Cmd) (given text : List ℕ) (id : Option Data)
         (d : Data) → command_at given ≡ Ok c → StandsAtRest s → IsTold s c told
-        → refusal_of s.table told c ≡ None → read text ≡ Some (returned_data id d)
+        → refusal_to s.table told c ≡ None → read text ≡ Some (returned_data id d)
         → StandsAtRest (replied s given text) }
     ensures refused { (s : State) (c : Cmd) (given text : List ℕ) (id : Option Data) (class : Class)
         (desc : List ℕ) → command_at given ≡ Ok c → StandsAtRest s
@@ -118,7 +119,7 @@ pub fn transcripts_have_one_history()
 /// `copy-on-read` goes in at a drive into whose image it may put what it reads.
 pub fn guests_can_write()
     ensures { (s : State) (g : ℕ) (device : Device) (drive : ℕ) (op : Op) → StandsAtRest s
-        → device_at s.table g ≡ Some device → drive_of s.table g ≡ Some drive
+        → device_by_number s.table g ≡ Some device → drive_of s.table g ≡ Some drive
         → (is_write op ≡ true → device.read_only ≡ false) → CanWrite s drive op }
 {}
 
@@ -138,7 +139,7 @@ pub fn replies_keep_disks()
     ensures accepted { (opening : List ℕ → Option (List ℕ)) (s : State) (told : Told) (c : Cmd)
         (given text : List ℕ) (id : Option Data) (d : Data) (old new : Contents)
         → command_at given ≡ Ok c → Stands s → IsTold s c told
-        → refusal_of s.table told c ≡ None → read text ≡ Some (returned_data id d)
+        → refusal_to s.table told c ≡ None → read text ≡ Some (returned_data id d)
         → AllPerformed s (command_edits s.table told c) old new
         → Agrees opening s old → Agrees opening (replied s given text) new }
     ensures refused { (s : State) (c : Cmd) (text : List ℕ) (id : Option Data)

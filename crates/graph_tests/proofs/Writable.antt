@@ -7,9 +7,9 @@ use Rattle.blk_graph.specs.declared.edge.Role.TheVariants as roles
 use Rattle.blk_graph.specs.declared.kind.Kind.TheVariants as kinds
 use Rattle.blk_graph.proofs.ChildLemmas.{child-edge}
 use Rattle.blk_nodes.specs.Adding.{is_read_only_in}
-use Rattle.blk_nodes.specs.Nodes.{Nodes, row_at, kind_of, kind_in, file_of, backing_of}
+use Rattle.blk_nodes.specs.Nodes.{Nodes, row_at, driver_kind, kind_in, file_of, backing_of}
 use Rattle.blk_nodes.specs.Reading.{LeadsTo}
-use Rattle.blk_nodes.specs.Writing.{MayWrite, CanBeWritten, IsOverApart, OwnsFile, own_file}
+use Rattle.blk_nodes.specs.Writing.{MayWriteThrough, CanBeWritten, IsOverApart, OwnsFile, own_file}
 use Rattle.blk_nodes.specs.declared.row.Driver.{Driver}
 use Rattle.blk_nodes.specs.declared.row.Driver.TheVariants.{File, Raw, Qcow2, CopyOnRead}
 use Rattle.blk_nodes.specs.declared.row.Row.{Row}
@@ -35,26 +35,26 @@ only_owner nodes node file used other has =
 
 pub may_write : (nodes : Nodes) (node file : ℕ) (over : Option ℕ) → file_of nodes node ≡ Some file → backing_of nodes node ≡ over
     → option_map kind_in (row_at nodes node) ≡ Some kinds.Qcow2 → is_read_only_in (row_at nodes node) ≡ false
-    → All (IsNoOthers node file) nodes.graph.edges → IfSome over (IsAwayFrom nodes.graph.edges file) → MayWrite nodes node
+    → All (IsNoOthers node file) nodes.graph.edges → IfSome over (IsAwayFrom nodes.graph.edges file) → MayWriteThrough nodes node
 may_write nodes node file over own below kind writable used apart = by_row (row_at nodes node) refl kind writable
   where
-    can_be : (d : Driver) → kind_of d ≡ kinds.Qcow2 → CanBeWritten nodes node d
+    can_be : (d : Driver) → driver_kind d ≡ kinds.Qcow2 → CanBeWritten nodes node d
     can_be File is = absurd cc
     can_be (Raw part) is = absurd cc
     can_be (Qcow2 image) is = over_apart nodes node file over own below apart
     can_be CopyOnRead is = absurd cc
 
-    own_is : (d : Driver) → kind_of d ≡ kinds.Qcow2 → (f : ℕ) → own_file nodes node d ≡ Some f → f ≡ file
+    own_is : (d : Driver) → driver_kind d ≡ kinds.Qcow2 → (f : ℕ) → own_file nodes node d ≡ Some f → f ≡ file
     own_is File is f e = absurd cc
     own_is (Raw part) is f e = absurd cc
     own_is (Qcow2 image) is f e = cc
     own_is CopyOnRead is f e = absurd cc
 
     by_row : (found : Option Row) → row_at nodes node ≡ found → option_map kind_in found ≡ Some kinds.Qcow2 → is_read_only_in found ≡ false
-        → MayWrite nodes node
+        → MayWriteThrough nodes node
     by_row None e k w = absurd cc
     by_row (Some row) e k w =
-        let is : kind_of row.driver ≡ kinds.Qcow2 = cc in
+        let is : driver_kind row.driver ≡ kinds.Qcow2 = cc in
         record {
           row = row;
           there = e;

@@ -3,9 +3,9 @@ ghost use Rattle.std.specs.Prelude.{◌≡◌, ◌↔◌, ◌≤◌, All, IsTrue
 ghost use Rattle.blk_base.specs.Pieces.{end_of};
 ghost use Rattle.blk_graph.specs.Graph.{HasNode};
 ghost use Rattle.q2_image.specs.Reading.{IsWithinCluster};
-ghost use Rattle.blk_nodes.specs.Nodes.{size_of};
+ghost use Rattle.blk_nodes.specs.Nodes.{node_size};
 ghost use Rattle.blk_nodes.specs.Overlays.{backing_node};
-ghost use Rattle.blk_nodes.specs.Writing.{MayWrite};
+ghost use Rattle.blk_nodes.specs.Writing.{MayWriteThrough};
 ghost use Rattle.graph_tests.specs.Lone.{IsNoOthers, IsAwayFrom};
 
 use blk_base::{DevNo, Outcome, Span, Text};
@@ -64,7 +64,7 @@ fn is_away(nodes: &Nodes<MemDevice>, over: Option<NodeId>, file: NodeId) -> bool
 /// Whether a qcow2 node may be written.
 #[tactic(auto, using(crate::proofs::Writable::may_write))]
 fn may_write(nodes: &Nodes<MemDevice>, node: NodeId) -> bool
-    ensures { IsTrue result → MayWrite nodes.now node }
+    ensures { IsTrue result → MayWriteThrough nodes.now node }
 {
     let Some(file) = nodes.child(node, Role::File) else {
         return false;
@@ -78,7 +78,7 @@ fn may_write(nodes: &Nodes<MemDevice>, node: NodeId) -> bool
 /// A piece of a node's disk, where it lies in it and in one block.
 fn piece_in(nodes: &Nodes<MemDevice>, node: NodeId, start: u64, len: usize) -> Option<Span>
     ensures len { IfSome result (λ span. span.len ≡ len) }
-    ensures inside { IfSome result (λ span. end_of span ≤ size_of nodes.now node) }
+    ensures inside { IfSome result (λ span. end_of span ≤ node_size nodes.now node) }
     ensures block { IfSome result (IsWithinCluster 65536) }
 {
     let size = nodes.size(node).min(LARGEST);

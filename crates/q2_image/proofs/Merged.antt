@@ -14,7 +14,7 @@ use Rattle.q2_image.specs.declared.stop.ImageStop.{ImageStop}
 use Rattle.q2_image.specs.declared.stop.ImageStop.TheVariants as stops
 use Rattle.q2_image.specs.Opening.{Names, refusal_of, place_stops}
 use Rattle.q2_image.specs.Loading.{table_stops, TableTells, IsBlockStop}
-use Rattle.q2_image.specs.Merge.{merged, merged_stop}
+use Rattle.q2_image.specs.Merge.{merged_refusal, merged_stop}
 use Rattle.q2_image.proofs.Counted.{both_placed}
 
 -- the refusals of the loader of tables, whose L1 table lies in its place
@@ -38,7 +38,7 @@ all_first h l2 host in_l1 in_refs in_l2 compressed = first (
     ∷ [])
 
 merges : (h : Header) (l2 host in_l1 in_refs : Option ℕ) (in_l2 : Option (ℕ × ℕ)) (compressed : Option ℕ)
-    → all_first h l2 host in_l1 in_refs in_l2 compressed ≡ merged h in_refs (tables_first l2 host in_l1 in_l2 compressed)
+    → all_first h l2 host in_l1 in_refs in_l2 compressed ≡ merged_refusal h in_refs (tables_first l2 host in_l1 in_l2 compressed)
 merges h (Some o) host in_l1 in_refs in_l2 compressed = refl
 merges h None (Some o) in_l1 in_refs in_l2 compressed = refl
 merges h None None (Some i) in_refs in_l2 compressed = refl
@@ -51,7 +51,7 @@ merges h None None None None None None = refl
 
 -- the tables' first refusal is the merged one
 pub stops_merged : (file : List ℕ) (h : Header) (len : ℕ) (in_refs : Option ℕ) (tree : Tree) → place_stops h len ≡ None → TableTells file h len None in_refs
-    → table_stops h len (refcount_table file h) tree ≡ merged h in_refs (load_refusal h len tree)
+    → table_stops h len (refcount_table file h) tree ≡ merged_refusal h in_refs (load_refusal h len tree)
 unfolding table_stops load_refusal
 stops_merged file h len in_refs tree placed tells =
     let l1 = (both_placed h len placed).1 in
@@ -81,23 +81,23 @@ judges_by refusal stops.NoMemory is = tt
 -- what the loaders' answers say of the tables' first refusal
 pub judged_ok : (file : List ℕ) (h : Header) (len : ℕ) (tree : Tree) → place_stops h len ≡ None → TableTells file h len None None
     → load_refusal h len tree ≡ None → table_stops h len (refcount_table file h) tree ≡ None
-judged_ok file h len tree placed tells none = stops_merged file h len None tree placed tells ∙ ap (merged h None) none
+judged_ok file h len tree placed tells none = stops_merged file h len None tree placed tells ∙ ap (merged_refusal h None) none
 
 pub judged_reserved : (file : List ℕ) (h : Header) (len index : ℕ) (tree : Tree) → place_stops h len ≡ None → TableTells file h len None (Some index)
     → load_refusal h len tree ≡ None → table_stops h len (refcount_table file h) tree ≡ Some (sound.Reserved h.ref_offset index)
-judged_reserved file h len index tree placed tells none = stops_merged file h len (Some index) tree placed tells ∙ ap (merged h (Some index)) none
+judged_reserved file h len index tree placed tells none = stops_merged file h len (Some index) tree placed tells ∙ ap (merged_refusal h (Some index)) none
 
 pub judged_stop : (file : List ℕ) (h : Header) (len : ℕ) (in_refs : Option ℕ) (tree : Tree) (stop : TablesStop) → place_stops h len ≡ None
     → TableTells file h len None in_refs → (IsTableRefusal stop → load_refusal h len tree ≡ Some stop)
     → Names (table_stops h len (refcount_table file h) tree) (merged_stop h in_refs stop)
 judged_stop file h len in_refs tree (tables.Offset o) placed tells is =
-    judges_by (table_stops h len (refcount_table file h) tree) (merged_stop h in_refs (tables.Offset o)) (stops_merged file h len in_refs tree placed tells ∙ ap (merged h in_refs) (is tt))
+    judges_by (table_stops h len (refcount_table file h) tree) (merged_stop h in_refs (tables.Offset o)) (stops_merged file h len in_refs tree placed tells ∙ ap (merged_refusal h in_refs) (is tt))
 judged_stop file h len in_refs tree (tables.ReservedInL1 i) placed tells is =
-    judges_by (table_stops h len (refcount_table file h) tree) (merged_stop h in_refs (tables.ReservedInL1 i)) (stops_merged file h len in_refs tree placed tells ∙ ap (merged h in_refs) (is tt))
+    judges_by (table_stops h len (refcount_table file h) tree) (merged_stop h in_refs (tables.ReservedInL1 i)) (stops_merged file h len in_refs tree placed tells ∙ ap (merged_refusal h in_refs) (is tt))
 judged_stop file h len in_refs tree (tables.ReservedInL2 t i) placed tells is =
-    judges_by (table_stops h len (refcount_table file h) tree) (merged_stop h in_refs (tables.ReservedInL2 t i)) (stops_merged file h len in_refs tree placed tells ∙ ap (merged h in_refs) (is tt))
+    judges_by (table_stops h len (refcount_table file h) tree) (merged_stop h in_refs (tables.ReservedInL2 t i)) (stops_merged file h len in_refs tree placed tells ∙ ap (merged_refusal h in_refs) (is tt))
 judged_stop file h len in_refs tree (tables.Compressed c) placed tells is =
-    judges_by (table_stops h len (refcount_table file h) tree) (merged_stop h in_refs (tables.Compressed c)) (stops_merged file h len in_refs tree placed tells ∙ ap (merged h in_refs) (is tt))
+    judges_by (table_stops h len (refcount_table file h) tree) (merged_stop h in_refs (tables.Compressed c)) (stops_merged file h len in_refs tree placed tells ∙ ap (merged_refusal h in_refs) (is tt))
 judged_stop file h len in_refs tree (tables.Io n) placed tells is = tt
 judged_stop file h len in_refs tree tables.NoMemory placed tells is = tt
 

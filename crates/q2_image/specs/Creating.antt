@@ -20,12 +20,12 @@ use Rattle.q2_image.specs.declared.create.CreateStop.TheVariants.{Io, NoSpace, N
 
 -- Why an image that ends at `end` is created or not: want of space is answered exactly above the capacity; a call fails
 -- only where the device's count rose, and the stop names the count.
-abbrev pub CreateAnswers : {A : Type 0} → ℕ → ℕ → ℕ → ℕ → Result A CreateStop → Type 0
-CreateAnswers end capacity before now (Ok done) = end ≤ capacity
-CreateAnswers end capacity before now (Err (Io count)) =
+abbrev pub CreationAnswers : {A : Type 0} → ℕ → ℕ → ℕ → ℕ → Result A CreateStop → Type 0
+CreationAnswers end capacity before now (Ok done) = end ≤ capacity
+CreationAnswers end capacity before now (Err (Io count)) =
     (end ≤ capacity) × Rose before count × (count ≡ now)
-CreateAnswers end capacity before now (Err NoSpace) = capacity < end
-CreateAnswers end capacity before now (Err NoMemory) = end ≤ capacity
+CreationAnswers end capacity before now (Err NoSpace) = capacity < end
+CreationAnswers end capacity before now (Err NoMemory) = end ≤ capacity
 
 -- whether an answer comes behind the first write
 abbrev pub wrote : {A : Type 0} → Result A CreateStop → Bool

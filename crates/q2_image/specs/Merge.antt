@@ -25,6 +25,6 @@ merged_stop h reserved (tables.Io count) = Io count
 merged_stop h reserved tables.NoMemory = NoMemory
 
 -- the first refusal of both
-abbrev pub merged : Header → Option ℕ → Option TablesStop → Option Refusal
-merged h reserved None = option_map (sound.Reserved h.ref_offset) reserved
-merged h reserved (Some stop) = refusal_of (merged_stop h reserved stop)
+abbrev pub merged_refusal : Header → Option ℕ → Option TablesStop → Option Refusal
+merged_refusal h reserved None = option_map (sound.Reserved h.ref_offset) reserved
+merged_refusal h reserved (Some stop) = refusal_of (merged_stop h reserved stop)

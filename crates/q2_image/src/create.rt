@@ -15,7 +15,7 @@ ghost use Rattle.q2_format.specs.declared.header.TheConstants.{MAX_DISK_SIZE, MA
 ghost use Rattle.blk_base.specs.Content.{Write};
 ghost use Rattle.blk_base.specs.Device.{AtEachStopOf, Writes};
 ghost use Rattle.blk_base.specs.Writes.{write_of};
-ghost use Rattle.q2_image.specs.Creating.{AreStages, CreateAnswers, IsBeforeOrNone, wrote, IsFailedCall, ChangesWithin, LacksHeader, text_at, call_stop, MakesStages, MakesImage};
+ghost use Rattle.q2_image.specs.Creating.{AreStages, CreationAnswers, IsBeforeOrNone, wrote, IsFailedCall, ChangesWithin, LacksHeader, text_at, call_stop, MakesStages, MakesImage};
 ghost use Rattle.q2_format.specs.declared.layout.TheConstants.{CREATED_LENGTH, CREATED_REFCOUNT_TABLE};
 ghost use Rattle.q2_image.specs.declared.header.TheConstants.{CLUSTER};
 ghost use Rattle.q2_image.specs.Guest.{file_entry};
@@ -297,7 +297,7 @@ pub fn create_image<D: Device>(
     // why it is created or not
     ensures cause { let end = created_length
         (creation_of size (option_copied name.entry) (option_copied format.entry))
-        in CreateAnswers end (D.capacity dev.old) (D.faults dev.old) (D.faults dev.new) result }
+        in CreationAnswers end (D.capacity dev.old) (D.faults dev.old) (D.faults dev.new) result }
 
     // the device
     ensures writes { MakesImage D.Device

@@ -11,14 +11,14 @@ use Rattle.q2_image.specs.Image.{Known, cluster_size_in, entry_in}
 use Rattle.q2_image.specs.Made.{WriteStep, WroteOwn, zero_steps}
 use Rattle.q2_image.specs.Room.{cluster_of, entry_for, is_whole}
 use Rattle.blk_nodes.specs.Changing.{seen, ChangesAround, ChangesBySteps, ChangesInPlace, ChangesPart, IsUnchanged, IsImageWritten, IsZeroed, MakesChange, PutsAround, ZeroesBy, ZeroesPart}
-use Rattle.blk_nodes.specs.Nodes.{DeviceState}
+use Rattle.blk_nodes.specs.Nodes.{DeviceSeen}
 
-module _ (IsDisk : List ℕ → Type 0) (image now : Known) (before after : DeviceState) where
+module _ (IsDisk : List ℕ → Type 0) (image now : Known) (before after : DeviceSeen) where
   abbrev HasCapacity : Type 0
   HasCapacity = after.capacity ≡ before.capacity
 
   unchanged : IsUnchanged image now before after → HasCapacity
-  unchanged is = ap (λ (d : DeviceState). d.capacity) is.1
+  unchanged is = ap (λ (d : DeviceSeen). d.capacity) is.1
 
   own : (part : Extent) (bytes : List ℕ) → WroteOwn seen image now part bytes before after → HasCapacity
   own part bytes (inl is) = is.1.capacity
@@ -43,7 +43,7 @@ module _ (IsDisk : List ℕ → Type 0) (image now : Known) (before after : Devi
   around part bytes Good is = put-around part bytes _ is.0
   around part bytes (Torn done dev count) is = absurd is
   around part bytes (Io dev count) (inl puts) = put-around part bytes _ puts
-  around part bytes (Io dev count) (inr read) = ap (λ (d : DeviceState). d.capacity) read.1.same
+  around part bytes (Io dev count) (inr read) = ap (λ (d : DeviceSeen). d.capacity) read.1.same
   around part bytes (NoSpace dev) is = unchanged is
 
   of-part : (entry : L2Entry) (part : Extent) (bytes : List ℕ) (o : Outcome) → ChangesPart IsDisk entry part bytes image now before after o → HasCapacity

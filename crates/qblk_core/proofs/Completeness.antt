@@ -15,8 +15,8 @@ use Rattle.q2_format.specs.Sound.{Refusal, image_refusal}
 use Rattle.q2_image.specs.Opening.{refusal_of}
 use Rattle.qblk_core.specs.Completeness.{HasInputs, HasStood, NoneRises}
 use Rattle.qblk_core.specs.Format.{IsGoodImage}
-use Rattle.qblk_core.specs.ImageNodes.{faults_of}
-use Rattle.qblk_core.specs.Run.{Outside, HasImage, HasTrace, IsBadBytes, IsBadImage, IsBadTrace, IsRefusedInput, IsRefusedTrace, FailsToFlush, FailsToOpen, Answers}
+use Rattle.qblk_core.specs.ImageNodes.{device_faults}
+use Rattle.qblk_core.specs.Run.{Outside, HasImage, HasTrace, IsBadBytes, IsBadImage, IsFlawInTrace, IsImageOrTraceRefused, IsTraceFileRefused, FailsToFlush, FailsToOpen, Answers}
 use Rattle.qblk_core.specs.declared.status.InputWhy.{InputWhy}
 use Rattle.qblk_core.specs.declared.status.InputWhy.TheVariants as why
 use Rattle.qblk_core.specs.declared.status.Status.{Status}
@@ -82,7 +82,7 @@ good-image format (why.Image stop) image files good bad = found-bad format (why.
 abbrev IsTaken : List Op → File → Type 0
 IsTaken ops f = (length f.bytes ≤ 67108864) × IsUtf8 f.bytes × (ops_of f.bytes ≡ Ok ops)
 
-good-text : (cause : InputWhy) (line : ℕ) (ops : List Op) (f : File) → IsTaken ops f → IsBadTrace cause line f.bytes → ⊥
+good-text : (cause : InputWhy) (line : ℕ) (ops : List Op) (f : File) → IsTaken ops f → IsFlawInTrace cause line f.bytes → ⊥
 good-text why.Absent line ops f good bad = bad
 good-text why.TooLarge line ops f good bad = bad
 good-text why.NeedsBacking line ops f good bad = bad
@@ -96,12 +96,12 @@ good-text why.BadLine line ops f good bad = let both = sym good.2 ∙ bad.2 in l
 good-text why.TooMany line ops f good bad = let both = sym good.2 ∙ bad.2 in let no : ⊥ = cc both in no
 
 found-text : (cause : InputWhy) (line : ℕ) (trace : List ℕ) (ops : List Op) (files : List File) → HasTrace trace ops files
-    → HasFile trace (λ f. IsBadTrace cause line f.bytes) files → ⊥
+    → HasFile trace (λ f. IsFlawInTrace cause line f.bytes) files → ⊥
 found-text cause line trace ops files good bad =
-    let f = one-file trace (IsTaken ops) (λ f. IsBadTrace cause line f.bytes) files good bad in
+    let f = one-file trace (IsTaken ops) (λ f. IsFlawInTrace cause line f.bytes) files good bad in
     good-text cause line ops f.0 f.1.0 f.1.1
 
-good-trace : (cause : InputWhy) (line : ℕ) (trace : List ℕ) (ops : List Op) (files : List File) → HasTrace trace ops files → IsRefusedTrace cause line trace files → ⊥
+good-trace : (cause : InputWhy) (line : ℕ) (trace : List ℕ) (ops : List Op) (files : List File) → HasTrace trace ops files → IsTraceFileRefused cause line trace files → ⊥
 good-trace why.Absent line trace ops files good bad = not-lacking trace (IsTaken ops) files good bad.1
 good-trace why.NotUtf8 line trace ops files good bad = found-text why.NotUtf8 line trace ops files good bad
 good-trace why.TooLong line trace ops files good bad = found-text why.TooLong line trace ops files good bad
@@ -112,12 +112,12 @@ good-trace why.NeedsBacking line trace ops files good bad = found-text why.Needs
 good-trace (why.Image stop) line trace ops files good bad = found-text (why.Image stop) line trace ops files good bad
 
 good-inputs : (format : Format) (image trace name : List ℕ) (line : ℕ) (cause : InputWhy) (ops : List Op) (files : List File)
-    → HasImage format image files → HasTrace trace ops files → IsRefusedInput format image trace name line cause files → ⊥
+    → HasImage format image files → HasTrace trace ops files → IsImageOrTraceRefused format image trace name line cause files → ⊥
 good-inputs format image trace name line cause ops files there asks (inl bad) = good-image format cause image files there bad.2
 good-inputs format image trace name line cause ops files there asks (inr bad) = good-trace cause line trace ops files asks bad.2
 
 told-inputs : (format : Format) (image trace name : List ℕ) (line : ℕ) (cause : InputWhy) (ops : List Op) (files : Option (List File))
-    → With files (λ told. HasImage format image told × HasTrace trace ops told) → IfTold files (IsRefusedInput format image trace name line cause) → ⊥
+    → With files (λ told. HasImage format image told × HasTrace trace ops told) → IfTold files (IsImageOrTraceRefused format image trace name line cause) → ⊥
 told-inputs format image trace name line cause ops None good bad = good
 told-inputs format image trace name line cause ops (Some files) good bad = good-inputs format image trace name line cause ops files good.0 good.1 bad
 
@@ -139,13 +139,13 @@ flush-fails format image trace old new count none fails =
     let same : count ≡ run.device.faults = stood.1 in
     let start : run.device.faults ≡ before = run.ends.0 in
     let counts = run.counts in
-    let opened : faults_of run.first ≡ before = counts.opening in
-    let least = grows (faults_of run.first) (faults_of run.left) fails.1 counts.risen counts.last in
-    let last : counted (before ∷ []) fails.1 ≡ faults_of run.left ∷ [] =
-    subst (λ (k : ℕ). counted (k ∷ []) fails.1 ≡ faults_of run.left ∷ []) opened counts.last in
-    let rose : RoseSince (faults_of run.left ∷ []) (Some (record { dev = 0; count = count })) =
+    let opened : device_faults run.first ≡ before = counts.opening in
+    let least = grows (device_faults run.first) (device_faults run.left) fails.1 counts.risen counts.last in
+    let last : counted (before ∷ []) fails.1 ≡ device_faults run.left ∷ [] =
+    subst (λ (k : ℕ). counted (k ∷ []) fails.1 ≡ device_faults run.left ∷ []) opened counts.last in
+    let rose : RoseSince (device_faults run.left ∷ []) (Some (record { dev = 0; count = count })) =
     subst (λ (cs : List ℕ). RoseSince cs (Some (record { dev = 0; count = count }))) last fails.5 in
-    let above : HasFailedSince (faults_of run.left) count = rose.1 in
+    let above : HasFailedSince (device_faults run.left) count = rose.1 in
     omega arith
 
 pub is-done : (format : Format) (image trace : List ℕ) (ops : List Op) (old new : Outside) (status : Status) → HasInputs format image trace ops old

@@ -5,7 +5,7 @@ use Rattle.trace_codec.specs.declared.op.Op.{Op}
 use Rattle.blk_history.specs.declared.event.Event.{Event}
 use Rattle.blk_history.specs.declared.event.Event.TheVariants.{Admit}
 use Rattle.blk_history.specs.Line.{admitted_by}
-use Rattle.qblk_core.specs.Face.{request_at, row_of, WasAdmitted}
+use Rattle.qblk_core.specs.Face.{request_at, guest_on_image, WasAdmitted}
 use Rattle.qblk_core.specs.declared.flight.InFlight.{InFlight}
 
 get-push : (es : List Event) (e : Event) (n : ℕ) → n ≡ length es → slice_get (es ++ e ∷ []) n ≡ Some e
@@ -25,7 +25,7 @@ request-append (x ∷ es) more zero op is = is
 request-append (x ∷ es) more (suc n) op is = request-append es more n op is
 
 -- so does the guest's row
-pub row-append : (size : ℕ) (es more : List Event) (done : ℕ) (flight : Option InFlight) → WasAdmitted size es flight → row_of (es ++ more) done flight ≡ row_of es done flight
+pub row-append : (size : ℕ) (es more : List Event) (done : ℕ) (flight : Option InFlight) → WasAdmitted size es flight → guest_on_image (es ++ more) done flight ≡ guest_on_image es done flight
 row-append size es more done None was = refl
 row-append size es more done (Some f) was =
     let now = request-append es more f.place was.0 was.1 in

@@ -20,12 +20,12 @@ use Rattle.blk_history.specs.declared.entry.Refused.{Refused}
 use Rattle.blk_history.specs.declared.event.Event.{Event}
 use Rattle.blk_history.specs.declared.event.Event.TheVariants.{Admit, Refuse, Piece, Retire}
 use Rattle.blk_history.proofs.Folds.{run-push, each-push}
-use Rattle.blk_nodes.specs.Nodes.{Nodes, kind_in, size_of}
+use Rattle.blk_nodes.specs.Nodes.{Nodes, kind_in, node_size}
 use Rattle.qblk_core.specs.Along.{CountsOutcome, IsStepOf, HaveNodes, ShowsOf, FitsUnread}
-use Rattle.qblk_core.specs.Face.{Face, new_guest, state_with, state_of, machine_on}
-use Rattle.qblk_core.specs.ImageNodes.{told_disk, faults_of, HaveShapeOf}
-use Rattle.qblk_core.specs.Steps.{after_admission, IsRequestJudged, after_retirement, CanPiece, PutsPiece}
-use Rattle.qblk_core.specs.Comes.{AreLicensed, HasLine, HaveLines, Comes}
+use Rattle.qblk_core.specs.Face.{SessionSeen, new_guest, state_with, state_of, machine_on}
+use Rattle.qblk_core.specs.ImageNodes.{told_disk, device_faults, HaveShapeOf}
+use Rattle.qblk_core.specs.Steps.{admitted_or_refused, IsRequestJudged, after_retirement, CanPiece, PutsPiece}
+use Rattle.qblk_core.specs.Comes.{NameAllRises, HasLine, HaveLines, ComesFrom}
 
 -- a fault that an entry names is one of the only device, and rose; where none is named the count stands
 abbrev IsLicensed : ℕ → ℕ → Option Named → Type 0
@@ -70,34 +70,34 @@ abbrev TellsStill : Nodes → Nodes → Type 0
 TellsStill old new = (disk : List ℕ) → told_disk old ≡ Some disk → (now : List ℕ) × (told_disk new ≡ Some now)
 
 -- what one entry more has to be
-record Adds (w v : Face) (e : Event) : Type 0 where
+record Adds (w v : SessionSeen) (e : Event) : Type 0 where
   events : v.log.events ≡ w.log.events ++ e ∷ []
   line : HasLine e
   shape : HaveShapeOf w.nodes v.nodes
   on_image : v.guest.node ≡ w.guest.node
   access : v.guest.is_read_only ≡ w.guest.is_read_only
-  faults : faults_of w.nodes ≤ faults_of v.nodes
-  licensed : IsLicensed (faults_of w.nodes) (faults_of v.nodes) (named_in e)
+  faults : device_faults w.nodes ≤ device_faults v.nodes
+  licensed : IsLicensed (device_faults w.nodes) (device_faults v.nodes) (named_in e)
   step : IsStepOf (state_of w) e w.nodes v.nodes
   state : after (state_of w) e ≡ state_of v
   told : TellsStill w.nodes v.nodes
   turn : FitsUnread (state_of w) e
   fits : (disk : List ℕ) → told_disk w.nodes ≡ Some disk → Fits (state_of w) e
 
-licensed-push : (first : Nodes) (w v : Face) (e : Event) → Comes first w → Adds w v e → AreLicensed first v
+licensed-push : (first : Nodes) (w v : SessionSeen) (e : Event) → ComesFrom first w → Adds w v e → NameAllRises first v
 licensed-push first w v e comes adds =
     let was = comes.licensed in
     let step : List ℕ → Event → List ℕ = λ counts x. last_named counts (named_in x) in
     record {
-      risen = rw adds.events (each-push step (λ counts x. RoseSince counts (named_in x)) (faults_of first ∷ []) w.log.events e was.risen (rose-next _ (faults_of w.nodes) (faults_of v.nodes) (named_in e) was.last adds.licensed));
-      last = rw (adds.events, run-push step (faults_of first ∷ []) w.log.events e) (last-next _ (faults_of w.nodes) (faults_of v.nodes) (named_in e) was.last adds.licensed);
+      risen = rw adds.events (each-push step (λ counts x. RoseSince counts (named_in x)) (device_faults first ∷ []) w.log.events e was.risen (rose-next _ (device_faults w.nodes) (device_faults v.nodes) (named_in e) was.last adds.licensed));
+      last = rw (adds.events, run-push step (device_faults first ∷ []) w.log.events e) (last-next _ (device_faults w.nodes) (device_faults v.nodes) (named_in e) was.last adds.licensed);
     }
 
 lines-push : (es : List Event) (e : Event) → HaveLines es → HasLine e → HaveLines (es ++ e ∷ [])
 lines-push [] e all one = (one, tt)
 lines-push (x ∷ es) e all one = (all.0, lines-push es e all.1 one)
 
-comes-push : (first : Nodes) (w v : Face) (e : Event) → Comes first w → Adds w v e → Comes first v
+comes-push : (first : Nodes) (w v : SessionSeen) (e : Event) → ComesFrom first w → Adds w v e → ComesFrom first v
 comes-push first w v e comes adds = record {
   faults = let before = comes.faults in let more = adds.faults in omega arith;
   shape = shape-then first w.nodes v.nodes comes.shape adds.shape;
@@ -114,7 +114,7 @@ comes-push first w v e comes adds = record {
       rw adds.events (each-push after Fits (machine_on first) w.log.events e (comes.legal disk is) (rw comes.replay (adds.fits now.0 now.1)));
 }
 
-adds-admission : (first : Nodes) (w : Face) (op : Op) → Comes first w → w.guest.flight ≡ None → IsRequestJudged w op None → Adds w (after_admission w op None) (Admit 0 w.guest.done op)
+adds-admission : (first : Nodes) (w : SessionSeen) (op : Op) → ComesFrom first w → w.guest.flight ≡ None → IsRequestJudged w op None → Adds w (admitted_or_refused w op None) (Admit 0 w.guest.done op)
 adds-admission first w op comes idle judged = record {
   events = refl;
   line = record { whose = refl; shown = omega arith; small = tt };
@@ -136,7 +136,7 @@ adds-admission first w op comes idle judged = record {
   );
 }
 
-adds-refusal : (first : Nodes) (w : Face) (op : Op) (why : Refused) → Comes first w → w.guest.flight ≡ None → IsRequestJudged w op (Some why) → Adds w (after_admission w op (Some why)) (Refuse 0 w.guest.done op why)
+adds-refusal : (first : Nodes) (w : SessionSeen) (op : Op) (why : Refused) → ComesFrom first w → w.guest.flight ≡ None → IsRequestJudged w op (Some why) → Adds w (admitted_or_refused w op (Some why)) (Refuse 0 w.guest.done op why)
 adds-refusal first w op why comes idle judged = record {
   events = refl;
   line = record { whose = refl; shown = omega arith; small = tt };
@@ -152,7 +152,7 @@ adds-refusal first w op why comes idle judged = record {
   fits = λ disk is. rw comes.on_image (record { idle = idle; number = refl }, judged);
 }
 
-pub admission-kept : (w : Face) (op : Op) (why : Option Refused) → w.guest.flight ≡ None → IsRequestJudged w op why → (first : Nodes) → Comes first w → Comes first (after_admission w op why)
+pub admission-kept : (w : SessionSeen) (op : Op) (why : Option Refused) → w.guest.flight ≡ None → IsRequestJudged w op why → (first : Nodes) → ComesFrom first w → ComesFrom first (admitted_or_refused w op why)
 admission-kept w op None idle judged first comes = comes-push first w _ _ comes (adds-admission first w op comes idle judged)
 admission-kept w op (Some why) idle judged first comes = comes-push first w _ _ comes (adds-refusal first w op why comes idle judged)
 
@@ -161,7 +161,7 @@ over : (flight : Option Flight) → With flight IsOver → (f : Flight) × (flig
 over None is = absurd is
 over (Some f) is = (f, refl, is)
 
-adds-retirement : (w : Face) → With w.guest.flight IsOver → Adds w (after_retirement w) (Retire 0 w.guest.done)
+adds-retirement : (w : SessionSeen) → With w.guest.flight IsOver → Adds w (after_retirement w) (Retire 0 w.guest.done)
 adds-retirement w is =
     let found = over w.guest.flight is in
     record {
@@ -179,7 +179,7 @@ adds-retirement w is =
       fits = λ disk is. rw found.1 (refl, found.2);
     }
 
-pub retirement-kept : (w : Face) → With w.guest.flight IsOver → (first : Nodes) → Comes first w → Comes first (after_retirement w)
+pub retirement-kept : (w : SessionSeen) → With w.guest.flight IsOver → (first : Nodes) → ComesFrom first w → ComesFrom first (after_retirement w)
 retirement-kept w is first comes = comes-push first w _ _ comes (adds-retirement w is)
 
 licensed-piece : (before now : ℕ) (outcome : Outcome) → CountsOutcome before now outcome → IsLicensed before now (named_by outcome)
@@ -192,7 +192,7 @@ still-tells : (f : List ℕ → List ℕ) (old new : Nodes) → told_disk new �
 still-tells f old new is disk told = (f disk, is ∙ ap (option_map f) told)
 
 -- the state after a piece
-state-after : (w v : Face) (f : Flight) (outcome : Outcome) (got : List ℕ) → w.guest.node ≡ 1 → w.guest.flight ≡ Some f → PutsPiece w v f outcome got
+state-after : (w v : SessionSeen) (f : Flight) (outcome : Outcome) (got : List ℕ) → w.guest.node ≡ 1 → w.guest.flight ≡ Some f → PutsPiece w v f outcome got
     → after (state_of w) (Piece 0 w.guest.done f.next outcome got) ≡ state_of v
 state-after w v f outcome got on_image is puts =
     let shape = puts.made.shape in
@@ -209,7 +209,7 @@ shows-of op old new part (Torn done dev count) got on = on.shown ∙ shown_none 
 shows-of op old new part (Io dev count) got on = on.shown ∙ shown_none op (Io dev count) on.buffer (λ bad. let e : ⊥ = cc bad in e)
 shows-of op old new part (NoSpace dev) got on = on.shown ∙ shown_none op (NoSpace dev) on.buffer (λ bad. let e : ⊥ = cc bad in e)
 
-adds-piece : (first : Nodes) (w v : Face) (f : Flight) (outcome : Outcome) (got : List ℕ) → Comes first w → w.guest.flight ≡ Some f → CanPiece w.log f → PutsPiece w v f outcome got → Adds w v (Piece 0 w.guest.done f.next outcome got)
+adds-piece : (first : Nodes) (w v : SessionSeen) (f : Flight) (outcome : Outcome) (got : List ℕ) → ComesFrom first w → w.guest.flight ≡ Some f → CanPiece w.log f → PutsPiece w v f outcome got → Adds w v (Piece 0 w.guest.done f.next outcome got)
 adds-piece first w v f outcome got comes is can puts = record {
   events = ap (λ (l : Recorded). l.events) puts.made.log;
   line = record { whose = refl; shown = puts.made.small; small = puts.made.fits };
@@ -217,7 +217,7 @@ adds-piece first w v f outcome got comes is can puts = record {
   on_image = ap (λ (g : Guest). g.node) puts.guest;
   access = ap (λ (g : Guest). g.is_read_only) puts.guest;
   faults = puts.made.faults;
-  licensed = licensed-piece (faults_of w.nodes) (faults_of v.nodes) outcome puts.made.cause;
+  licensed = licensed-piece (device_faults w.nodes) (device_faults v.nodes) outcome puts.made.cause;
   step = rw (is, comes.on_image) (record { made = puts.made.on; count = puts.made.cause });
   state = state-after w v f outcome got comes.on_image is puts;
   told = still-tells _ w.nodes v.nodes puts.made.disk;
@@ -233,18 +233,18 @@ adds-piece first w v f outcome got comes is can puts = record {
   );
 }
 
-piece-kept : (w v : Face) (f : Flight) (outcome : Outcome) (got : List ℕ) → w.guest.flight ≡ Some f → CanPiece w.log f → PutsPiece w v f outcome got → (first : Nodes) → Comes first w → Comes first v
+piece-kept : (w v : SessionSeen) (f : Flight) (outcome : Outcome) (got : List ℕ) → w.guest.flight ≡ Some f → CanPiece w.log f → PutsPiece w v f outcome got → (first : Nodes) → ComesFrom first w → ComesFrom first v
 piece-kept w v f outcome got is can puts first comes = comes-push first w v _ comes (adds-piece first w v f outcome got comes is can puts)
 
-piece-of : (w v : Face) (outcome : Outcome) (flight : Option Flight) → w.guest.flight ≡ flight → With flight (CanPiece w.log) → With flight (λ f. (got : List ℕ) × PutsPiece w v f outcome got) → (first : Nodes) → Comes first w → Comes first v
+piece-of : (w v : SessionSeen) (outcome : Outcome) (flight : Option Flight) → w.guest.flight ≡ flight → With flight (CanPiece w.log) → With flight (λ f. (got : List ℕ) × PutsPiece w v f outcome got) → (first : Nodes) → ComesFrom first w → ComesFrom first v
 piece-of w v outcome None is can puts = absurd can
 piece-of w v outcome (Some f) is can puts = piece-kept w v f outcome puts.0 is can puts.1
 
-pub piece-made : (w v : Face) (outcome : Outcome) → With w.guest.flight (CanPiece w.log) → With w.guest.flight (λ f. (got : List ℕ) × PutsPiece w v f outcome got) → (first : Nodes) → Comes first w → Comes first v
+pub piece-made : (w v : SessionSeen) (outcome : Outcome) → With w.guest.flight (CanPiece w.log) → With w.guest.flight (λ f. (got : List ℕ) × PutsPiece w v f outcome got) → (first : Nodes) → ComesFrom first w → ComesFrom first v
 piece-made w v outcome can puts = piece-of w v outcome w.guest.flight refl can puts
 
 -- a run begins with its nodes
-pub comes-start : (first : Nodes) (log : Recorded) → log.events ≡ [] → Comes first (record { nodes = first; guest = new_guest; log = log })
+pub comes-start : (first : Nodes) (log : Recorded) → log.events ≡ [] → ComesFrom first (record { nodes = first; guest = new_guest; log = log })
 comes-start first log empty = record {
   faults = omega arith;
   shape = shape-same first;

@@ -32,10 +32,10 @@ use Rattle.q2_format.specs.declared.header.Header.{Header}
 use Rattle.q2_image.specs.Image.{Known, IsImageOf}
 use Rattle.q2_image.proofs.Guests.{length-image_disk}
 use Rattle.blk_nodes.specs.declared.row.RawImage.{RawImage}
-use Rattle.blk_nodes.specs.Adding.{with_node, with_device, with_below, file_edge, guest_edge, raw_row, kind_with, IsDenied, IsOverStop}
-use Rattle.blk_nodes.specs.Contents.{disk_of, disk_by, Unfolds, told, below, bytes_of, bytes_by, file_node_disk}
+use Rattle.blk_nodes.specs.Adding.{with_node_row, with_node_device, with_below, file_edge, guest_edge, raw_row, kind_with, IsDenied, IsOverStop}
+use Rattle.blk_nodes.specs.Contents.{disk_of, disk_by, Unfolds, told, disk_under, bytes_of, bytes_by, file_node_disk}
 use Rattle.blk_nodes.specs.Joined.{IsJoined, IsFile, IsOverlay, IsSized, HasBelow}
-use Rattle.blk_nodes.specs.Nodes.{Nodes, DeviceState, row_at, size_by, size_of, kind_in, kind_of, file_of, backing_of, device_in}
+use Rattle.blk_nodes.specs.Nodes.{Nodes, DeviceSeen, row_at, size_by, node_size, kind_in, driver_kind, file_of, backing_of, device_in}
 use Rattle.blk_nodes.specs.Overlays.{Asked, IsOpened, with_qcow2, qcow2_row, edges_for}
 use Rattle.blk_nodes.specs.declared.row.Driver.{Driver}
 use Rattle.blk_nodes.specs.declared.row.Driver.TheVariants as drivers
@@ -43,8 +43,8 @@ use Rattle.blk_nodes.specs.declared.row.Row.{Row}
 use Rattle.blk_nodes.specs.declared.stop.AddStop.{AddStop}
 use Rattle.blk_nodes.specs.declared.stop.AddStop.TheVariants as adding
 use Rattle.qblk_core.specs.Face.{state_with, new_guest, machine_on}
-use Rattle.qblk_core.specs.Format.{disk_of as disk_in, IsGoodImage, IsSoundAs}
-use Rattle.qblk_core.specs.ImageNodes.{file_name, image_name, only_device, with_file, with_raw, asked_image, IsImageNodeOver, AreMadeOf, IsOnFile, HaveOneImage, HaveShapeOf, content_of, told_disk}
+use Rattle.qblk_core.specs.Format.{disk_by_format, IsGoodImage, IsSoundAs}
+use Rattle.qblk_core.specs.ImageNodes.{file_name, image_name, only_device, file_node_alone, with_raw, asked_image, IsImageNodeOver, AreMadeOf, IsOnFile, HaveOneImage, HaveShapeOf, content_of, told_disk}
 use Rattle.qblk_core.specs.Run.{machine_of}
 use Rattle.qblk_core.specs.declared.words.Format.{Format}
 use Rattle.qblk_core.specs.declared.words.Format.TheVariants.{Raw, Qcow2}
@@ -162,14 +162,14 @@ other-child n apart =
 
 -- ---- nodes of one image
 
-pub record IsOneOver (over : Nodes) (d : DeviceState) (row : Row) : Type 0 where
+pub record IsOneOver (over : Nodes) (d : DeviceSeen) (row : Row) : Type 0 where
   pub devices : over.devices ≡ d ∷ []
   pub there : row_at over 1 ≡ Some row
   pub writable : row.is_read_only ≡ false
-  pub on_file : IsOnFile row.driver (size_of over 0) d.size
+  pub on_file : IsOnFile row.driver (node_size over 0) d.size
   pub edges : HasFileEdge over
 
-pub one-with-drive : (over : Nodes) (d : DeviceState) (row : Row) → d.node ≡ 0 → d.number ≡ only_device → IsOneOver over d row
+pub one-with-drive : (over : Nodes) (d : DeviceSeen) (row : Row) → d.node ≡ 0 → d.number ≡ only_device → IsOneOver over d row
     → HaveOneImage (with_below over (guest_edge over 0 1 false))
 one-with-drive over d row node number is = record {
   device = d;
@@ -185,7 +185,7 @@ one-with-drive over d row node number is = record {
   others = λ other apart. children over is.edges _ false over.graph.kinds other File ∙ other-child other apart;
 }
 
-raw-over : (d : DeviceState) → IsOneOver (with_raw (with_file d)) d (raw_row (record { start = 0; len = d.size }) false)
+raw-over : (d : DeviceSeen) → IsOneOver (with_raw (file_node_alone d)) d (raw_row (record { start = 0; len = d.size }) false)
 raw-over d = record {
   devices = refl;
   there = refl;
@@ -194,7 +194,7 @@ raw-over d = record {
   edges = record { kinds = _; is = refl };
 }
 
-qcow2-over : (d : DeviceState) (image : Known) → image.header.name ≡ None → IsOneOver (with_qcow2 (with_file d) asked_image 1 image) d (qcow2_row image false)
+qcow2-over : (d : DeviceSeen) (image : Known) → image.header.name ≡ None → IsOneOver (with_qcow2 (file_node_alone d) asked_image 1 image) d (qcow2_row image false)
 qcow2-over d image none = record {
   devices = refl;
   there = refl;
@@ -208,26 +208,26 @@ abbrev pub format_kind : Format → Kind
 format_kind Raw = kinds.Raw
 format_kind Qcow2 = kinds.Qcow2
 
-pub record IsOverAs (format : Format) (over : Nodes) (d : DeviceState) : Type 0 where
+pub record IsOverAs (format : Format) (over : Nodes) (d : DeviceSeen) : Type 0 where
   pub row : Row
   pub one : IsOneOver over d row
   pub kind : kind_in row ≡ format_kind format
 
-pub over-as : (format : Format) (d : DeviceState) (over : Nodes) → IsImageNodeOver format (with_file d) over → IsOverAs format over d
+pub over-as : (format : Format) (d : DeviceSeen) (over : Nodes) → IsImageNodeOver format (file_node_alone d) over → IsOverAs format over d
 over-as Raw d over is = subst (λ (o : Nodes). IsOverAs Raw o d) (sym is.1) (record { row = _; one = raw-over d; kind = refl })
 over-as Qcow2 d over is = subst (λ (o : Nodes). IsOverAs Qcow2 o d) (sym is.3) (record { row = _; one = qcow2-over d is.0 is.2; kind = refl })
 
-pub made-one : (format : Format) (d : DeviceState) (nodes : Nodes) → AreMadeOf format d nodes → HaveOneImage nodes
+pub made-one : (format : Format) (d : DeviceSeen) (nodes : Nodes) → AreMadeOf format d nodes → HaveOneImage nodes
 made-one format d nodes made =
     let over = over-as format d made.over made.image in
     subst HaveOneImage (sym made.drive) (one-with-drive made.over d over.row made.node made.number over.one)
 
-pub made-kind : (format : Format) (d : DeviceState) (nodes : Nodes) → AreMadeOf format d nodes → option_map kind_in (row_at nodes 1) ≡ Some (format_kind format)
+pub made-kind : (format : Format) (d : DeviceSeen) (nodes : Nodes) → AreMadeOf format d nodes → option_map kind_in (row_at nodes 1) ≡ Some (format_kind format)
 made-kind format d nodes made =
     let over = over-as format d made.over made.image in
     ap (λ (n : Nodes). option_map kind_in (row_at n 1)) made.drive ∙ ap (option_map kind_in) over.one.there ∙ ap Some over.kind
 
-pub made-devices : (format : Format) (d : DeviceState) (nodes : Nodes) → AreMadeOf format d nodes → nodes.devices ≡ d ∷ []
+pub made-devices : (format : Format) (d : DeviceSeen) (nodes : Nodes) → AreMadeOf format d nodes → nodes.devices ≡ d ∷ []
 made-devices format d nodes made =
     let over = over-as format d made.over made.image in
     ap (λ (n : Nodes). n.devices) made.drive ∙ over.one.devices
@@ -237,22 +237,22 @@ made-devices format d nodes made =
 names-differ : file_name ≡ image_name → ⊥
 names-differ same = let bad : ⊥ = cc same in bad
 
-has-no-name : (d : DeviceState) → HasName (with_file d).graph image_name → ⊥
+has-no-name : (d : DeviceSeen) → HasName (file_node_alone d).graph image_name → ⊥
 has-no-name d has = elim (Contains-cases file_name [] image_name has) [
   | inl same ↦ names-differ (sym same)
   | inr none ↦ Contains-nil image_name none
 ]
 
-not-denied : (d : DeviceState) (kind : NodeKind) (edges : ℕ → List Edge → List Edge) (pair : Pair) → ((id : ℕ) → edges id [] ≡ file_edge id 0 ∷ [])
-    → IsDenied (with_file d) kind edges pair → ⊥
+not-denied : (d : DeviceSeen) (kind : NodeKind) (edges : ℕ → List Edge → List Edge) (pair : Pair) → ((id : ℕ) → edges id [] ≡ file_edge id 0 ∷ [])
+    → IsDenied (file_node_alone d) kind edges pair → ⊥
 not-denied d kind edges pair one denied =
-    let none = no-conflict (0 ∷ denied.id ∷ []) (slice_set (with_file d).graph.kinds denied.id kind) (file_edge denied.id 0) in
-    let found : None ≡ Some pair = sym none ∙ ap (λ (es : List Edge). first_conflict (0 ∷ denied.id ∷ []) (refreshed (slice_set (with_file d).graph.kinds denied.id kind) es)) (sym (one denied.id)) ∙ denied.first in
+    let none = no-conflict (0 ∷ denied.id ∷ []) (slice_set (file_node_alone d).graph.kinds denied.id kind) (file_edge denied.id 0) in
+    let found : None ≡ Some pair = sym none ∙ ap (λ (es : List Edge). first_conflict (0 ∷ denied.id ∷ []) (refreshed (slice_set (file_node_alone d).graph.kinds denied.id kind) es)) (sym (one denied.id)) ∙ denied.first in
     let bad : ⊥ = cc found in bad
 
-pub not-stopped : (d : DeviceState) (kind : NodeKind) (edges : ℕ → List Edge → List Edge) (stop : AddStop) → ((id : ℕ) → edges id [] ≡ file_edge id 0 ∷ []) → IsOverStop stop
-    → (stop ≡ adding.NameTaken → HasName (with_file d).graph image_name) → (stop ≡ adding.TooManyNodes → length (with_file d).graph.nodes ≡ 64)
-    → ((pair : Pair) → stop ≡ adding.Conflict pair → IsDenied (with_file d) kind edges pair) → ⊥
+pub not-stopped : (d : DeviceSeen) (kind : NodeKind) (edges : ℕ → List Edge → List Edge) (stop : AddStop) → ((id : ℕ) → edges id [] ≡ file_edge id 0 ∷ []) → IsOverStop stop
+    → (stop ≡ adding.NameTaken → HasName (file_node_alone d).graph image_name) → (stop ≡ adding.TooManyNodes → length (file_node_alone d).graph.nodes ≡ 64)
+    → ((pair : Pair) → stop ≡ adding.Conflict pair → IsDenied (file_node_alone d) kind edges pair) → ⊥
 not-stopped d kind edges adding.NameTaken one is name many denied = has-no-name d (name refl)
 not-stopped d kind edges adding.TooManyNodes one is name many denied = let full : 1 ≡ 64 = many refl in let bad : ⊥ = cc full in bad
 not-stopped d kind edges (adding.Conflict pair) one is name many denied = not-denied d kind edges pair one (denied pair refl)
@@ -274,7 +274,7 @@ whole-bytes bytes n is =
 
 module _ (nodes : Nodes) (joined : IsJoined nodes) (disks : Unfolds nodes) (one : HaveOneImage nodes) (bytes : List ℕ) (told-as : one.device.content ≡ Some bytes) (sized : one.device.size ≡ length bytes) where
   device-found : device_in nodes.devices 0 ≡ Some one.device
-  device-found = ap (λ (ds : List DeviceState). device_in ds 0) one.only ∙ found-at one.device one.node
+  device-found = ap (λ (ds : List DeviceSeen). device_in ds 0) one.only ∙ found-at one.device one.node
 
   bytes-are : bytes_of nodes 0 ≡ bytes
   bytes-are = ap bytes_by device-found ∙ ap told told-as
@@ -285,18 +285,18 @@ module _ (nodes : Nodes) (joined : IsJoined nodes) (disks : Unfolds nodes) (one 
       let same : below'.file ≡ 0 = (let s : Some below'.file ≡ Some 0 = sym below'.edge ∙ one.file in cc s) in
       below'.known one.device bytes (ap (device_in nodes.devices) same ∙ device-found) told-as
 
-  by-driver : (format : Format) (d : Driver) → one.row.driver ≡ d → kind_of d ≡ format_kind format → IsOnFile d (size_of nodes 0) one.device.size
-      → (disk_of nodes 1 ≡ disk_in format bytes) × (size_of nodes 1 ≡ length (disk_in format bytes)) × IsSoundAs format bytes
+  by-driver : (format : Format) (d : Driver) → one.row.driver ≡ d → driver_kind d ≡ format_kind format → IsOnFile d (node_size nodes 0) one.device.size
+      → (disk_of nodes 1 ≡ disk_by_format format bytes) × (node_size nodes 1 ≡ length (disk_by_format format bytes)) × IsSoundAs format bytes
   by-driver Raw (drivers.Raw p) driver kind on =
       let size : IsSized one.row.size (drivers.Raw p) = subst (IsSized one.row.size) driver (joined.sized 1 one.row one.there) in
       let from : p.offset ≡ 0 = on.0 in
       let whole : p.size ≡ length bytes = on.1 ∙ sym on.2 ∙ sized in
-      let file : size_of nodes 0 ≡ length bytes = sym on.2 ∙ sized in (
+      let file : node_size nodes 0 ≡ length bytes = sym on.2 ∙ sized in (
         disks 1 one.row one.there ∙ ap (disk_by nodes (disk_of nodes) 1) driver
-            ∙ ap (λ (f : Option ℕ). raw_disk p.offset p.size (below (file_node_disk nodes) f)) one.file
+            ∙ ap (λ (f : Option ℕ). raw_disk p.offset p.size (disk_under (file_node_disk nodes) f)) one.file
             ∙ ap (λ (n : ℕ). raw_disk n p.size (file_node_disk nodes 0)) from
-            ∙ ap (λ (b : List ℕ). raw_disk 0 p.size (file_disk (size_of nodes 0) b)) bytes-are
-            ∙ ap (raw_disk 0 p.size) (whole-bytes bytes (size_of nodes 0) file)
+            ∙ ap (λ (b : List ℕ). raw_disk 0 p.size (file_disk (node_size nodes 0) b)) bytes-are
+            ∙ ap (raw_disk 0 p.size) (whole-bytes bytes (node_size nodes 0) file)
             ∙ whole-bytes bytes p.size whole,
         ap size_by one.there ∙ sym size.0 ∙ whole,
         tt,
@@ -305,8 +305,8 @@ module _ (nodes : Nodes) (joined : IsJoined nodes) (disks : Unfolds nodes) (one 
       let size : IsSized one.row.size (drivers.Qcow2 image) = subst (IsSized one.row.size) driver (joined.sized 1 one.row one.there) in
       let known = on-image image driver in (
         disks 1 one.row one.there ∙ ap (disk_by nodes (disk_of nodes) 1) driver
-            ∙ ap (λ (f : Option ℕ). image_disk (below (bytes_of nodes) f) (below (disk_of nodes) (backing_of nodes 1))) one.file
-            ∙ ap (λ (f : Option ℕ). image_disk (bytes_of nodes 0) (below (disk_of nodes) f)) one.bare
+            ∙ ap (λ (f : Option ℕ). image_disk (disk_under (bytes_of nodes) f) (disk_under (disk_of nodes) (backing_of nodes 1))) one.file
+            ∙ ap (λ (f : Option ℕ). image_disk (bytes_of nodes 0) (disk_under (disk_of nodes) f)) one.bare
             ∙ ap (λ (b : List ℕ). image_disk b []) bytes-are,
         ap size_by one.there ∙ sym size ∙ ap (λ (h : Header). h.size) (sym known.header) ∙ sym (length-image_disk bytes []),
         (known.sound, ap (λ (h : Header). h.name) known.header ∙ on),
@@ -319,39 +319,39 @@ module _ (nodes : Nodes) (joined : IsJoined nodes) (disks : Unfolds nodes) (one 
   by-driver Qcow2 drivers.CopyOnRead driver kind on = absurd on
 
   pub image-as : (format : Format) → option_map kind_in (row_at nodes 1) ≡ Some (format_kind format)
-      → (disk_of nodes 1 ≡ disk_in format bytes) × (size_of nodes 1 ≡ length (disk_in format bytes)) × IsSoundAs format bytes
+      → (disk_of nodes 1 ≡ disk_by_format format bytes) × (node_size nodes 1 ≡ length (disk_by_format format bytes)) × IsSoundAs format bytes
   image-as format kind =
-      let k : kind_of one.row.driver ≡ format_kind format = (let s : Some (kind_in one.row) ≡ Some (format_kind format) = sym (ap (option_map kind_in) one.there) ∙ kind in cc s) in
+      let k : driver_kind one.row.driver ≡ format_kind format = (let s : Some (kind_in one.row) ≡ Some (format_kind format) = sym (ap (option_map kind_in) one.there) ∙ kind in cc s) in
       by-driver format one.row.driver refl k one.on_file
 
-  pub told-as-disk : (format : Format) → option_map kind_in (row_at nodes 1) ≡ Some (format_kind format) → told_disk nodes ≡ Some (disk_in format bytes)
+  pub told-as-disk : (format : Format) → option_map kind_in (row_at nodes 1) ≡ Some (format_kind format) → told_disk nodes ≡ Some (disk_by_format format bytes)
   told-as-disk format kind =
       ap (option_map (λ (_ : List ℕ). disk_of nodes 1)) (content-is nodes one.device one.only one.node ∙ told-as) ∙ ap Some (image-as format kind).0
 
 -- ---- the machine over a device that tells its bytes
 
-small-image : (format : Format) (d : DeviceState) (over : Nodes) (bytes : List ℕ) → d.size ≡ length bytes → IsImageNodeOver format (with_file d) over → IsSoundAs format bytes → IsGoodImage format bytes
+small-image : (format : Format) (d : DeviceSeen) (over : Nodes) (bytes : List ℕ) → d.size ≡ length bytes → IsImageNodeOver format (file_node_alone d) over → IsSoundAs format bytes → IsGoodImage format bytes
 small-image Raw d over bytes sized is sound = let small : d.size ≤ 274877906944 = is.0 in omega (arith, small, sized)
 small-image Qcow2 d over bytes sized is sound = sound
 
-pub made-good : (format : Format) (d : DeviceState) (nodes : Nodes) (bytes : List ℕ) → AreMadeOf format d nodes → Unfolds nodes → d.content ≡ Some bytes → d.size ≡ length bytes
+pub made-good : (format : Format) (d : DeviceSeen) (nodes : Nodes) (bytes : List ℕ) → AreMadeOf format d nodes → Unfolds nodes → d.content ≡ Some bytes → d.size ≡ length bytes
     → IsGoodImage format bytes × (machine_on nodes ≡ machine_of format bytes)
 made-good format d nodes bytes made disks told-as sized =
     let one = made-one format d nodes made in
     let kind = made-kind format d nodes made in
     let same : one.device ≡ d = (let s : one.device ∷ [] ≡ d ∷ [] = sym one.only ∙ made-devices format d nodes made in cc s) in
-    let content : one.device.content ≡ Some bytes = ap (λ (x : DeviceState). x.content) same ∙ told-as in
-    let size : one.device.size ≡ length bytes = ap (λ (x : DeviceState). x.size) same ∙ sized in
+    let content : one.device.content ≡ Some bytes = ap (λ (x : DeviceSeen). x.content) same ∙ told-as in
+    let size : one.device.size ≡ length bytes = ap (λ (x : DeviceSeen). x.size) same ∙ sized in
     let is = image-as nodes made.joined disks one bytes content size format kind in
     let disk = told-as-disk nodes made.joined disks one bytes content size format kind in
     let over = over-as format d made.over made.image in
-    let file : size_of nodes 0 ≡ length bytes = ap (λ (n : Nodes). size_of n 0) made.drive ∙ file-size-of format made.over made.image ∙ sized in (
+    let file : node_size nodes 0 ≡ length bytes = ap (λ (n : Nodes). node_size n 0) made.drive ∙ file-size-of format made.over made.image ∙ sized in (
       small-image format d made.over bytes sized made.image is.2,
-      ap (λ (n : ℕ). state_with n (size_of nodes 1) new_guest (told_disk nodes)) file
+      ap (λ (n : ℕ). state_with n (node_size nodes 1) new_guest (told_disk nodes)) file
           ∙ ap (λ (n : ℕ). state_with (length bytes) n new_guest (told_disk nodes)) is.1
-          ∙ ap (state_with (length bytes) (length (disk_in format bytes)) new_guest) disk,
+          ∙ ap (state_with (length bytes) (length (disk_by_format format bytes)) new_guest) disk,
     )
   where
-    file-size-of : (f : Format) (over : Nodes) → IsImageNodeOver f (with_file d) over → size_of over 0 ≡ d.size
-    file-size-of Raw over is = ap (λ (n : Nodes). size_of n 0) is.1
-    file-size-of Qcow2 over is = ap (λ (n : Nodes). size_of n 0) is.3
+    file-size-of : (f : Format) (over : Nodes) → IsImageNodeOver f (file_node_alone d) over → node_size over 0 ≡ d.size
+    file-size-of Raw over is = ap (λ (n : Nodes). node_size n 0) is.1
+    file-size-of Qcow2 over is = ap (λ (n : Nodes). node_size n 0) is.3

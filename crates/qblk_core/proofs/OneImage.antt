@@ -28,10 +28,10 @@ use Rattle.blk_nodes.specs.Contents.{IsToldDisk, disk_of}
 use Rattle.blk_nodes.specs.Copying.{AtEach, images_met, images_met_in}
 use Rattle.blk_nodes.specs.Flushing.{base_in, base_of, HasFlushCause, IsFlushAt}
 use Rattle.blk_nodes.specs.Joined.{IsJoined, IsSized}
-use Rattle.blk_nodes.specs.Nodes.{Nodes, DeviceState, AreTold, row_at, size_by, size_of, kind_in, kind_of, device_in, file_of, backing_of}
+use Rattle.blk_nodes.specs.Nodes.{Nodes, DeviceSeen, AreTold, row_at, size_by, node_size, kind_in, driver_kind, device_in, file_of, backing_of}
 use Rattle.blk_nodes.specs.Reading.{HasRisen, HaveRisen, OnlyAt, StoppedBy, StoppedAt, IsReadBelow}
 use Rattle.blk_nodes.specs.Sources.{step_of}
-use Rattle.blk_nodes.specs.Writing.{IsDriverAfter, IsRowAfter, AreRowsAfter, HasCauseOf, HasPieceCause, IsWriteOf, WritesFile, WritesImage, WritesBy, ZerosBy, MayWrite, CanBeWritten, own_start, taken_by}
+use Rattle.blk_nodes.specs.Writing.{IsDriverAfter, IsRowAfter, AreRowsAfter, HasCauseOf, HasPieceCause, IsWriteOf, WritesFile, WritesImage, WritesBy, ZerosBy, MayWriteThrough, CanBeWritten, own_start, taken_by}
 use Rattle.blk_nodes.specs.declared.row.Driver.{Driver}
 use Rattle.blk_nodes.specs.declared.row.Driver.TheVariants as drivers
 use Rattle.blk_nodes.specs.declared.row.Row.{Row}
@@ -42,7 +42,7 @@ use Rattle.blk_pieces.proofs.Kept.{ReadsOnly, none_met}
 use Rattle.blk_pieces.proofs.Rows.{RowsAfter, rows_after}
 use Rattle.blk_pieces.proofs.Told.{tells, torn_by}
 use Rattle.qblk_core.specs.Along.{CountsOutcome, HasForm}
-use Rattle.qblk_core.specs.ImageNodes.{only_device, IsOnFile, HaveOneImage, HaveShapeOf, content_of, told_disk, faults_of}
+use Rattle.qblk_core.specs.ImageNodes.{only_device, IsOnFile, HaveOneImage, HaveShapeOf, content_of, told_disk, device_faults}
 use Rattle.qblk_core.proofs.Capacities.{written-capacity, zeroed-capacity}
 use Rattle.qblk_core.proofs.OneDevice.{first-found, head-same, only-one, risen-one, told-one, content-is, faults-is, capacity-is, stopped-by, stopped-at}
 
@@ -59,12 +59,12 @@ can-write nodes one (drivers.Qcow2 image) was now on = λ over file backing edge
     let bad : ⊥ = cc none in absurd bad
 can-write nodes one drivers.CopyOnRead was now on = absurd on
 
-pub may-write : (nodes : Nodes) → HaveOneImage nodes → MayWrite nodes 1
+pub may-write : (nodes : Nodes) → HaveOneImage nodes → MayWriteThrough nodes 1
 may-write nodes one = record {
   row = one.row;
   there = one.there;
   writable = one.writable;
-  can = can-write nodes one one.row.driver (size_of nodes 0) one.device.size one.on_file;
+  can = can-write nodes one one.row.driver (node_size nodes 0) one.device.size one.on_file;
   owns = λ file own other has. elim (cases_eq other 1) [
     | inl same ↦ same
     | inr apart ↦
@@ -81,7 +81,7 @@ pub record StandsAlone (was now : ℕ) (nodes : Nodes) : Type 0 where
   pub file : file_of nodes 1 ≡ Some 0
   pub bare : backing_of nodes 1 ≡ None
 
-pub stands-alone : (nodes : Nodes) (one : HaveOneImage nodes) → StandsAlone (size_of nodes 0) one.device.size nodes
+pub stands-alone : (nodes : Nodes) (one : HaveOneImage nodes) → StandsAlone (node_size nodes 0) one.device.size nodes
 stands-alone nodes one = record { row = one.row; there = one.there; on_file = one.on_file; file = one.file; bare = one.bare }
 
 -- No copy-on-read is over it, and so a read is kept nowhere: the way down ends at its own file, since it has no backing node.
@@ -105,16 +105,16 @@ unfolding images_met
 none-met-alone nodes was now alone place = none-by nodes was now alone place 63 alone.row.driver refl alone.on_file
 
 pub none-kept : (nodes : Nodes) → HaveOneImage nodes → (place : ℕ) → images_met nodes 1 place ≡ []
-none-kept nodes one = none-met-alone nodes (size_of nodes 0) one.device.size (stands-alone nodes one)
+none-kept nodes one = none-met-alone nodes (node_size nodes 0) one.device.size (stands-alone nodes one)
 
-can-read : (nodes : Nodes) → HaveOneImage nodes → (op : Op) (part : Extent) → end_of part ≤ size_of nodes 1 → CanReadFor op nodes 1 part
-can-read nodes one (Read span) part inside = record { inside = inside; may = subst (AtEach (MayWrite nodes)) (sym (none-kept nodes one part.start)) tt }
+can-read : (nodes : Nodes) → HaveOneImage nodes → (op : Op) (part : Extent) → end_of part ≤ node_size nodes 1 → CanReadFor op nodes 1 part
+can-read nodes one (Read span) part inside = record { inside = inside; may = subst (AtEach (MayWriteThrough nodes)) (sym (none-kept nodes one part.start)) tt }
 can-read nodes one (Write span payload) part inside = tt
 can-read nodes one (Zero span) part inside = tt
 can-read nodes one Flush part inside = tt
 can-read nodes one (Discard span) part inside = tt
 
-pub can-transfer : (nodes : Nodes) (op : Op) (part : Extent) → IsJoined nodes → HaveOneImage nodes → end_of part ≤ size_of nodes 1
+pub can-transfer : (nodes : Nodes) (op : Op) (part : Extent) → IsJoined nodes → HaveOneImage nodes → end_of part ≤ node_size nodes 1
     → CanTransfer nodes 1 1 op part
 can-transfer nodes op part joined one inside = record {
   there = node-there nodes joined one;
@@ -133,7 +133,7 @@ base-is nodes one =
 -- ---- the device
 
 -- what a piece leaves of it
-pub record StepsTo (d e : DeviceState) (outcome : Outcome) : Type 0 where
+pub record StepsTo (d e : DeviceSeen) (outcome : Outcome) : Type 0 where
   pub node : e.node ≡ d.node
   pub number : e.number ≡ d.number
   pub told : is_some e.content ≡ is_some d.content
@@ -141,8 +141,8 @@ pub record StepsTo (d e : DeviceState) (outcome : Outcome) : Type 0 where
   pub faults : d.faults ≤ e.faults
   pub cause : CountsOutcome d.faults e.faults outcome
 
-pub record Goes (d : DeviceState) (new : List DeviceState) (outcome : Outcome) : Type 0 where
-  pub device : DeviceState
+pub record Goes (d : DeviceSeen) (new : List DeviceSeen) (outcome : Outcome) : Type 0 where
+  pub device : DeviceSeen
   pub is : new ≡ device ∷ []
   pub steps : StepsTo d device outcome
 
@@ -150,13 +150,13 @@ some-mapped : (f : List ℕ → List ℕ) (content : Option (List ℕ)) → is_s
 some-mapped f None = refl
 some-mapped f (Some bytes) = refl
 
-write-cause : (d e : DeviceState) (place n : ℕ) (outcome : Outcome) → d.number ≡ only_device → HasCauseOf d e place n outcome → CountsOutcome d.faults e.faults outcome
+write-cause : (d e : DeviceSeen) (place n : ℕ) (outcome : Outcome) → d.number ≡ only_device → HasCauseOf d e place n outcome → CountsOutcome d.faults e.faults outcome
 write-cause d e place n Good number cause = cause.1
 write-cause d e place n (Torn done dev count) number cause = stopped-by d e dev count number cause.4
 write-cause d e place n (Io dev count) number cause = stopped-by d e dev count number cause.1
 write-cause d e place n (NoSpace dev) number cause = (ap (λ (k : DevNo). k.0) (cause.1 ∙ number), cause.2)
 
-flush-cause : (d e : DeviceState) (outcome : Outcome) → d.number ≡ only_device → HasFlushCause d e outcome → CountsOutcome d.faults e.faults outcome
+flush-cause : (d e : DeviceSeen) (outcome : Outcome) → d.number ≡ only_device → HasFlushCause d e outcome → CountsOutcome d.faults e.faults outcome
 flush-cause d e Good number cause = cause
 flush-cause d e (Torn done dev count) number cause = absurd cause
 flush-cause d e (Io dev count) number cause = stopped-by d e dev count number cause
@@ -164,29 +164,29 @@ flush-cause d e (NoSpace dev) number cause = absurd cause
 
 module _ (old new : Nodes) (one : HaveOneImage old) where
   -- the device that a call's clauses speak of
-  pub the-one : (file : ℕ) (before after : DeviceState) → OnlyAt file old.devices new.devices → device_in old.devices file ≡ Some before
+  pub the-one : (file : ℕ) (before after : DeviceSeen) → OnlyAt file old.devices new.devices → device_in old.devices file ≡ Some before
       → device_in new.devices file ≡ Some after → (new.devices ≡ after ∷ []) × (before ≡ one.device)
   the-one file before after only held left =
-      only-one file one.device before after new.devices (subst (λ (ds : List DeviceState). OnlyAt file ds new.devices) one.only only)
-      (subst (λ (ds : List DeviceState). device_in ds file ≡ Some before) one.only held) left
+      only-one file one.device before after new.devices (subst (λ (ds : List DeviceSeen). OnlyAt file ds new.devices) one.only only)
+      (subst (λ (ds : List DeviceSeen). device_in ds file ≡ Some before) one.only held) left
 
-  the-stop : (file : ℕ) (e : DeviceState) (dev : DevNo) (count : ℕ) → new.devices ≡ e ∷ [] → StoppedAt file old.devices new.devices dev count
+  the-stop : (file : ℕ) (e : DeviceSeen) (dev : DevNo) (count : ℕ) → new.devices ≡ e ∷ [] → StoppedAt file old.devices new.devices dev count
       → (dev.0 ≡ 0) × Rose one.device.faults count × (count ≡ e.faults)
   the-stop file e dev count is stopped =
       stopped-at file one.device e new.devices dev count one.number is
-      (subst (λ (ds : List DeviceState). StoppedAt file ds new.devices dev count) one.only stopped)
+      (subst (λ (ds : List DeviceSeen). StoppedAt file ds new.devices dev count) one.only stopped)
 
-  the-risen : HaveRisen old.devices new.devices → (e : DeviceState) × (new.devices ≡ e ∷ []) × HasRisen one.device e
-  the-risen risen = risen-one one.device new.devices (subst (λ (ds : List DeviceState). HaveRisen ds new.devices) one.only risen)
+  the-risen : HaveRisen old.devices new.devices → (e : DeviceSeen) × (new.devices ≡ e ∷ []) × HasRisen one.device e
+  the-risen risen = risen-one one.device new.devices (subst (λ (ds : List DeviceSeen). HaveRisen ds new.devices) one.only risen)
 
-  the-same : (e : DeviceState) → new.devices ≡ e ∷ [] → new ≡ old → e ≡ one.device
+  the-same : (e : DeviceSeen) → new.devices ≡ e ∷ [] → new ≡ old → e ≡ one.device
   the-same e is same = sym (head-same one.device e [] (sym one.only ∙ ap (λ (n : Nodes). n.devices) (sym same) ∙ is))
 
   pub file-goes : (place : ℕ) (bytes : List ℕ) (outcome : Outcome) → WritesFile old new 1 place bytes outcome → Goes one.device new.devices outcome
   file-goes place bytes outcome wrote =
       let at = wrote.at in
       let r = the-one wrote.file at.before at.after at.only at.held at.left in
-      let w : IsWriteOf one.device at.after wrote.start bytes outcome = subst (λ (x : DeviceState). IsWriteOf x at.after wrote.start bytes outcome) r.1 at.wrote in
+      let w : IsWriteOf one.device at.after wrote.start bytes outcome = subst (λ (x : DeviceSeen). IsWriteOf x at.after wrote.start bytes outcome) r.1 at.wrote in
       record {
         device = at.after;
         is = r.0;
@@ -207,11 +207,11 @@ module _ (old new : Nodes) (one : HaveOneImage old) where
         device = wrote.after;
         is = r.0;
         steps = record {
-          node = wrote.device.node ∙ ap (λ (x : DeviceState). x.node) r.1;
-          number = wrote.device.number ∙ ap (λ (x : DeviceState). x.number) r.1;
-          told = wrote.device.told ∙ ap (λ (x : DeviceState). is_some x.content) r.1;
-          capacity = capacity ∙ ap (λ (x : DeviceState). x.capacity) r.1;
-          faults = subst (λ (x : DeviceState). x.faults ≤ wrote.after.faults) r.1 wrote.device.faults;
+          node = wrote.device.node ∙ ap (λ (x : DeviceSeen). x.node) r.1;
+          number = wrote.device.number ∙ ap (λ (x : DeviceSeen). x.number) r.1;
+          told = wrote.device.told ∙ ap (λ (x : DeviceSeen). is_some x.content) r.1;
+          capacity = capacity ∙ ap (λ (x : DeviceSeen). x.capacity) r.1;
+          faults = subst (λ (x : DeviceSeen). x.faults ≤ wrote.after.faults) r.1 wrote.device.faults;
           cause = by_cause outcome wrote.cause;
         };
       }
@@ -221,22 +221,22 @@ module _ (old new : Nodes) (one : HaveOneImage old) where
         | inl only ↦ the-one wrote.file wrote.before wrote.after only wrote.held wrote.left
         | inr risen ↦
             let e = the-risen risen in
-            let after : wrote.after ≡ e.0 = first-found e.0 wrote.after wrote.file (subst (λ (ds : List DeviceState). device_in ds wrote.file ≡ Some wrote.after) e.1 wrote.left) in (
-              e.1 ∙ ap (λ (x : DeviceState). x ∷ []) (sym after),
-              first-found one.device wrote.before wrote.file (subst (λ (ds : List DeviceState). device_in ds wrote.file ≡ Some wrote.before) one.only wrote.held),
+            let after : wrote.after ≡ e.0 = first-found e.0 wrote.after wrote.file (subst (λ (ds : List DeviceSeen). device_in ds wrote.file ≡ Some wrote.after) e.1 wrote.left) in (
+              e.1 ∙ ap (λ (x : DeviceSeen). x ∷ []) (sym after),
+              first-found one.device wrote.before wrote.file (subst (λ (ds : List DeviceSeen). device_in ds wrote.file ≡ Some wrote.before) one.only wrote.held),
             )
       ]
 
       by_cause : (o : Outcome) → HasPieceCause (fits wrote.before.capacity) own rest n wrote.file old new 1 wrote.before wrote.after o → CountsOutcome one.device.faults wrote.after.faults o
-      by_cause Good cause = cause.1 ∙ ap (λ (x : DeviceState). x.faults) r.1
+      by_cause Good cause = cause.1 ∙ ap (λ (x : DeviceSeen). x.faults) r.1
       by_cause (Torn done dev count) cause =
-          stopped-by one.device wrote.after dev count one.number (subst (λ (x : DeviceState). StoppedBy x wrote.after dev count) r.1 cause.2)
+          stopped-by one.device wrote.after dev count one.number (subst (λ (x : DeviceSeen). StoppedBy x wrote.after dev count) r.1 cause.2)
       by_cause (Io dev count) cause =
           let stopped = stopped_piece old new 1 dev count fits own rest n outcome wrote cause in
           the-stop stopped.file wrote.after dev count r.0 stopped.stopped
       by_cause (NoSpace dev) cause = (
-        ap (λ (k : DevNo). k.0) (cause.1 ∙ ap (λ (x : DeviceState). x.number) r.1 ∙ one.number),
-        ap (λ (x : DeviceState). x.faults) (the-same wrote.after r.0 cause.2),
+        ap (λ (k : DevNo). k.0) (cause.1 ∙ ap (λ (x : DeviceSeen). x.number) r.1 ∙ one.number),
+        ap (λ (x : DeviceSeen). x.faults) (the-same wrote.after r.0 cause.2),
       )
 
   write-goes : (part : Extent) (bytes : List ℕ) (outcome : Outcome) (row : Row) (driver : Driver) → WritesBy driver old new 1 part bytes outcome
@@ -265,17 +265,17 @@ module _ (old new : Nodes) (one : HaveOneImage old) where
         device = e.0;
         is = e.1;
         steps = record {
-          node = ap (λ (x : DeviceState). x.node) same;
-          number = ap (λ (x : DeviceState). x.number) same;
-          told = ap (λ (x : DeviceState). is_some x.content) same;
-          capacity = ap (λ (x : DeviceState). x.capacity) same;
+          node = ap (λ (x : DeviceSeen). x.node) same;
+          number = ap (λ (x : DeviceSeen). x.number) same;
+          told = ap (λ (x : DeviceSeen). is_some x.content) same;
+          capacity = ap (λ (x : DeviceSeen). x.capacity) same;
           faults = e.2.faults;
           cause = by_outcome e.0 e.1 outcome read;
         };
       }
     where
-      by_outcome : (e : DeviceState) → new.devices ≡ e ∷ [] → (o : Outcome) → IsReadBelow old new 1 o → CountsOutcome one.device.faults e.faults o
-      by_outcome e is Good same = ap (λ (x : DeviceState). x.faults) (the-same e is same)
+      by_outcome : (e : DeviceSeen) → new.devices ≡ e ∷ [] → (o : Outcome) → IsReadBelow old new 1 o → CountsOutcome one.device.faults e.faults o
+      by_outcome e is Good same = ap (λ (x : DeviceSeen). x.faults) (the-same e is same)
       by_outcome e is (Torn done dev count) bad = absurd bad
       by_outcome e is (Io dev count) stopped = the-stop stopped.file e dev count is stopped.stopped
       by_outcome e is (NoSpace dev) bad = absurd bad
@@ -287,13 +287,13 @@ module _ (old new : Nodes) (one : HaveOneImage old) where
         device = flushed.after;
         is = r.0;
         steps = record {
-          node = ap (λ (x : DeviceState). x.node) flushed.flush.is ∙ ap (λ (x : DeviceState). x.node) r.1;
-          number = ap (λ (x : DeviceState). x.number) flushed.flush.is ∙ ap (λ (x : DeviceState). x.number) r.1;
-          told = ap (λ (x : DeviceState). is_some x.content) flushed.flush.is ∙ ap (λ (x : DeviceState). is_some x.content) r.1;
-          capacity = ap (λ (x : DeviceState). x.capacity) flushed.flush.is ∙ ap (λ (x : DeviceState). x.capacity) r.1;
-          faults = subst (λ (x : DeviceState). x.faults ≤ flushed.after.faults) r.1 flushed.flush.faults;
-          cause = subst (λ (x : DeviceState). CountsOutcome x.faults flushed.after.faults outcome) r.1
-              (flush-cause flushed.before flushed.after outcome (ap (λ (x : DeviceState). x.number) r.1 ∙ one.number) flushed.flush.cause);
+          node = ap (λ (x : DeviceSeen). x.node) flushed.flush.is ∙ ap (λ (x : DeviceSeen). x.node) r.1;
+          number = ap (λ (x : DeviceSeen). x.number) flushed.flush.is ∙ ap (λ (x : DeviceSeen). x.number) r.1;
+          told = ap (λ (x : DeviceSeen). is_some x.content) flushed.flush.is ∙ ap (λ (x : DeviceSeen). is_some x.content) r.1;
+          capacity = ap (λ (x : DeviceSeen). x.capacity) flushed.flush.is ∙ ap (λ (x : DeviceSeen). x.capacity) r.1;
+          faults = subst (λ (x : DeviceSeen). x.faults ≤ flushed.after.faults) r.1 flushed.flush.faults;
+          cause = subst (λ (x : DeviceSeen). CountsOutcome x.faults flushed.after.faults outcome) r.1
+              (flush-cause flushed.before flushed.after outcome (ap (λ (x : DeviceSeen). x.number) r.1 ∙ one.number) flushed.flush.cause);
         };
       }
 
@@ -309,11 +309,11 @@ module _ (old new : Nodes) (one : HaveOneImage old) where
   goes Flush part outcome buffer did = flush-goes (base_of old 1) outcome did.flushed
   goes (Discard span) part outcome buffer did = absurd did
 
-  pub flush-size : (file : ℕ) (outcome : Outcome) (e : DeviceState) → new.devices ≡ e ∷ [] → IsFlushAt file old.devices new.devices outcome → e.size ≡ one.device.size
+  pub flush-size : (file : ℕ) (outcome : Outcome) (e : DeviceSeen) → new.devices ≡ e ∷ [] → IsFlushAt file old.devices new.devices outcome → e.size ≡ one.device.size
   flush-size file outcome e is flushed =
       let r = the-one file flushed.before flushed.after flushed.only flushed.held flushed.left in
-      ap (λ (x : DeviceState). x.size) (head-same e flushed.after [] (sym is ∙ r.0)) ∙ ap (λ (x : DeviceState). x.size) flushed.flush.is
-      ∙ ap (λ (x : DeviceState). x.size) r.1
+      ap (λ (x : DeviceSeen). x.size) (head-same e flushed.after [] (sym is ∙ r.0)) ∙ ap (λ (x : DeviceSeen). x.size) flushed.flush.is
+      ∙ ap (λ (x : DeviceSeen). x.size) r.1
 
 -- ---- the rows
 
@@ -321,17 +321,17 @@ size-after : (a b : Option Row) → AreRowsAfter a b → size_by b ≡ size_by a
 size-after None b is = ap size_by is
 size-after (Some row) b is = ap size_by is.1 ∙ is.2.size
 
-driver-kind : (a b : Driver) → IsDriverAfter a b → kind_of b ≡ kind_of a
-driver-kind drivers.File b is = ap kind_of is
-driver-kind (drivers.Raw part) b is = ap kind_of is
-driver-kind (drivers.Qcow2 image) b is = ap kind_of is.1
-driver-kind drivers.CopyOnRead b is = ap kind_of is
+driver-kind : (a b : Driver) → IsDriverAfter a b → driver_kind b ≡ driver_kind a
+driver-kind drivers.File b is = ap driver_kind is
+driver-kind (drivers.Raw part) b is = ap driver_kind is
+driver-kind (drivers.Qcow2 image) b is = ap driver_kind is.1
+driver-kind drivers.CopyOnRead b is = ap driver_kind is
 
 kind-after : (a b : Option Row) → AreRowsAfter a b → option_map kind_in b ≡ option_map kind_in a
 kind-after None b is = ap (option_map kind_in) is
 kind-after (Some row) b is = ap (option_map kind_in) is.1 ∙ ap Some (driver-kind row.driver is.0.driver is.2.driver)
 
-pub shape-after : (old new : Nodes) (one : HaveOneImage old) (e : DeviceState) → new.devices ≡ e ∷ [] → e.node ≡ one.device.node → e.capacity ≡ one.device.capacity
+pub shape-after : (old new : Nodes) (one : HaveOneImage old) (e : DeviceSeen) → new.devices ≡ e ∷ [] → e.node ≡ one.device.node → e.capacity ≡ one.device.capacity
     → RowsAfter old new → HaveShapeOf old new
 shape-after old new one e is node capacity after = record {
   file = size-after (row_at old 0) (row_at new 0) (after.rows 0);
@@ -362,7 +362,7 @@ alone-after old new was now alone after =
       bare = ap (λ (g : Graph). child_of (Node 1) Backing g.edges) after.graph ∙ alone.bare;
     }
 
-pub one-after : (old new : Nodes) (one : HaveOneImage old) (e : DeviceState) → new.devices ≡ e ∷ [] → e.node ≡ one.device.node → e.number ≡ one.device.number
+pub one-after : (old new : Nodes) (one : HaveOneImage old) (e : DeviceSeen) → new.devices ≡ e ∷ [] → e.node ≡ one.device.node → e.number ≡ one.device.number
     → ((p : RawImage) → one.row.driver ≡ drivers.Raw p → e.size ≡ one.device.size) → RowsAfter old new → HaveOneImage new
 one-after old new one e is node number size after =
     let r = row-after one.row (row_at new 1) (subst (λ (b : Option Row). AreRowsAfter b (row_at new 1)) one.there (after.rows 1)) in
@@ -374,7 +374,7 @@ one-after old new one e is node number size after =
       row = r.0;
       there = r.1;
       writable = r.2.is_read_only ∙ one.writable;
-      on_file = on-file-after one.row.driver r.0.driver (size_of old 0) one.device.size (size_of new 0) e.size r.2.driver
+      on_file = on-file-after one.row.driver r.0.driver (node_size old 0) one.device.size (node_size new 0) e.size r.2.driver
           (size-after (row_at old 0) (row_at new 0) (after.rows 0)) size one.on_file;
       file = ap (λ (g : Graph). child_of (Node 1) File g.edges) after.graph ∙ one.file;
       bare = ap (λ (g : Graph). child_of (Node 1) Backing g.edges) after.graph ∙ one.bare;
@@ -398,34 +398,34 @@ module _ (old new : Nodes) (joined : IsJoined old) (one : HaveOneImage old) (p :
   same-row : (row : Row) → row_at old 1 ≡ Some row → row.driver ≡ drivers.Raw p
   same-row row there = let same : row ≡ one.row = cc (sym there ∙ one.there) in ap (λ (r : Row). r.driver) same ∙ raw
 
-  is-whole : IsOnFile (drivers.Raw p) (size_of old 0) one.device.size
-  is-whole = subst (λ (d : Driver). IsOnFile d (size_of old 0) one.device.size) raw one.on_file
+  is-whole : IsOnFile (drivers.Raw p) (node_size old 0) one.device.size
+  is-whole = subst (λ (d : Driver). IsOnFile d (node_size old 0) one.device.size) raw one.on_file
 
-  raw-size : size_of old 1 ≡ size_of old 0
+  raw-size : node_size old 1 ≡ node_size old 0
   raw-size =
       let sized : IsSized one.row.size (drivers.Raw p) = subst (IsSized one.row.size) raw (joined.sized 1 one.row one.there) in
       ap size_by one.there ∙ sym sized.0 ∙ is-whole.1
 
-  file-size : (part : Extent) (bytes : List ℕ) (outcome : Outcome) (e : DeviceState) → new.devices ≡ e ∷ [] → length bytes ≡ part.len → end_of part ≤ size_of old 1
+  file-size : (part : Extent) (bytes : List ℕ) (outcome : Outcome) (e : DeviceSeen) → new.devices ≡ e ∷ [] → length bytes ≡ part.len → end_of part ≤ node_size old 1
       → WritesFile old new 1 part.start bytes outcome → e.size ≡ one.device.size
   file-size part bytes outcome e is len inside wrote =
       let at = wrote.at in
       let r = the-one old new one wrote.file at.before at.after at.only at.held at.left in
-      let w : IsWriteOf one.device at.after wrote.start bytes outcome = subst (λ (x : DeviceState). IsWriteOf x at.after wrote.start bytes outcome) r.1 at.wrote in
+      let w : IsWriteOf one.device at.after wrote.start bytes outcome = subst (λ (x : DeviceSeen). IsWriteOf x at.after wrote.start bytes outcome) r.1 at.wrote in
       let after : at.after ≡ e = head-same at.after e [] (sym r.0 ∙ is) in
       let start : wrote.start ≡ p.offset + part.start = wrote.start_is ∙ ap (λ (d : Driver). own_start d part.start) (same-row wrote.row wrote.there) in
       let most : length (taken_by outcome bytes) ≤ length bytes = length-written outcome bytes in
       let first : p.offset ≡ 0 = is-whole.0 in
-      let now : one.device.size ≡ size_of old 0 = is-whole.2 in
-      let whole : size_of old 1 ≡ size_of old 0 = raw-size in
-      ap (λ (x : DeviceState). x.size) (sym after) ∙ w.size
+      let now : one.device.size ≡ node_size old 0 = is-whole.2 in
+      let whole : node_size old 1 ≡ node_size old 0 = raw-size in
+      ap (λ (x : DeviceSeen). x.size) (sym after) ∙ w.size
       ∙ size-within one.device.size wrote.start (taken_by outcome bytes) (omega (arith, start, first, now, whole, len, inside, most))
 
-  pub size-after-piece : (op : Op) (part : Extent) (outcome : Outcome) (buffer : List ℕ) (e : DeviceState) → new.devices ≡ e ∷ [] → end_of part ≤ size_of old 1
+  pub size-after-piece : (op : Op) (part : Extent) (outcome : Outcome) (buffer : List ℕ) (e : DeviceSeen) → new.devices ≡ e ∷ [] → end_of part ≤ node_size old 1
       → Transfers op old new 1 1 part outcome buffer → e.size ≡ one.device.size
   size-after-piece (Read span) part outcome buffer e is inside did =
       let r = the-risen old new one (reads-only old new one part outcome buffer did).devices in
-      ap (λ (x : DeviceState). x.size) (head-same e r.0 [] (sym is ∙ r.1)) ∙ ap (λ (x : DeviceState). x.size) r.2.same
+      ap (λ (x : DeviceSeen). x.size) (head-same e r.0 [] (sym is ∙ r.1)) ∙ ap (λ (x : DeviceSeen). x.size) r.2.same
   size-after-piece (Write span payload) part outcome buffer e is inside did =
       let bytes : List ℕ = payload_in (Write span payload) part in
       file-size part bytes outcome e is (payload_length (Write span payload) part tt) inside
@@ -497,13 +497,13 @@ module _ (old new : Nodes) (joined : IsJoined old) (one : HaveOneImage old) (op 
       (λ b told. disk-by old new op part outcome buffer (are-told b told) did)
       ∙ ap (λ (c : Option (List ℕ)). option_map (done_in op part (done_by outcome part)) (option_map (λ (_ : List ℕ). disk_of old 1) c)) (sym was)
 
-  pub piece-cause : CountsOutcome (faults_of old) (faults_of new) outcome
+  pub piece-cause : CountsOutcome (device_faults old) (device_faults new) outcome
   piece-cause =
       let g = gone in
-      subst (λ (n : ℕ). CountsOutcome n (faults_of new) outcome) (sym (faults-is old one.device one.only one.node))
+      subst (λ (n : ℕ). CountsOutcome n (device_faults new) outcome) (sym (faults-is old one.device one.only one.node))
       (subst (λ (n : ℕ). CountsOutcome one.device.faults n outcome) (sym (faults-is new g.device g.is (g.steps.node ∙ one.node))) g.steps.cause)
 
-  pub piece-faults : faults_of old ≤ faults_of new
+  pub piece-faults : device_faults old ≤ device_faults new
   piece-faults =
       let g = gone in
       let was = faults-is old one.device one.only one.node in
@@ -515,7 +515,7 @@ module _ (old new : Nodes) (joined : IsJoined old) (one : HaveOneImage old) (op 
   piece-shape =
       let g = gone in shape-after old new one g.device g.is g.steps.node g.steps.capacity (rows_after old new 1 1 op part outcome buffer did)
 
-  pub piece-one : end_of part ≤ size_of old 1 → HaveOneImage new
+  pub piece-one : end_of part ≤ node_size old 1 → HaveOneImage new
   piece-one inside =
       let g = gone in
       one-after old new one g.device g.is g.steps.node g.steps.number

@@ -18,20 +18,20 @@ use Rattle.q2_image.specs.Image.{Known, IsImageOf}
 use Rattle.q2_image.specs.Opening.{Names, fault_in_image, refusal_of}
 use Rattle.q2_image.specs.declared.stop.ImageStop.{ImageStop}
 use Rattle.q2_image.specs.declared.stop.ImageStop.TheVariants as stops
-use Rattle.blk_nodes.specs.Adding.{with_node, with_device, with_below, file_edge, guest_edge, raw_row, IsDenied, IsOverStop}
+use Rattle.blk_nodes.specs.Adding.{with_node_row, with_node_device, with_below, file_edge, guest_edge, raw_row, IsDenied, IsOverStop}
 use Rattle.blk_nodes.specs.declared.stop.AddStop.{AddStop}
 use Rattle.blk_nodes.specs.declared.stop.AddStop.TheVariants as adding
 use Rattle.blk_nodes.specs.Contents.{Unfolds}
 use Rattle.blk_nodes.specs.Joined.{IsJoined, IsFile}
-use Rattle.blk_nodes.specs.Nodes.{Nodes, DeviceState, no_nodes, row_at, size_of, device_in}
+use Rattle.blk_nodes.specs.Nodes.{Nodes, DeviceSeen, no_nodes, row_at, node_size, device_in}
 use Rattle.blk_nodes.specs.Overlays.{Asked, IsOpened, IsUnopened, with_qcow2}
 use Rattle.blk_nodes.specs.Reading.{HaveRisen, HasRisen}
 use Rattle.blk_nodes.specs.declared.backing.Backing.TheVariants.{Unsaid}
 use Rattle.blk_nodes.specs.declared.row.Driver.TheVariants as drivers
 use Rattle.qblk_core.specs.Closing.{IsOnlyDevice}
 use Rattle.qblk_core.specs.Face.{machine_on}
-use Rattle.qblk_core.specs.ImageNodes.{file_name, image_name, only_device, with_file, with_raw, asked_image, IsImageNodeOver, AreMadeOf}
-use Rattle.qblk_core.specs.Opened.{IsFileOver, IsOpenedAs, StopsAs, StopsImageNode, IsStopped, stop_by}
+use Rattle.qblk_core.specs.ImageNodes.{file_name, image_name, only_device, file_node_alone, with_raw, asked_image, IsImageNodeOver, AreMadeOf}
+use Rattle.qblk_core.specs.Opened.{IsFileOver, IsOpenedAs, StopsAs, StopsImageNode, IsStopped, open_stop}
 use Rattle.qblk_core.specs.Run.{HasLengthFor, IsBadBytes}
 use Rattle.qblk_core.specs.Session.{IsRefusedImage}
 use Rattle.qblk_core.specs.declared.opening.OpenStop.{OpenStop}
@@ -44,27 +44,27 @@ use Rattle.qblk_core.proofs.OneDevice.{first-found, head-same, only-one, risen-o
 
 -- ---- the `file` node
 
-pub file-made : (d : DeviceState) (old new : Nodes) (id : ℕ) (name : List ℕ) → d.node ≡ 0 → old ≡ no_nodes → name ≡ file_name → IsLowestFree (ids old.graph) id
-    → new ≡ with_device (with_node old id name (record { driver = drivers.File; size = d.size; is_read_only = false })) (record d { node = id })
-    → (new ≡ with_file d) × (id ≡ 0)
+pub file-made : (d : DeviceSeen) (old new : Nodes) (id : ℕ) (name : List ℕ) → d.node ≡ 0 → old ≡ no_nodes → name ≡ file_name → IsLowestFree (ids old.graph) id
+    → new ≡ with_node_device (with_node_row old id name (record { driver = drivers.File; size = d.size; is_read_only = false })) (record d { node = id })
+    → (new ≡ file_node_alone d) × (id ≡ 0)
 file-made d old new id name node none named lowest is =
     let zeroth : id ≡ 0 = first-id id (subst (λ (o : Nodes). IsLowestFree (ids o.graph) id) none lowest) in
     let at : id ≡ d.node = zeroth ∙ sym node in (
-      is ∙ ap (λ (o : Nodes). with_device (with_node o id name (record { driver = drivers.File; size = d.size; is_read_only = false })) (record d { node = id })) none
-          ∙ ap (λ (n : List ℕ). with_device (with_node no_nodes id n (record { driver = drivers.File; size = d.size; is_read_only = false })) (record d { node = id })) named
-          ∙ ap (λ (k : ℕ). with_device (with_node no_nodes k file_name (record { driver = drivers.File; size = d.size; is_read_only = false })) (record d { node = id })) zeroth
-          ∙ ap (λ (k : ℕ). with_device (with_node no_nodes 0 file_name (record { driver = drivers.File; size = d.size; is_read_only = false })) (record d { node = k })) at,
+      is ∙ ap (λ (o : Nodes). with_node_device (with_node_row o id name (record { driver = drivers.File; size = d.size; is_read_only = false })) (record d { node = id })) none
+          ∙ ap (λ (n : List ℕ). with_node_device (with_node_row no_nodes id n (record { driver = drivers.File; size = d.size; is_read_only = false })) (record d { node = id })) named
+          ∙ ap (λ (k : ℕ). with_node_device (with_node_row no_nodes k file_name (record { driver = drivers.File; size = d.size; is_read_only = false })) (record d { node = id })) zeroth
+          ∙ ap (λ (k : ℕ). with_node_device (with_node_row no_nodes 0 file_name (record { driver = drivers.File; size = d.size; is_read_only = false })) (record d { node = k })) at,
       zeroth,
     )
 
-pub is-file : (d : DeviceState) (nodes : Nodes) (file : ℕ) → IsFileOver d nodes → file ≡ 0 → IsFile nodes file
+pub is-file : (d : DeviceSeen) (nodes : Nodes) (file : ℕ) → IsFileOver d nodes → file ≡ 0 → IsFile nodes file
 is-file d nodes file over zeroth =
-    let here : IsFile (with_file d) 0 = record { row = _; there = refl; driver = refl } in
+    let here : IsFile (file_node_alone d) 0 = record { row = _; there = refl; driver = refl } in
     subst (λ (k : ℕ). IsFile nodes k) (sym zeroth) (subst (λ (n : Nodes). IsFile n 0) (sym over.is) here)
 
 -- ---- the image's node
 
-pub qcow2-made : (d : DeviceState) (old new : Nodes) (file id : ℕ) (name : List ℕ) (image : Known) → IsFileOver d old → file ≡ 0 → name ≡ image_name
+pub qcow2-made : (d : DeviceSeen) (old new : Nodes) (file id : ℕ) (name : List ℕ) (image : Known) → IsFileOver d old → file ≡ 0 → name ≡ image_name
     → IsLowestFree (ids old.graph) id → new ≡ with_qcow2 old (record { name = name; file = file; backing = Unsaid; is_read_only = false }) id image
     → (id ≡ 1) × (new ≡ with_qcow2 old asked_image 1 image)
 qcow2-made d old new file id name image over zeroth named lowest is =
@@ -77,11 +77,11 @@ qcow2-made d old new file id name image over zeroth named lowest is =
 
 -- ---- what stops it
 
-found-device : (d : DeviceState) (old : Nodes) (file : ℕ) (x : DeviceState) → IsFileOver d old → device_in old.devices file ≡ Some x → x ≡ d
+found-device : (d : DeviceSeen) (old : Nodes) (file : ℕ) (x : DeviceSeen) → IsFileOver d old → device_in old.devices file ≡ Some x → x ≡ d
 found-device d old file x over held = first-found d x file (subst (λ (n : Nodes). device_in n.devices file ≡ Some x) over.is held)
 
 -- the refusal of a qcow2 image, which is none of a raw one's
-refused-as : (d : DeviceState) (stop : ImageStop) → ((bytes : List ℕ) → d.content ≡ Some bytes → IsBadBytes Qcow2 (Image stop) bytes) → IsSome (refusal_of stop)
+refused-as : (d : DeviceSeen) (stop : ImageStop) → ((bytes : List ℕ) → d.content ≡ Some bytes → IsBadBytes Qcow2 (Image stop) bytes) → IsSome (refusal_of stop)
     → HasLengthFor (Image stop) d.size → IsRefusedImage Qcow2 (Image stop) d
 refused-as d stop named cause length = record {
   bytes = named;
@@ -98,8 +98,8 @@ length-for : (size : ℕ) (stop : ImageStop) → (size < MIN_HEADER_LENGTH → s
 length-for size (stops.Header headers.Short) short = tt
 length-for size stop short = not-short size (λ less. let is = short less in let no : ⊥ = cc is in no)
 
-named-stop : (d e : DeviceState) (stop : ImageStop) → ((bytes : List ℕ) → d.content ≡ Some bytes → Names (image_refusal bytes) stop) → (d.size < MIN_HEADER_LENGTH → stop ≡ stops.Header headers.Short) → CountsFault (fault_in_image stop) d.faults e.faults
-    → StopsAs Qcow2 d e (stop_by stop)
+named-stop : (d e : DeviceSeen) (stop : ImageStop) → ((bytes : List ℕ) → d.content ≡ Some bytes → Names (image_refusal bytes) stop) → (d.size < MIN_HEADER_LENGTH → stop ≡ stops.Header headers.Short) → CountsFault (fault_in_image stop) d.faults e.faults
+    → StopsAs Qcow2 d e (open_stop stop)
 named-stop d e (stops.Header stop) named short cause = (refused-as d (stops.Header stop) named refl (length-for d.size (stops.Header stop) short), cause)
 named-stop d e (stops.Offset offset) named short cause = (refused-as d (stops.Offset offset) named refl (length-for d.size (stops.Offset offset) short), cause)
 named-stop d e (stops.Reserved table index) named short cause = (refused-as d (stops.Reserved table index) named refl (length-for d.size (stops.Reserved table index) short), cause)
@@ -110,13 +110,13 @@ named-stop d e stops.HeaderFull named short cause = (refused-as d stops.HeaderFu
 named-stop d e (stops.Io count) named short cause = (refl, cause.0, cause.1)
 named-stop d e stops.NoMemory named short cause = cause
 
-pub unopened : (d : DeviceState) (old new : Nodes) (file : ℕ) (stop : ImageStop) → IsFileOver d old → IsUnopened old.devices new.devices file stop → HaveRisen old.devices new.devices
-    → StopsImageNode Qcow2 old new (stop_by stop)
+pub unopened : (d : DeviceSeen) (old new : Nodes) (file : ℕ) (stop : ImageStop) → IsFileOver d old → IsUnopened old.devices new.devices file stop → HaveRisen old.devices new.devices
+    → StopsImageNode Qcow2 old new (open_stop stop)
 unopened d old new file stop over is risen =
     let was : old.devices ≡ d ∷ [] = ap (λ (n : Nodes). n.devices) over.is in
-    let r = risen-one d new.devices (subst (λ (ds : List DeviceState). HaveRisen ds new.devices) was risen) in
+    let r = risen-one d new.devices (subst (λ (ds : List DeviceSeen). HaveRisen ds new.devices) was risen) in
     let before = found-device d old file is.before over is.held in
-    let after : is.after ≡ r.0 = first-found r.0 is.after file (subst (λ (ds : List DeviceState). device_in ds file ≡ Some is.after) r.1 is.left) in
+    let after : is.after ≡ r.0 = first-found r.0 is.after file (subst (λ (ds : List DeviceSeen). device_in ds file ≡ Some is.after) r.1 is.left) in
     let same = r.2.same in
     record {
       before = d;
@@ -124,18 +124,18 @@ unopened d old new file stop over is risen =
       was = was;
       is = record {
         only = r.1;
-        node = ap (λ (x : DeviceState). x.node) same ∙ over.node;
-        number = ap (λ (x : DeviceState). x.number) same ∙ over.number;
+        node = ap (λ (x : DeviceSeen). x.node) same ∙ over.node;
+        number = ap (λ (x : DeviceSeen). x.number) same ∙ over.number;
       };
-      cause = named-stop d r.0 stop (λ bytes told. is.on.named bytes (ap (λ (x : DeviceState). x.content) before ∙ told))
-          (subst (λ (x : DeviceState). x.size < MIN_HEADER_LENGTH → stop ≡ stops.Header headers.Short) before is.on.short)
-          (subst (λ (x : DeviceState). CountsFault (fault_in_image stop) d.faults x.faults) after (subst (λ (x : DeviceState). CountsFault (fault_in_image stop) x.faults is.after.faults) before is.on.cause));
+      cause = named-stop d r.0 stop (λ bytes told. is.on.named bytes (ap (λ (x : DeviceSeen). x.content) before ∙ told))
+          (subst (λ (x : DeviceSeen). x.size < MIN_HEADER_LENGTH → stop ≡ stops.Header headers.Short) before is.on.short)
+          (subst (λ (x : DeviceSeen). CountsFault (fault_in_image stop) d.faults x.faults) after (subst (λ (x : DeviceSeen). CountsFault (fault_in_image stop) x.faults is.after.faults) before is.on.cause));
       kept = r.2;
     }
 
 -- ---- the guest's drive
 
-pub keeps-drive : (format : Format) (d : DeviceState) (over : Nodes) (image : ℕ) → IsImageNodeOver format (with_file d) over → image ≡ 1
+pub keeps-drive : (format : Format) (d : DeviceSeen) (over : Nodes) (image : ℕ) → IsImageNodeOver format (file_node_alone d) over → image ≡ 1
     → KeepsPermissions (with_below over (guest_edge over 0 image false)).graph.edges
 keeps-drive format d over image is first =
     let as_is = over-as format d over is in
@@ -144,7 +144,7 @@ keeps-drive format d over image is first =
 
 -- ---- the whole
 
-pub all-made : (format : Format) (d : DeviceState) (file over nodes : Nodes) (image : ℕ) → IsFileOver d file → image ≡ 1 → IsImageNodeOver format file over
+pub all-made : (format : Format) (d : DeviceSeen) (file over nodes : Nodes) (image : ℕ) → IsFileOver d file → image ≡ 1 → IsImageNodeOver format file over
     → nodes ≡ with_below over (guest_edge over 0 1 false) → IsJoined nodes → Unfolds nodes → IsOpenedAs format d nodes image
 all-made format d file over nodes image of_file first is drive joined disks =
     let made : AreMadeOf format d nodes = record {
@@ -158,7 +158,7 @@ all-made format d file over nodes image of_file first is drive joined disks =
     record { number = first; made = made; disks = disks; one = made-one format d nodes made }
 
 -- no addition of the image's node is refused
-pub not-refused : {T : Type 0} (d : DeviceState) (old : Nodes) (name : List ℕ) (kind : NodeKind) (edges : ℕ → List Edge → List Edge) (result : Result T AddStop) → IsFileOver d old
+pub not-refused : {T : Type 0} (d : DeviceSeen) (old : Nodes) (name : List ℕ) (kind : NodeKind) (edges : ℕ → List Edge → List Edge) (result : Result T AddStop) → IsFileOver d old
     → name ≡ image_name → ((id : ℕ) → edges id [] ≡ file_edge id 0 ∷ []) → IfErr result IsOverStop
     → ((result ≡ Err adding.NameTaken) ↔ HasName old.graph name) → ((result ≡ Err adding.TooManyNodes) ↔ ((length old.graph.nodes ≡ 64) × ¬ HasName old.graph name))
     → ((pair : Pair) → result ≡ Err (adding.Conflict pair) → IsDenied old kind edges pair) → IsOk result

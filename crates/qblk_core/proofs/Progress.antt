@@ -19,12 +19,12 @@ use Rattle.blk_history.specs.declared.event.Event.{Event}
 use Rattle.blk_history.specs.declared.event.Event.TheVariants as events
 use Rattle.blk_history.specs.declared.entry.Refused.{Refused}
 use Rattle.blk_history.proofs.Folds.{asked-push}
-use Rattle.qblk_core.specs.Face.{Face}
+use Rattle.qblk_core.specs.Face.{SessionSeen}
 use Rattle.blk_nodes.specs.Nodes.{Nodes}
 use Rattle.blk_pieces.specs.Pieces.{shown_before}
 use Rattle.blk_pieces.proofs.Shown.{shown_next, shown_within}
-use Rattle.qblk_core.specs.Steps.{CanPiece, PutsPiece, after_admission, after_retirement}
-use Rattle.qblk_core.specs.Comes.{Comes}
+use Rattle.qblk_core.specs.Steps.{CanPiece, PutsPiece, admitted_or_refused, after_retirement}
+use Rattle.qblk_core.specs.Comes.{ComesFrom}
 use Rattle.qblk_core.specs.Requests.{CanRun, AtPiece, PiecesDone, CanRecord, RequestDone}
 
 shown-start : (op : Op) → shown_before op 0 ≡ 0
@@ -34,7 +34,7 @@ shown-start (Zero span) = refl
 shown-start Flush = refl
 shown-start (Discard span) = refl
 
-pub start-piece : (w : Face) (pieces : ℕ) (f : Flight) → w.guest.flight ≡ Some f → CanRun w pieces f → AtPiece w w 0 f
+pub start-piece : (w : SessionSeen) (pieces : ℕ) (f : Flight) → w.guest.flight ≡ Some f → CanRun w pieces f → AtPiece w w 0 f
 start-piece w pieces f is can = record {
   flight = is ∙ ap (λ n. Some (record f { next = n })) can.first;
   done = refl;
@@ -44,7 +44,7 @@ start-piece w pieces f is can = record {
   comes = λ o h. h;
 }
 
-pub can-piece : (old now : Face) (pieces k : ℕ) (f : Flight) → CanRun old pieces f → AtPiece old now k f → k < pieces → CanPiece now.log (record f { next = k })
+pub can-piece : (old now : SessionSeen) (pieces k : ℕ) (f : Flight) → CanRun old pieces f → AtPiece old now k f → k < pieces → CanPiece now.log (record f { next = k })
 can-piece old now pieces k f can at below =
     let next = shown_next f.op k (omega arith) in
     let within = shown_within f.op (k + 1) in
@@ -67,10 +67,10 @@ over-with : (flight : Option Flight) (f : Flight) → flight ≡ Some f → IsOv
 over-with flight f is over = at-with flight f IsOver is over
 
 -- the flight after a piece
-flight-after : (outcome : Outcome) (now v : Face) (f : Flight) → now.guest.flight ≡ Some f → v.guest ≡ past_piece outcome now.guest → v.guest.flight ≡ Some (one_further outcome f)
+flight-after : (outcome : Outcome) (now v : SessionSeen) (f : Flight) → now.guest.flight ≡ Some f → v.guest ≡ past_piece outcome now.guest → v.guest.flight ≡ Some (one_further outcome f)
 flight-after outcome now v f is guest = ap (λ (g : Guest). g.flight) guest ∙ ap (option_map (one_further outcome)) is
 
-pub next-piece : (old now v : Face) (k : ℕ) (f : Flight) (outcome : Outcome) (got : List ℕ) → f.is_stopped ≡ false → k < pieces_of f.op → AtPiece old now k f → PutsPiece now v (record f { next = k }) outcome got → is_good outcome ≡ true → ((o : Nodes) → Comes o now → Comes o v) → AtPiece old v (k + 1) f
+pub next-piece : (old now v : SessionSeen) (k : ℕ) (f : Flight) (outcome : Outcome) (got : List ℕ) → f.is_stopped ≡ false → k < pieces_of f.op → AtPiece old now k f → PutsPiece now v (record f { next = k }) outcome got → is_good outcome ≡ true → ((o : Nodes) → ComesFrom o now → ComesFrom o v) → AtPiece old v (k + 1) f
 next-piece old now v k f outcome got running below at puts good comes =
     let log = puts.made.log in
     let bound = puts.made.bound in
@@ -88,7 +88,7 @@ next-piece old now v k f outcome got running below at puts good comes =
       comes = λ o h. comes o (at.comes o h);
     }
 
-pub last-piece : (old now v : Face) (k : ℕ) (f : Flight) (outcome : Outcome) (got : List ℕ) → k < pieces_of f.op → AtPiece old now k f → PutsPiece now v (record f { next = k }) outcome got → is_good outcome ≡ false → ((o : Nodes) → Comes o now → Comes o v) → PiecesDone old v f
+pub last-piece : (old now v : SessionSeen) (k : ℕ) (f : Flight) (outcome : Outcome) (got : List ℕ) → k < pieces_of f.op → AtPiece old now k f → PutsPiece now v (record f { next = k }) outcome got → is_good outcome ≡ false → ((o : Nodes) → ComesFrom o now → ComesFrom o v) → PiecesDone old v f
 last-piece old now v k f outcome got below at puts bad comes =
     let log = puts.made.log in
     let bound = puts.made.bound in
@@ -106,7 +106,7 @@ last-piece old now v k f outcome got below at puts bad comes =
       comes = λ o h. comes o (at.comes o h);
     }
 
-pub all-pieces : (old now : Face) (f : Flight) → AtPiece old now (pieces_of f.op) f → PiecesDone old now f
+pub all-pieces : (old now : SessionSeen) (f : Flight) → AtPiece old now (pieces_of f.op) f → PiecesDone old now f
 all-pieces old now f at =
     let within = shown_within f.op (pieces_of f.op) in
     record {
@@ -119,29 +119,29 @@ all-pieces old now f at =
     }
 
 -- the same, of a guest whose flight is known only to be there
-pub turn-can : (old now : Face) (pieces k : ℕ) (flight : Option Flight) → With flight (CanRun old pieces) → With flight (AtPiece old now k) → k < pieces → With now.guest.flight (CanPiece now.log)
+pub turn-can : (old now : SessionSeen) (pieces k : ℕ) (flight : Option Flight) → With flight (CanRun old pieces) → With flight (AtPiece old now k) → k < pieces → With now.guest.flight (CanPiece now.log)
 turn-can old now pieces k None can at below = absurd can
 turn-can old now pieces k (Some f) can at below = at-with now.guest.flight _ (CanPiece now.log) at.flight (can-piece old now pieces k f can at below)
 
-pub turn-next : (old now v : Face) (pieces k : ℕ) (outcome : Outcome) (flight : Option Flight) → With flight (CanRun old pieces) → With flight (AtPiece old now k) → k < pieces
-    → With now.guest.flight (λ f. (got : List ℕ) × PutsPiece now v f outcome got) → is_good outcome ≡ true → ((o : Nodes) → Comes o now → Comes o v) → With flight (AtPiece old v (k + 1))
+pub turn-next : (old now v : SessionSeen) (pieces k : ℕ) (outcome : Outcome) (flight : Option Flight) → With flight (CanRun old pieces) → With flight (AtPiece old now k) → k < pieces
+    → With now.guest.flight (λ f. (got : List ℕ) × PutsPiece now v f outcome got) → is_good outcome ≡ true → ((o : Nodes) → ComesFrom o now → ComesFrom o v) → With flight (AtPiece old v (k + 1))
 turn-next old now v pieces k outcome None can at below puts good comes = absurd can
 turn-next old now v pieces k outcome (Some f) can at below puts good comes =
     let put = with-at now.guest.flight _ (λ f. (got : List ℕ) × PutsPiece now v f outcome got) at.flight puts in
     next-piece old now v k f outcome put.0 can.running (omega arith) at put.1 good comes
 
-pub turn-last : (old now v : Face) (pieces k : ℕ) (outcome : Outcome) (flight : Option Flight) → With flight (CanRun old pieces) → With flight (AtPiece old now k) → k < pieces
-    → With now.guest.flight (λ f. (got : List ℕ) × PutsPiece now v f outcome got) → is_good outcome ≡ false → ((o : Nodes) → Comes o now → Comes o v) → With flight (PiecesDone old v)
+pub turn-last : (old now v : SessionSeen) (pieces k : ℕ) (outcome : Outcome) (flight : Option Flight) → With flight (CanRun old pieces) → With flight (AtPiece old now k) → k < pieces
+    → With now.guest.flight (λ f. (got : List ℕ) × PutsPiece now v f outcome got) → is_good outcome ≡ false → ((o : Nodes) → ComesFrom o now → ComesFrom o v) → With flight (PiecesDone old v)
 turn-last old now v pieces k outcome None can at below puts bad comes = absurd can
 turn-last old now v pieces k outcome (Some f) can at below puts bad comes =
     let put = with-at now.guest.flight _ (λ f. (got : List ℕ) × PutsPiece now v f outcome got) at.flight puts in
     last-piece old now v k f outcome put.0 (omega arith) at put.1 bad comes
 
-pub turn-all : (old now : Face) (pieces k : ℕ) (flight : Option Flight) → With flight (CanRun old pieces) → With flight (AtPiece old now k) → k ≡ pieces → With flight (PiecesDone old now)
+pub turn-all : (old now : SessionSeen) (pieces k : ℕ) (flight : Option Flight) → With flight (CanRun old pieces) → With flight (AtPiece old now k) → k ≡ pieces → With flight (PiecesDone old now)
 turn-all old now pieces k None can at is = absurd can
 turn-all old now pieces k (Some f) can at is = all-pieces old now f (rw (← (is ∙ can.count)) at)
 
-pub turn-first : (w : Face) (pieces : ℕ) (flight : Option Flight) → w.guest.flight ≡ flight → With flight (CanRun w pieces) → With flight (AtPiece w w 0)
+pub turn-first : (w : SessionSeen) (pieces : ℕ) (flight : Option Flight) → w.guest.flight ≡ flight → With flight (CanRun w pieces) → With flight (AtPiece w w 0)
 turn-first w pieces None is can = can
 turn-first w pieces (Some f) is can = start-piece w pieces f is can
 
@@ -155,7 +155,7 @@ asked-refuse es r op why = asked-push 0 es (events.Refuse 0 r op why)
 asked-retire : (es : List Event) (r : ℕ) → asked_by 0 (es ++ events.Retire 0 r ∷ []) ≡ asked_by 0 es
 asked-retire es r = asked-push 0 es (events.Retire 0 r) ∙ append-nil (asked_by 0 es)
 
-refused-done : (w : Face) (op : Op) (why : Refused) → CanRecord w op → ((o : Nodes) → Comes o w → Comes o (after_admission w op (Some why))) → RequestDone w (after_admission w op (Some why)) op
+refused-done : (w : SessionSeen) (op : Op) (why : Refused) → CanRecord w op → ((o : Nodes) → ComesFrom o w → ComesFrom o (admitted_or_refused w op (Some why))) → RequestDone w (admitted_or_refused w op (Some why)) op
 refused-done w op why has comes = record {
   idle = refl;
   done = refl;
@@ -165,15 +165,15 @@ refused-done w op why has comes = record {
   comes = comes;
 }
 
-pub request-refused : (w v : Face) (op : Op) (why : Option Refused) → CanRecord w op → is_some why ≡ true → v ≡ after_admission w op why → ((o : Nodes) → Comes o w → Comes o v) → RequestDone w v op
+pub request-refused : (w v : SessionSeen) (op : Op) (why : Option Refused) → CanRecord w op → is_some why ≡ true → v ≡ admitted_or_refused w op why → ((o : Nodes) → ComesFrom o w → ComesFrom o v) → RequestDone w v op
 request-refused w v op None has is kept comes = absurd (false≢true is)
 request-refused w v op (Some why) has is kept comes =
-    let P : Face → Type 0 = λ x. RequestDone w x op in
-    subst P (sym kept) (refused-done w op why has (λ o h. let Q : Face → Type 0 = Comes o in subst Q kept (comes o h)))
+    let P : SessionSeen → Type 0 = λ x. RequestDone w x op in
+    subst P (sym kept) (refused-done w op why has (λ o h. let Q : SessionSeen → Type 0 = ComesFrom o in subst Q kept (comes o h)))
 
 -- a request that was admitted, once its pieces are made and it is retired
-retired-done : (w u : Face) (op : Op) → CanRecord w op → ((o : Nodes) → Comes o w → Comes o (after_admission w op None)) → PiecesDone (after_admission w op None) u (record { op = op; next = 0; is_stopped = false })
-    → ((o : Nodes) → Comes o u → Comes o (after_retirement u)) → RequestDone w (after_retirement u) op
+retired-done : (w u : SessionSeen) (op : Op) → CanRecord w op → ((o : Nodes) → ComesFrom o w → ComesFrom o (admitted_or_refused w op None)) → PiecesDone (admitted_or_refused w op None) u (record { op = op; next = 0; is_stopped = false })
+    → ((o : Nodes) → ComesFrom o u → ComesFrom o (after_retirement u)) → RequestDone w (after_retirement u) op
 retired-done w u op has first pieces last = record {
   idle = refl;
   done = ap (λ n. n + 1) pieces.done;
@@ -183,10 +183,10 @@ retired-done w u op has first pieces last = record {
   comes = λ o h. last o (pieces.comes o (first o h));
 }
 
-pub request-retired : (w v u x : Face) (op : Op) (why : Option Refused) → CanRecord w op → is_some why ≡ false → v ≡ after_admission w op why → ((o : Nodes) → Comes o w → Comes o v)
-    → With v.guest.flight (PiecesDone v u) → x ≡ after_retirement u → ((o : Nodes) → Comes o u → Comes o x) → RequestDone w x op
+pub request-retired : (w v u x : SessionSeen) (op : Op) (why : Option Refused) → CanRecord w op → is_some why ≡ false → v ≡ admitted_or_refused w op why → ((o : Nodes) → ComesFrom o w → ComesFrom o v)
+    → With v.guest.flight (PiecesDone v u) → x ≡ after_retirement u → ((o : Nodes) → ComesFrom o u → ComesFrom o x) → RequestDone w x op
 request-retired w v u x op (Some why) has is kept first pieces ends last = absurd (false≢true (sym is))
 request-retired w v u x op None has is kept first pieces ends last =
-    let P : Face → Type 0 = λ y. RequestDone w y op in
-    let D : Face → Type 0 = λ y. With y.guest.flight (PiecesDone y u) in
-    subst P (sym ends) (retired-done w u op has (λ o h. let Q : Face → Type 0 = Comes o in subst Q kept (first o h)) (subst D kept pieces) (λ o h. let Q : Face → Type 0 = Comes o in subst Q ends (last o h)))
+    let P : SessionSeen → Type 0 = λ y. RequestDone w y op in
+    let D : SessionSeen → Type 0 = λ y. With y.guest.flight (PiecesDone y u) in
+    subst P (sym ends) (retired-done w u op has (λ o h. let Q : SessionSeen → Type 0 = ComesFrom o in subst Q kept (first o h)) (subst D kept pieces) (λ o h. let Q : SessionSeen → Type 0 = ComesFrom o in subst Q ends (last o h)))

@@ -4,12 +4,12 @@ use Rattle.std.specs.Prelude.{◌&&◌, bytes_eq}
 use Rattle.blk_base.proofs.Openings.{back-opened}
 use Rattle.blk_base.specs.Files.{is_out, given_back}
 use Rattle.blk_base.specs.declared.file.Opened.{Opened}
-use Rattle.blk_nodes.specs.Nodes.{DeviceState}
+use Rattle.blk_nodes.specs.Nodes.{DeviceSeen}
 use Rattle.qblk_core.specs.Run.{closed_opening}
 use Rattle.qblk_inputs.specs.Reading.{NoneOut}
 
 -- the record of the image's device while it is out
-abbrev pub open_opening : List ℕ → DeviceState → Opened
+abbrev pub open_opening : List ℕ → DeviceSeen → Opened
 open_opening image device = record {
   name = image;
   size = device.size;
@@ -19,7 +19,7 @@ open_opening image device = record {
 }
 
 -- and once it is back
-pub closed-is : (image : List ℕ) (device : DeviceState) (count : ℕ) (os new : List Opened) → (is_out image os ≡ true → ⊥)
+pub closed-is : (image : List ℕ) (device : DeviceSeen) (count : ℕ) (os new : List Opened) → (is_out image os ≡ true → ⊥)
     → new ≡ given_back image count (os ++ open_opening image device ∷ []) → new ≡ os ++ closed_opening image device count ∷ []
 closed-is image device count os new none is = is ∙ back-opened image os device.size device.capacity device.faults count none
 
@@ -28,11 +28,11 @@ and-false : (b : Bool) → (b && false) ≡ false
 and-false true = refl
 and-false false = refl
 
-same-out : (name image : List ℕ) (device : DeviceState) (count : ℕ) (os : List Opened) → is_out name (os ++ closed_opening image device count ∷ []) ≡ is_out name os
+same-out : (name image : List ℕ) (device : DeviceSeen) (count : ℕ) (os : List Opened) → is_out name (os ++ closed_opening image device count ∷ []) ≡ is_out name os
 same-out name image device count [] = rw (and-false (bytes_eq name image)) refl
 same-out name image device count (o ∷ os) = rw (same-out name image device count os) refl
 
-pub none-out-back : (image : List ℕ) (device : DeviceState) (count : ℕ) (os new : List Opened) → NoneOut os
+pub none-out-back : (image : List ℕ) (device : DeviceSeen) (count : ℕ) (os new : List Opened) → NoneOut os
     → new ≡ given_back image count (os ++ open_opening image device ∷ []) → NoneOut new
 none-out-back image device count os new none is =
     let same = closed-is image device count os new (none image) is in

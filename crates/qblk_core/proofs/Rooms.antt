@@ -15,7 +15,7 @@ use Rattle.blk_history.specs.Machine.{State, Guest, Flight, guest_at, after, adm
 use Rattle.blk_history.specs.declared.event.Event.{Event}
 use Rattle.blk_history.specs.declared.event.Event.TheVariants.{Admit, Refuse, Piece, Retire, Reply, Reached, Start, Ready, End, Done}
 use Rattle.blk_history.proofs.Folds.{with-some}
-use Rattle.blk_nodes.specs.Nodes.{Nodes, DeviceState, row_at, device_in, file_of, size_of}
+use Rattle.blk_nodes.specs.Nodes.{Nodes, DeviceSeen, row_at, device_in, file_of, node_size}
 use Rattle.blk_nodes.specs.Writing.{WritesFile, WritesImage, WritesBy, ZerosBy, own_file, own_start}
 use Rattle.blk_nodes.specs.declared.row.Driver.{Driver}
 use Rattle.blk_nodes.specs.declared.row.Driver.TheVariants as drivers
@@ -77,10 +77,10 @@ on-after s (Done actor) on = on
 
 module _ (old new : Nodes) (was now : ℕ) (alone : StandsAlone was now old) (part : Extent) (dev : DevNo) where
   -- the device is that of the image's file
-  capacity-at : (file : ℕ) (d : DeviceState) → file_of old 1 ≡ Some file → device_in old.devices file ≡ Some d → capacity_of old ≡ Some d.capacity
+  capacity-at : (file : ℕ) (d : DeviceSeen) → file_of old 1 ≡ Some file → device_in old.devices file ≡ Some d → capacity_of old ≡ Some d.capacity
   capacity-at file d edge held =
       let same : file ≡ 0 = (let s : Some file ≡ Some 0 = sym edge ∙ alone.file in cc s) in
-      ap (option_map (λ (x : DeviceState). x.capacity)) (subst (λ (n : ℕ). device_in old.devices n ≡ Some d) same held)
+      ap (option_map (λ (x : DeviceSeen). x.capacity)) (subst (λ (n : ℕ). device_in old.devices n ≡ Some d) same held)
 
   image-full : (fits : ℕ → Type 0) (own rest : Option ℕ) (n : ℕ) → WritesImage fits own rest old new 1 n (NoSpace dev)
       → ((capacity : ℕ) → capacity_of old ≡ Some capacity → fits capacity) → ⊥
@@ -176,5 +176,5 @@ pub pieces-good : (format : Format) (image : List ℕ) (ops : List Op) (flushed 
     → HaveRoomAlong (machine_on run.first) run.first h run.left run.on.along → ArePiecesGood h
 pieces-good format image ops flushed old new h before now run stood room =
     let one = made-one format run.device run.first run.on.made in
-    all-good (machine_on run.first) run.first run.left (size_of run.first 0) one.device.size h run.on.along (refl, tt) (stands-alone run.first one) room
+    all-good (machine_on run.first) run.first run.left (node_size run.first 0) one.device.size h run.on.along (refl, tt) (stands-alone run.first one) room
     (run.quiet stood.1 stood.0)

@@ -8,15 +8,15 @@ use Rattle.trace_codec.specs.declared.op.Op.{Op}
 use Rattle.blk_history.specs.Owned.{asked_by}
 use Rattle.blk_history.specs.Recorded.{Recorded}
 use Rattle.blk_nodes.specs.Contents.{Unfolds}
-use Rattle.blk_nodes.specs.Nodes.{Nodes, DeviceState}
+use Rattle.blk_nodes.specs.Nodes.{Nodes, DeviceSeen}
 use Rattle.blk_nodes.specs.Overlays.{IsOpened}
 use Rattle.blk_nodes.specs.Reading.{HasRisen}
 use Rattle.q2_format.specs.declared.header.TheConstants.{MIN_HEADER_LENGTH}
 use Rattle.qblk_core.specs.Format.{HasGoodLength}
 use Rattle.qblk_core.specs.declared.words.Format.{Format}
 use Rattle.qblk_core.specs.declared.words.Format.TheVariants.{Raw, Qcow2}
-use Rattle.qblk_core.specs.Face.{Face, new_guest}
-use Rattle.qblk_core.specs.ImageNodes.{with_file, IsImageNodeOver, AreMadeOf, HaveOneImage}
+use Rattle.qblk_core.specs.Face.{SessionSeen, new_guest}
+use Rattle.qblk_core.specs.ImageNodes.{file_node_alone, IsImageNodeOver, AreMadeOf, HaveOneImage}
 use Rattle.qblk_core.specs.Requests.{RequestsDone}
 use Rattle.blk_base.specs.Counts.{Rose}
 use Rattle.qblk_core.specs.Closing.{IsOnlyDevice}
@@ -33,13 +33,13 @@ use Rattle.qblk_core.proofs.Made.{made-good, made-devices}
 use Rattle.qblk_core.proofs.OneDevice.{first-found, head-same}
 
 -- what an engine shows before its first request
-abbrev pub begun : Nodes → Recorded → Face
+abbrev pub begun : Nodes → Recorded → SessionSeen
 begun first log = record { nodes = first; guest = new_guest; log = log }
 
-asked-all : (e w : Face) (ops : List Op) → e.log.events ≡ [] → RequestsDone e w ops → asked_by 0 w.log.events ≡ ops
+asked-all : (e w : SessionSeen) (ops : List Op) → e.log.events ≡ [] → RequestsDone e w ops → asked_by 0 w.log.events ≡ ops
 asked-all e w ops empty made = made.asked ∙ ap (λ es. asked_by 0 es ++ ops) empty
 
-pub made-run : (format : Format) (first last : Nodes) (flush : Outcome) (d n : DeviceState) (w : Face) (log : Recorded) (ops : List Op) (bytes : List ℕ) (fault : Option FaultAt)
+pub made-run : (format : Format) (first last : Nodes) (flush : Outcome) (d n : DeviceSeen) (w : SessionSeen) (log : Recorded) (ops : List Op) (bytes : List ℕ) (fault : Option FaultAt)
     → AreMadeOf format d first → Unfolds first → ((b : List ℕ) → d.content ≡ Some b → d.size ≡ length b) → IsUtf8 bytes → ops_of bytes ≡ Ok ops → log.events ≡ [] → RequestsDone (begun first log) w ops
     → HaveOneImage w.nodes → AreNodesClosed w.nodes last flush n fault
     → ((b : List ℕ) → n.content ≡ Some b → is_some n.is_flushed ≡ true) → ((b : List ℕ) → n.content ≡ Some b → n.size ≡ length b)
@@ -61,19 +61,19 @@ made-run format first last flush d n w log ops bytes fault made disks d-sized te
 }
 
 -- nodes that are left as they were made have the device that they were made over
-same-device : (format : Format) (first : Nodes) (d n : DeviceState) → AreMadeOf format d first → first.devices ≡ n ∷ [] → d ≡ n
+same-device : (format : Format) (first : Nodes) (d n : DeviceSeen) → AreMadeOf format d first → first.devices ≡ n ∷ [] → d ≡ n
 same-device format first d n made given = head-same d n [] (sym (made-devices format d first made) ∙ given)
 
-count-stands : (format : Format) (first : Nodes) (d n : DeviceState) → AreMadeOf format d first → first.devices ≡ n ∷ [] → n.faults ≡ d.faults
-count-stands format first d n made given = sym (ap (λ (x : DeviceState). x.faults) (same-device format first d n made given))
+count-stands : (format : Format) (first : Nodes) (d n : DeviceSeen) → AreMadeOf format d first → first.devices ≡ n ∷ [] → n.faults ≡ d.faults
+count-stands format first d n made given = sym (ap (λ (x : DeviceSeen). x.faults) (same-device format first d n made given))
 
-good-length : (format : Format) (d : DeviceState) (over : Nodes) → IsImageNodeOver format (with_file d) over → HasGoodLength format d.size
+good-length : (format : Format) (d : DeviceSeen) (over : Nodes) → IsImageNodeOver format (file_node_alone d) over → HasGoodLength format d.size
 good-length Raw d over is = is.0
 good-length Qcow2 d over is =
     let opened : IsOpened (d ∷ []) 0 is.0 = is.1 in
-    subst (λ (x : DeviceState). MIN_HEADER_LENGTH ≤ x.size) (first-found d opened.device 0 opened.held) opened.on.long
+    subst (λ (x : DeviceSeen). MIN_HEADER_LENGTH ≤ x.size) (first-found d opened.device 0 opened.held) opened.on.long
 
-good-device : (format : Format) (first : Nodes) (d : DeviceState) → AreMadeOf format d first → Unfolds first → ((b : List ℕ) → d.content ≡ Some b → d.size ≡ length b)
+good-device : (format : Format) (first : Nodes) (d : DeviceSeen) → AreMadeOf format d first → Unfolds first → ((b : List ℕ) → d.content ≡ Some b → d.size ≡ length b)
     → IsGoodDevice format d
 good-device format first d made disks sized = record {
   good = λ bytes told. (made-good format d first bytes made disks told (sized bytes told)).0;
@@ -81,7 +81,7 @@ good-device format first d made disks sized = record {
 }
 
 -- the trace is refused, on nodes over a good image
-pub trace-stops : (format : Format) (image trace : List ℕ) (read : TraceRead) (first : Nodes) (d n : DeviceState) (status : Status) → AreMadeOf format d first → Unfolds first
+pub trace-stops : (format : Format) (image trace : List ℕ) (read : TraceRead) (first : Nodes) (d n : DeviceSeen) (status : Status) → AreMadeOf format d first → Unfolds first
     → ((b : List ℕ) → d.content ≡ Some b → d.size ≡ length b) → first.devices ≡ n ∷ [] → IsTraceStop trace read status → IsRunStop format image trace read d n status
 trace-stops format image trace read first d n Done made disks sized given stop = stop
 trace-stops format image trace read first d n Usage made disks sized given stop = stop
@@ -94,7 +94,7 @@ trace-stops format image trace read first d n (Stuck actor waits) made disks siz
 trace-stops format image trace read first d n NoMemory made disks sized given stop = count-stands format first d n made given
 
 -- the image is
-pub image-stops : (format : Format) (image trace : List ℕ) (read : TraceRead) (d n : DeviceState) (stop : OpenStop) (status : Status) → IsStopped format d n stop → IsImageStatus image stop status
+pub image-stops : (format : Format) (image trace : List ℕ) (read : TraceRead) (d n : DeviceSeen) (stop : OpenStop) (status : Status) → IsStopped format d n stop → IsImageStatus image stop status
     → IsRunStop format image trace read d n status
 image-stops format image trace read d n (Refused why) (Input name line cause) stopped is =
     let stop = stopped.cause in
@@ -107,9 +107,9 @@ image-stops format image trace read d n (Io count) (Fault from named) stopped is
 image-stops format image trace read d n NoRoom NoMemory stopped is = stopped.cause
 image-stops format image trace read d n stop status stopped is = absurd is
 
-pub left-alone : (format : Format) (first : Nodes) (d n : DeviceState) → AreMadeOf format d first → first.devices ≡ n ∷ [] → HasRisen d n
+pub left-alone : (format : Format) (first : Nodes) (d n : DeviceSeen) → AreMadeOf format d first → first.devices ≡ n ∷ [] → HasRisen d n
 left-alone format first d n made given =
     subst (HasRisen d) (same-device format first d n made given) (record { same = refl; faults = omega arith })
 
-pub only-made : (format : Format) (first : Nodes) (d : DeviceState) → AreMadeOf format d first → IsOnlyDevice first.devices d
+pub only-made : (format : Format) (first : Nodes) (d : DeviceSeen) → AreMadeOf format d first → IsOnlyDevice first.devices d
 only-made format first d made = record { only = made-devices format d first made; node = made.node; number = made.number }

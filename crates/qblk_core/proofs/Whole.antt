@@ -26,20 +26,20 @@ use Rattle.qblk_inputs.specs.declared.stop.InputFlaw.TheVariants as flaws
 use Rattle.qblk_core.proofs.Numbered.{names-line}
 use Rattle.qblk_core.proofs.Quiet.{quiet}
 use Rattle.qblk_core.proofs.Returned.{open_opening, closed-is}
-use Rattle.blk_nodes.specs.Contents.{disk_of as node_disk}
-use Rattle.blk_nodes.specs.Nodes.{DeviceState}
+use Rattle.blk_nodes.specs.Contents.{disk_of}
+use Rattle.blk_nodes.specs.Nodes.{DeviceSeen}
 use Rattle.blk_nodes.specs.Reading.{HasRisen}
-use Rattle.qblk_core.specs.Format.{disk_of}
+use Rattle.qblk_core.specs.Format.{disk_by_format}
 use Rattle.qblk_core.specs.declared.words.Format.{Format}
 use Rattle.qblk_core.specs.declared.words.Format.TheVariants as formats
 use Rattle.qblk_core.specs.Comes.{HaveLines}
-use Rattle.qblk_core.specs.Face.{Face, state_of, machine_on}
-use Rattle.qblk_core.specs.ImageNodes.{only_device, content_of, faults_of, told_disk}
+use Rattle.qblk_core.specs.Face.{SessionSeen, state_of, machine_on}
+use Rattle.qblk_core.specs.ImageNodes.{only_device, content_of, device_faults, told_disk}
 use Rattle.qblk_core.proofs.Closed.{IsFlushed, HasClosed, closed-facts}
 use Rattle.qblk_core.proofs.Made.{made-one, made-kind, made-devices, image-as, told-as-disk}
 use Rattle.qblk_core.proofs.OneDevice.{head-same, faults-is, capacity-is}
 use Rattle.qblk_core.proofs.OneImage.{told-is}
-use Rattle.qblk_core.specs.Run.{Outside, machine_of, guest_names, closed_opening, IsRunOn, IsOverFile, TellsDisk, IsImageCause, IsTraceCause, IsBackQuietly, IsOpenedQuietlyFor, SpeaksOfInput, HasImage, HasTrace, IsBadTrace, IsBadBytes, IsBadImage, IsRefusedTrace, IsRefusedInput, WasRun, StoreStands, SinkStands, FailsToOpen, FailsToFlush, IsFaulty, Answers}
+use Rattle.qblk_core.specs.Run.{Outside, machine_of, guest_names, closed_opening, IsRunOn, IsOverFile, TellsDisk, IsImageCause, IsTraceCause, IsBackQuietly, IsOpenedQuietlyFor, SpeaksOfInput, HasImage, HasTrace, IsFlawInTrace, IsBadBytes, IsBadImage, IsTraceFileRefused, IsImageOrTraceRefused, WasRun, StoreStands, SinkStands, FailsToOpen, FailsToFlush, IsFaulty, Answers}
 use Rattle.qblk_core.specs.Session.{IsTraceRead, IsStoreStop, IsOpenStop, AreRequestsMade, IsGoodDevice, IsRefusedRead, IsRefusedImage, IsRunStop, EndsAs}
 use Rattle.qblk_core.specs.declared.input.TraceRead.{TraceRead}
 use Rattle.qblk_core.specs.declared.input.TraceRead.TheVariants as reads
@@ -49,14 +49,14 @@ use Rattle.qblk_core.specs.declared.status.Status.{Status}
 use Rattle.qblk_core.specs.declared.status.Status.TheVariants.{Done, Usage, Input, Fault, Stuck, NoMemory}
 
 -- the device of a file that is told
-pub record IsToldAs (image : List ℕ) (d : DeviceState) (files : List File) (f : File) : Type 0 where
+pub record IsToldAs (image : List ℕ) (d : DeviceSeen) (files : List File) (f : File) : Type 0 where
   file : file_at image files ≡ Some f
   content : d.content ≡ Some f.bytes
   capacity : d.capacity ≡ f.capacity
   flushed : d.is_flushed ≡ Some f.is_flushed
   size : d.size ≡ length f.bytes
 
-told-as : (image : List ℕ) (d : DeviceState) (files : List File) → ((bytes : List ℕ) → d.content ≡ Some bytes → d.size ≡ length bytes)
+told-as : (image : List ℕ) (d : DeviceSeen) (files : List File) → ((bytes : List ℕ) → d.content ≡ Some bytes → d.size ≡ length bytes)
     → IsDeviceOf (Some files) image d.content d.capacity d.is_flushed → (f : File) × IsToldAs image d files f
 told-as image d files sized is = (is.0, record { file = is.1; content = is.2; capacity = is.3; flushed = is.4; size = sized is.0.bytes is.2 })
 
@@ -71,7 +71,7 @@ returned-told : (image : List ℕ) (content : Option (List ℕ)) (capacity : ℕ
     → files_with_returned image content capacity flushed (Some files) ≡ Some (put_file (record { name = image; bytes = bytes; capacity = room; is_flushed = flag }) files)
 returned-told image content capacity flushed files bytes room flag c k f = rw (c, k, f) refl
 
-pub untouched : (image : List ℕ) (d : DeviceState) (files : Option (List File)) → ((bytes : List ℕ) → d.content ≡ Some bytes → d.size ≡ length bytes)
+pub untouched : (image : List ℕ) (d : DeviceSeen) (files : Option (List File)) → ((bytes : List ℕ) → d.content ≡ Some bytes → d.size ≡ length bytes)
     → IsDeviceOf files image d.content d.capacity d.is_flushed → files_with_returned image d.content d.capacity d.is_flushed files ≡ files
 untouched image d None sized is = returned-untold image d.content d.capacity d.is_flushed
 untouched image d (Some files) sized is =
@@ -93,16 +93,16 @@ told-flag : (flag : Option Bool) → is_some flag ≡ true → (b : Bool) × (fl
 told-flag None is = absurd (false≢true is)
 told-flag (Some b) is = (b, refl)
 
-flag-good : (n : DeviceState) (faults : ℕ) (fault : Option FaultAt) (disk : List ℕ) (b : Bool) → IsFlushed n faults fault → n.content ≡ Some disk → n.is_flushed ≡ Some b → is_none fault ≡ true → b ≡ true
+flag-good : (n : DeviceSeen) (faults : ℕ) (fault : Option FaultAt) (disk : List ℕ) (b : Bool) → IsFlushed n faults fault → n.content ≡ Some disk → n.is_flushed ≡ Some b → is_none fault ≡ true → b ≡ true
 flag-good n faults None disk b flushed content is none = let good = flushed.0 disk content in cc
 flag-good n faults (Some fault) disk b flushed content is none = absurd (false≢true none)
 
-pub closed-of : (format : Format) (bytes : List ℕ) (d n : DeviceState) (w : Face) (fault : Option FaultAt) (made : AreRequestsMade format bytes d n w fault)
+pub closed-of : (format : Format) (bytes : List ℕ) (d n : DeviceSeen) (w : SessionSeen) (fault : Option FaultAt) (made : AreRequestsMade format bytes d n w fault)
     → HasClosed w.nodes made.last made.flush n fault
 closed-of format bytes d n w fault made = closed-facts w.nodes made.last made.flush n fault made.one made.closed made.tells
 
 -- the run on its nodes
-runs-on : (format : Format) (bytes : List ℕ) (d n : DeviceState) (w : Face) (fault : Option FaultAt) (made : AreRequestsMade format bytes d n w fault)
+runs-on : (format : Format) (bytes : List ℕ) (d n : DeviceSeen) (w : SessionSeen) (fault : Option FaultAt) (made : AreRequestsMade format bytes d n w fault)
     → IsRunOn format w.log.events d made.first w.nodes made.last made.flush
 runs-on format bytes d n w fault made = record {
   made = made.made;
@@ -112,28 +112,28 @@ runs-on format bytes d n w fault made = record {
   flushed = made.closed.flushed;
 }
 
-tells-disk : (format : Format) (image : List ℕ) (bytes : List ℕ) (d n : DeviceState) (w : Face) (fault : Option FaultAt) (files : List File) (new : Option (List File)) (f : File)
+tells-disk : (format : Format) (image : List ℕ) (bytes : List ℕ) (d n : DeviceSeen) (w : SessionSeen) (fault : Option FaultAt) (files : List File) (new : Option (List File)) (f : File)
     → IsToldAs image d files f → (made : AreRequestsMade format bytes d n w fault) → new ≡ files_with_returned image n.content n.capacity n.is_flushed (Some files)
     → TellsDisk format image w.log.events (is_none fault) d made.first n files new f
 tells-disk format image bytes d n w fault files new f told made returned =
     let machine : machine_on made.first ≡ machine_of format f.bytes = (made.good f.bytes told.content).1 in
     let facts = closed-of format bytes d n w fault made in
-    let opened : told_disk made.first ≡ Some (disk_of format f.bytes) = ap (λ (s : State). disk_in s.disks 1) machine in
-    let disk = made.comes.told (disk_of format f.bytes) opened in
-    let held = told-is (content_of w.nodes) (node_disk w.nodes 1) disk.0 disk.1 in
+    let opened : told_disk made.first ≡ Some (disk_by_format format f.bytes) = ap (λ (s : State). disk_in s.disks 1) machine in
+    let disk = made.comes.told (disk_by_format format f.bytes) opened in
+    let held = told-is (content_of w.nodes) (disk_of w.nodes 1) disk.0 disk.1 in
     let content : n.content ≡ Some held.0 = sym facts.content ∙ held.1 in
     let flag = told-flag n.is_flushed (made.tells held.0 content) in
     let one = made.closed.one in
     let is_n : one.device ≡ n = head-same one.device n [] (sym one.only ∙ made.closed.given) in
     let kind = facts.shape.kind ∙ made.comes.shape.kind ∙ made-kind format d made.first made.made in
-    let same_content : one.device.content ≡ Some held.0 = ap (λ (x : DeviceState). x.content) is_n ∙ content in
-    let same_size : one.device.size ≡ length held.0 = ap (λ (x : DeviceState). x.size) is_n ∙ made.sized held.0 content in
-    let read : told_disk w.nodes ≡ Some (disk_of format held.0) =
+    let same_content : one.device.content ≡ Some held.0 = ap (λ (x : DeviceSeen). x.content) is_n ∙ content in
+    let same_size : one.device.size ≡ length held.0 = ap (λ (x : DeviceSeen). x.size) is_n ∙ made.sized held.0 content in
+    let read : told_disk w.nodes ≡ Some (disk_by_format format held.0) =
     sym facts.disk ∙ told-as-disk made.last made.closed.joined made.closed.disks one held.0 same_content same_size format kind in
     let first = made-one format d made.first made.made in
     let first_d : first.device ≡ d = head-same first.device d [] (sym first.only ∙ made-devices format d made.first made.made) in
     let room : Some n.capacity ≡ Some d.capacity =
-    sym facts.capacity ∙ made.comes.shape.capacity ∙ capacity-is made.first first.device first.only first.node ∙ ap (λ (x : DeviceState). Some x.capacity) first_d in
+    sym facts.capacity ∙ made.comes.shape.capacity ∙ capacity-is made.first first.device first.only first.node ∙ ap (λ (x : DeviceSeen). Some x.capacity) first_d in
     let capacity : n.capacity ≡ f.capacity = (let same : n.capacity ≡ d.capacity = cc room in same ∙ told.capacity) in
     let L : State → Type 0 = λ s. Legal s w.log.events in
     let R : State → Type 0 = λ s. replay s w.log.events ≡ state_of w in
@@ -142,19 +142,19 @@ tells-disk format image bytes d n w fault files new f told made returned =
       file = told.file;
       opened = record { content = told.content; is_flushed = told.flushed; size = told.size; capacity = told.capacity };
       machine = machine;
-      legal = subst L machine (made.comes.legal (disk_of format f.bytes) opened);
+      legal = subst L machine (made.comes.legal (disk_by_format format f.bytes) opened);
       bytes = held.0;
       is_flushed = flag.0;
       content = content;
       flushed = flag.1;
-      kept = flag-good n (faults_of w.nodes) fault held.0 flag.0 facts.flushed content flag.1;
+      kept = flag-good n (device_faults w.nodes) fault held.0 flag.0 facts.flushed content flag.1;
       disk = rw replayed read;
       sound = (image-as made.last made.closed.joined made.closed.disks one held.0 same_content same_size format kind).2;
       files = returned ∙ returned-told image n.content n.capacity n.is_flushed files held.0 f.capacity flag.0 content capacity flag.1;
     }
 
 -- the inputs were as they have to be
-inputs : (format : Format) (image trace bytes : List ℕ) (read : TraceRead) (d n : DeviceState) (w : Face) (fault : Option FaultAt) (files : List File) (f : File)
+inputs : (format : Format) (image trace bytes : List ℕ) (read : TraceRead) (d n : DeviceSeen) (w : SessionSeen) (fault : Option FaultAt) (files : List File) (f : File)
     → IsToldAs image d files f → read ≡ reads.Whole bytes → IsTraceRead trace read files → AreRequestsMade format bytes d n w fault → HasImage format image files × HasTrace trace (asked_by 0 w.log.events) files
 inputs format image trace bytes read d n w fault files f told is read-is made =
     let P : TraceRead → Type 0 = λ r. IsTraceRead trace r files in
@@ -170,7 +170,7 @@ all-small [] lines = All-nil IsSmall
 all-small (e ∷ es) lines = All-cons IsSmall e es lines.0.small (all-small es lines.1)
 
 -- the run, whatever of its transcript went out
-pub was-run : (format : Format) (image trace bytes : List ℕ) (read : TraceRead) (d n : DeviceState) (w : Face) (fault : Option FaultAt) (flushed : Bool) (old new : Outside) (k : ℕ)
+pub was-run : (format : Format) (image trace bytes : List ℕ) (read : TraceRead) (d n : DeviceSeen) (w : SessionSeen) (fault : Option FaultAt) (flushed : Bool) (old new : Outside) (k : ℕ)
     → is_none fault ≡ flushed
     → ((b : List ℕ) → d.content ≡ Some b → d.size ≡ length b)
     → (is_out image old.opened ≡ true → ⊥)
@@ -190,7 +190,7 @@ was-run format image trace bytes read d n w fault flushed old new k flag sized n
         asked = refl;
         small = all-small w.log.events made.comes.lines;
         opened = closed-is image d n.faults old.opened new.opened none opened;
-        quiet = λ same below. quiet d.faults (faults_of w.nodes) w.log.events (rw start at made.comes.licensed.risen) (rw start at last) (let more = facts.more in omega arith) below;
+        quiet = λ same below. quiet d.faults (device_faults w.nodes) w.log.events (rw start at made.comes.licensed.risen) (rw start at last) (let more = facts.more in omega arith) below;
         device = d;
         back = n;
         first = made.first;
@@ -242,10 +242,10 @@ all-of front rest whole before now is (inl none) =
 all-of front rest whole before now is (inr rose) = inr rose
 
 -- the fault of the last flush is the device's
-flush-fault : (n : DeviceState) (faults : ℕ) (fault : FaultAt) → IsFlushed n faults (Some fault) → (fault.from ≡ Dev (record { 0 = 0 })) × Rose faults fault.count × (fault.count ≡ n.faults)
+flush-fault : (n : DeviceSeen) (faults : ℕ) (fault : FaultAt) → IsFlushed n faults (Some fault) → (fault.from ≡ Dev (record { 0 = 0 })) × Rose faults fault.count × (fault.count ≡ n.faults)
 flush-fault n faults fault flushed = flushed
 
-pub ends : (format : Format) (image trace bytes : List ℕ) (read : TraceRead) (d n : DeviceState) (w : Face) (fault : Option FaultAt) (old new : Outside) (status : Status)
+pub ends : (format : Format) (image trace bytes : List ℕ) (read : TraceRead) (d n : DeviceSeen) (w : SessionSeen) (fault : Option FaultAt) (old new : Outside) (status : Status)
     → ((b : List ℕ) → d.content ≡ Some b → d.size ≡ length b)
     → (is_out image old.opened ≡ true → ⊥)
     → IsDeviceOf old.files image d.content d.capacity d.is_flushed
@@ -318,7 +318,7 @@ sink-stands before now (Input name line cause) is = is
 sink-stands before now (Stuck actor waits) is = is
 sink-stands before now NoMemory is = is
 
-pub ends-stands : (n : DeviceState) (faults : ℕ) (fault : Option FaultAt) (old new : Option (List ℕ)) (whole : List ℕ) (before now : ℕ) (status : Status)
+pub ends-stands : (n : DeviceSeen) (faults : ℕ) (fault : Option FaultAt) (old new : Option (List ℕ)) (whole : List ℕ) (before now : ℕ) (status : Status)
     → IsFlushed n faults fault → EndsAs fault old new whole before now status → SinkStands status before now
 ends-stands n faults None old new whole before now Done flushed end = end.1
 ends-stands n faults None old new whole before now (Fault from count) flushed end =
@@ -330,17 +330,17 @@ ends-stands n faults (Some fault) old new whole before now (Fault from count) fl
 ends-stands n faults fault old new whole before now status flushed end = absurd end
 
 -- an input that is refused
-refused-read : (trace : List ℕ) (read : TraceRead) (files : List File) (line : ℕ) (cause : InputWhy) → IsTraceRead trace read files → IsRefusedRead read cause line → IsRefusedTrace cause line trace files
+refused-read : (trace : List ℕ) (read : TraceRead) (files : List File) (line : ℕ) (cause : InputWhy) → IsTraceRead trace read files → IsRefusedRead read cause line → IsTraceFileRefused cause line trace files
 refused-read trace (reads.Whole bytes) files line why.Absent is refused = absurd refused
 refused-read trace (reads.Whole bytes) files line why.TooLarge is refused = absurd refused
 refused-read trace (reads.Whole bytes) files line why.NeedsBacking is refused = absurd refused
 refused-read trace (reads.Whole bytes) files line (why.Image stop) is refused = absurd refused
-refused-read trace (reads.Whole bytes) files line why.TooLong is refused = (is.0, is.1, (let P : List ℕ → Type 0 = IsBadTrace why.TooLong line in subst P is.2.1 refused))
-refused-read trace (reads.Whole bytes) files line why.NotUtf8 is refused = (is.0, is.1, (let P : List ℕ → Type 0 = IsBadTrace why.NotUtf8 line in subst P is.2.1 refused))
-refused-read trace (reads.Whole bytes) files line why.BadLine is refused = (is.0, is.1, (let P : List ℕ → Type 0 = IsBadTrace why.BadLine line in subst P is.2.1 refused))
-refused-read trace (reads.Whole bytes) files line why.TooMany is refused = (is.0, is.1, (let P : List ℕ → Type 0 = IsBadTrace why.TooMany line in subst P is.2.1 refused))
-refused-read trace reads.Absent files line cause is refused = let P : InputWhy → Type 0 = λ c. IsRefusedTrace c line trace files in subst P (sym refused.1) (refused.0, is)
-refused-read trace reads.TooLong files line cause is refused = let P : InputWhy → Type 0 = λ c. IsRefusedTrace c line trace files in subst P (sym refused.1) (is.0, is.1, (refused.0, is.2))
+refused-read trace (reads.Whole bytes) files line why.TooLong is refused = (is.0, is.1, (let P : List ℕ → Type 0 = IsFlawInTrace why.TooLong line in subst P is.2.1 refused))
+refused-read trace (reads.Whole bytes) files line why.NotUtf8 is refused = (is.0, is.1, (let P : List ℕ → Type 0 = IsFlawInTrace why.NotUtf8 line in subst P is.2.1 refused))
+refused-read trace (reads.Whole bytes) files line why.BadLine is refused = (is.0, is.1, (let P : List ℕ → Type 0 = IsFlawInTrace why.BadLine line in subst P is.2.1 refused))
+refused-read trace (reads.Whole bytes) files line why.TooMany is refused = (is.0, is.1, (let P : List ℕ → Type 0 = IsFlawInTrace why.TooMany line in subst P is.2.1 refused))
+refused-read trace reads.Absent files line cause is refused = let P : InputWhy → Type 0 = λ c. IsTraceFileRefused c line trace files in subst P (sym refused.1) (refused.0, is)
+refused-read trace reads.TooLong files line cause is refused = let P : InputWhy → Type 0 = λ c. IsTraceFileRefused c line trace files in subst P (sym refused.1) (is.0, is.1, (refused.0, is.2))
 
 -- a refused image is there
 bad-image : (format : Format) (image : List ℕ) (cause : InputWhy) (files : List File) (f : File) → cause ≢ why.Absent → file_at image files ≡ Some f → IsBadBytes format cause f.bytes
@@ -355,7 +355,7 @@ bad-image format image why.NeedsBacking files f there is bad = (f, is, bad)
 bad-image format image (why.Image stop) files f there is bad = (f, is, bad)
 
 -- what a refusal says of itself
-trace-cause : (bytes : List ℕ) (line : ℕ) (cause : InputWhy) → IsBadTrace cause line bytes → IsTraceCause cause line
+trace-cause : (bytes : List ℕ) (line : ℕ) (cause : InputWhy) → IsFlawInTrace cause line bytes → IsTraceCause cause line
 trace-cause bytes line why.Absent is = absurd is
 trace-cause bytes line why.TooLarge is = absurd is
 trace-cause bytes line why.NeedsBacking is = absurd is
@@ -371,19 +371,19 @@ read-cause reads.Absent line cause is = (flaws.Absent, is.1, is.0)
 read-cause reads.TooLong line cause is = (flaws.TooLong, is.1, is.0)
 
 -- the image was opened, where it is there
-quietly-for : (format : Format) (image : List ℕ) (d : DeviceState) (old new : Outside) (cause : InputWhy) → IsRefusedImage format cause d → IsBackQuietly image d old new
+quietly-for : (format : Format) (image : List ℕ) (d : DeviceSeen) (old new : Outside) (cause : InputWhy) → IsRefusedImage format cause d → IsBackQuietly image d old new
     → IsOpenedQuietlyFor cause image old new
 quietly-for format image d old new why.Absent refused opened = absurd (refused.there refl)
 quietly-for format image d old new cause refused opened = (d, opened, refused.length)
 
 -- its device is back, and its count stands
-opened-quietly : (image : List ℕ) (d n : DeviceState) (old new : Outside) → (is_out image old.opened ≡ true → ⊥) → n.faults ≡ d.faults
+opened-quietly : (image : List ℕ) (d n : DeviceSeen) (old new : Outside) → (is_out image old.opened ≡ true → ⊥) → n.faults ≡ d.faults
     → new.opened ≡ given_back image n.faults (old.opened ++ open_opening image d ∷ []) → IsBackQuietly image d old new
 opened-quietly image d n old new none stands opened =
     let R : ℕ → Type 0 = λ c. new.opened ≡ old.opened ++ closed_opening image d c ∷ [] in
     subst R stands (closed-is image d n.faults old.opened new.opened none opened)
 
-speaks-of : (format : Format) (image trace : List ℕ) (read : TraceRead) (d : DeviceState) (name : List ℕ) (line : ℕ) (cause : InputWhy)
+speaks-of : (format : Format) (image trace : List ℕ) (read : TraceRead) (d : DeviceSeen) (name : List ℕ) (line : ℕ) (cause : InputWhy)
     → ((name ≡ image) × (line ≡ 0) × IsRefusedImage format cause d)
     ⊎ (IsGoodDevice format d × (name ≡ trace) × IsRefusedRead read cause line)
     → (old new : Outside) → IsBackQuietly image d old new → SpeaksOfInput format image trace old new name line cause
@@ -391,11 +391,11 @@ speaks-of format image trace read d name line cause (inl bad) old new opened =
     inl (bad.0, bad.1, bad.2.cause, quietly-for format image d old new cause bad.2 opened)
 speaks-of format image trace read d name line cause (inr good) old new opened = inr (good.1, read-cause read line cause good.2, (d, opened, good.0.length))
 
-refused-by : (format : Format) (image trace : List ℕ) (read : TraceRead) (d : DeviceState) (files : List File) (name : List ℕ) (line : ℕ) (cause : InputWhy)
+refused-by : (format : Format) (image trace : List ℕ) (read : TraceRead) (d : DeviceSeen) (files : List File) (name : List ℕ) (line : ℕ) (cause : InputWhy)
     → ((f : File) × IsToldAs image d files f) → IsTraceRead trace read files
     → ((name ≡ image) × (line ≡ 0) × IsRefusedImage format cause d)
     ⊎ (IsGoodDevice format d × (name ≡ trace) × IsRefusedRead read cause line)
-    → IsRefusedInput format image trace name line cause files
+    → IsImageOrTraceRefused format image trace name line cause files
 refused-by format image trace read d files name line cause told is (inl bad) =
     let refused = bad.2 in
     inl (bad.0, bad.1, bad-image format image cause files told.0 refused.there told.1.file (refused.bytes told.0.bytes told.1.content))
@@ -403,16 +403,16 @@ refused-by format image trace read d files name line cause told is (inr good) =
     inr (good.1, (told.0, told.1.file, good.0.good told.0.bytes told.1.content), refused-read trace read files line cause is good.2)
 
 -- an image that is given back as it was leaves all files as they were
-pub left : (image : List ℕ) (d n : DeviceState) (files : Option (List File)) → ((bytes : List ℕ) → d.content ≡ Some bytes → d.size ≡ length bytes)
+pub left : (image : List ℕ) (d n : DeviceSeen) (files : Option (List File)) → ((bytes : List ℕ) → d.content ≡ Some bytes → d.size ≡ length bytes)
     → IsDeviceOf files image d.content d.capacity d.is_flushed → HasRisen d n → files_with_returned image n.content n.capacity n.is_flushed files ≡ files
 left image d n files sized is same =
-    let content = ap (λ (x : DeviceState). x.content) same.same in
-    let capacity = ap (λ (x : DeviceState). x.capacity) same.same in
-    let flushed = ap (λ (x : DeviceState). x.is_flushed) same.same in
+    let content = ap (λ (x : DeviceSeen). x.content) same.same in
+    let capacity = ap (λ (x : DeviceSeen). x.capacity) same.same in
+    let flushed = ap (λ (x : DeviceSeen). x.is_flushed) same.same in
     rw (content, capacity, flushed) (untouched image d files sized is)
 
 -- why a run was stopped before its requests
-pub stops : (format : Format) (image trace : List ℕ) (read : TraceRead) (d n : DeviceState) (old new : Outside) (status : Status)
+pub stops : (format : Format) (image trace : List ℕ) (read : TraceRead) (d n : DeviceSeen) (old new : Outside) (status : Status)
     → d.number ≡ only_device
     → ((b : List ℕ) → d.content ≡ Some b → d.size ≡ length b)
     → (is_out image old.opened ≡ true → ⊥)
@@ -430,7 +430,7 @@ stops format image trace read d n old new (Input name line cause) number sized n
   why-of old.files device read-is,
 )
   where
-    why-of : (fs : Option (List File)) → IsDeviceOf fs image d.content d.capacity d.is_flushed → IfTold fs (IsTraceRead trace read) → IfTold fs (IsRefusedInput format image trace name.bytes line cause)
+    why-of : (fs : Option (List File)) → IsDeviceOf fs image d.content d.capacity d.is_flushed → IfTold fs (IsTraceRead trace read) → IfTold fs (IsImageOrTraceRefused format image trace name.bytes line cause)
     why-of None device read-is = tt
     why-of (Some told) device read-is = refused-by format image trace read d told name.bytes line cause (told-as image d told sized device) read-is stop.1
 stops format image trace read d n old new (Fault from count) number sized none device read-is stop same files opened sent sink =
@@ -479,7 +479,7 @@ open-stops format image trace old new before (Input name line cause) stop same f
     not-opened : IsOpenedQuietlyFor cause image old new
     not-opened = subst (λ (c : InputWhy). IsOpenedQuietlyFor c image old new) (sym stop.2) opened
 
-    absent : (fs : Option (List File)) → IfTold fs (LacksFile image) → IfTold fs (IsRefusedInput format image trace name.bytes line cause)
+    absent : (fs : Option (List File)) → IfTold fs (LacksFile image) → IfTold fs (IsImageOrTraceRefused format image trace name.bytes line cause)
     absent None lacks = tt
     absent (Some told) lacks = let P : InputWhy → Type 0 = λ c. IsBadImage format c image told in inl (stop.0, stop.1, subst P (sym stop.2) lacks)
 open-stops format image trace old new before status stop same files opened sent = absurd stop

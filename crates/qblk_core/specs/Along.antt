@@ -14,7 +14,7 @@ use Rattle.blk_history.specs.declared.event.Event.{Event}
 use Rattle.blk_history.specs.declared.event.Event.TheVariants.{Piece}
 use Rattle.blk_nodes.specs.Nodes.{Nodes}
 use Rattle.blk_pieces.specs.Pieces.{shows_in}
-use Rattle.qblk_core.specs.ImageNodes.{faults_of}
+use Rattle.qblk_core.specs.ImageNodes.{device_faults}
 use Rattle.qblk_core.specs.Pieces.{IsPieceOn}
 
 -- How the count of the only device goes with an outcome: a fault is a rise of it, which is named with the count that is there
@@ -30,7 +30,7 @@ CountsOutcome before now (NoSpace dev) = (dev.0 ≡ 0) × (now ≡ before)
 pub record IsPieceStep (op : Op) (old new : Nodes) (node : ℕ) (part : Extent) (outcome : Outcome)
     (got : List ℕ) : Type 0 where
   pub made : IsPieceOn op old new node part outcome got
-  pub count : CountsOutcome (faults_of old) (faults_of new) outcome
+  pub count : CountsOutcome (device_faults old) (device_faults new) outcome
 
 -- what an entry makes of the nodes: only a piece changes them, on its guest's node
 abbrev pub IsStepOf : State → Event → Nodes → Nodes → Type 0

@@ -8,13 +8,13 @@ use Rattle.blk_history.specs.Small.{IsSmall}
 use Rattle.blk_history.specs.declared.event.Event.{Event}
 use Rattle.blk_nodes.specs.Nodes.{Nodes}
 use Rattle.qblk_core.specs.Along.{HaveNodes, GoesInTurn}
-use Rattle.qblk_core.specs.Face.{Face, state_of, machine_on}
-use Rattle.qblk_core.specs.ImageNodes.{told_disk, faults_of, HaveShapeOf}
+use Rattle.qblk_core.specs.Face.{SessionSeen, state_of, machine_on}
+use Rattle.qblk_core.specs.ImageNodes.{told_disk, device_faults, HaveShapeOf}
 
 -- the faults that the history names are rises of the device's count, each named once, and each rise is named
-pub record AreLicensed (first : Nodes) (w : Face) : Type 0 where
-  pub risen : NameRises (faults_of first ∷ []) w.log.events
-  pub last : counted (faults_of first ∷ []) w.log.events ≡ faults_of w.nodes ∷ []
+pub record NameAllRises (first : Nodes) (w : SessionSeen) : Type 0 where
+  pub risen : NameRises (device_faults first ∷ []) w.log.events
+  pub last : counted (device_faults first ∷ []) w.log.events ≡ device_faults w.nodes ∷ []
 
 -- an entry is the guest's, and shows at most one block; its numbers are of 64 bits
 pub record HasLine (e : Event) : Type 0 where
@@ -27,13 +27,13 @@ HaveLines [] = Unit {0}
 HaveLines (e ∷ es) = HasLine e × HaveLines es
 
 -- The run so far is a history from these nodes on, and the machine after it is what is seen.
-pub record Comes (first : Nodes) (w : Face) : Type 0 where
-  pub faults : faults_of first ≤ faults_of w.nodes
+pub record ComesFrom (first : Nodes) (w : SessionSeen) : Type 0 where
+  pub faults : device_faults first ≤ device_faults w.nodes
   pub shape : HaveShapeOf first w.nodes
   -- the guest is on the image's node, and may write
   pub on_image : w.guest.node ≡ 1
   pub access : w.guest.is_read_only ≡ false
-  pub licensed : AreLicensed first w
+  pub licensed : NameAllRises first w
   pub along : HaveNodes (machine_on first) first w.log.events w.nodes
   pub lines : HaveLines w.log.events
   pub replay : replay (machine_on first) w.log.events ≡ state_of w

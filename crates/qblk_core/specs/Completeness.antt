@@ -10,7 +10,7 @@ use Rattle.blk_history.specs.Machine.{State, Guest, Flight, guest_at, after}
 use Rattle.blk_history.specs.declared.event.Event.{Event}
 use Rattle.blk_history.specs.declared.event.Event.TheVariants.{Piece}
 use Rattle.q2_image.specs.Room.{WriteFits, ZerosFit}
-use Rattle.blk_nodes.specs.Nodes.{Nodes, DeviceState, row_at}
+use Rattle.blk_nodes.specs.Nodes.{Nodes, DeviceSeen, row_at}
 use Rattle.blk_nodes.specs.declared.row.Driver.{Driver}
 use Rattle.blk_nodes.specs.declared.row.Driver.TheVariants.{Qcow2}
 use Rattle.blk_nodes.specs.declared.row.Row.{Row}
@@ -32,7 +32,7 @@ HasStood before now = (before < 18446744073709551615) × (now ≡ before)
 pub record NoneRises (image : List ℕ) (old new : Outside) : Type 0 where
   pub store : HasStood old.store_faults new.store_faults
   pub sink : HasStood old.sink_faults new.sink_faults
-  pub device : (device : DeviceState) (now : ℕ)
+  pub device : (device : DeviceSeen) (now : ℕ)
       → new.opened ≡ old.opened ++ closed_opening image device now ∷ [] → HasStood device.faults now
 
 -- ---- room

@@ -7,11 +7,11 @@ use Rattle.blk_history.specs.Machine.{Node, Flight, Guest, State}
 use Rattle.blk_history.specs.Recorded.{Recorded}
 use Rattle.blk_history.specs.Line.{admitted_by}
 use Rattle.blk_history.specs.declared.event.Event.{Event}
-use Rattle.blk_nodes.specs.Nodes.{Nodes, size_of}
+use Rattle.blk_nodes.specs.Nodes.{Nodes, node_size}
 use Rattle.qblk_core.specs.ImageNodes.{told_disk}
 use Rattle.qblk_core.specs.declared.flight.InFlight.{InFlight}
 
-pub record Face : Type 0 where
+pub record SessionSeen : Type 0 where
   pub nodes : Nodes
   pub guest : Guest
   pub log : Recorded
@@ -24,16 +24,16 @@ abbrev pub flight_with : InFlight → Op → Flight
 flight_with f op = record { op = op; next = f.next; is_stopped = f.is_stopped }
 
 -- a request in flight stands in the history, and its row says where
-abbrev pub flight_of : List Event → InFlight → Option Flight
-flight_of events f = option_map (flight_with f) (request_at events f.place)
+abbrev pub flight_in_history : List Event → InFlight → Option Flight
+flight_in_history events f = option_map (flight_with f) (request_at events f.place)
 
 -- the guest's row: it is on the image's node
-abbrev pub row_of : List Event → ℕ → Option InFlight → Guest
-row_of events done flight = record {
+abbrev pub guest_on_image : List Event → ℕ → Option InFlight → Guest
+guest_on_image events done flight = record {
   node = 1;
   is_read_only = false;
   done = done;
-  flight = option_and_then (flight_of events) flight;
+  flight = option_and_then (flight_in_history events) flight;
 }
 
 -- what is in flight was admitted, within a disk of so many bytes
@@ -54,9 +54,9 @@ state_with file_size size guest disk = record {
 }
 
 abbrev pub state_on : Nodes → Guest → State
-state_on nodes guest = state_with (size_of nodes 0) (size_of nodes 1) guest (told_disk nodes)
+state_on nodes guest = state_with (node_size nodes 0) (node_size nodes 1) guest (told_disk nodes)
 
-abbrev pub state_of : Face → State
+abbrev pub state_of : SessionSeen → State
 state_of w = state_on w.nodes w.guest
 
 -- before its first request

@@ -8,9 +8,9 @@ use Rattle.qblk_core.specs.declared.words.Format.{Format}
 use Rattle.qblk_core.specs.declared.words.Format.TheVariants.{Raw, Qcow2}
 
 -- the disk of a file's bytes; a qcow2 image is read without a backing disk
-abbrev pub disk_of : Format → List ℕ → List ℕ
-disk_of Raw bytes = bytes
-disk_of Qcow2 bytes = image_disk bytes []
+abbrev pub disk_by_format : Format → List ℕ → List ℕ
+disk_by_format Raw bytes = bytes
+disk_by_format Qcow2 bytes = image_disk bytes []
 
 -- a file that can be opened: not too large, or a sound image that names no backing file
 abbrev pub IsGoodImage : Format → List ℕ → Type 0

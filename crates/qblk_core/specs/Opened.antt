@@ -3,12 +3,12 @@ use Rattle.std.specs.Prelude.{◌≡◌, ℕ, List, [], ◌∷◌, length, Optio
 use Rattle.blk_base.specs.Counts.{Rose}
 use Rattle.blk_base.specs.declared.fault.FaultFrom.TheVariants.{Dev}
 use Rattle.blk_nodes.specs.Contents.{Unfolds}
-use Rattle.blk_nodes.specs.Nodes.{Nodes, DeviceState}
+use Rattle.blk_nodes.specs.Nodes.{Nodes, DeviceSeen}
 use Rattle.blk_nodes.specs.Reading.{HasRisen}
 use Rattle.q2_image.specs.declared.stop.ImageStop.{ImageStop}
 use Rattle.q2_image.specs.declared.stop.ImageStop.TheVariants as stops
 use Rattle.qblk_core.specs.Closing.{IsOnlyDevice}
-use Rattle.qblk_core.specs.ImageNodes.{AreMadeOf, HaveOneImage, only_device, with_file}
+use Rattle.qblk_core.specs.ImageNodes.{AreMadeOf, HaveOneImage, only_device, file_node_alone}
 use Rattle.qblk_core.specs.Session.{IsRefusedImage}
 use Rattle.qblk_core.specs.declared.words.Format.{Format}
 use Rattle.qblk_core.specs.declared.words.Format.TheVariants.{Qcow2}
@@ -19,14 +19,14 @@ use Rattle.qblk_core.specs.declared.status.Status.{Status}
 use Rattle.qblk_core.specs.declared.status.Status.TheVariants as status
 
 -- there is the `file` node over a device
-pub record IsFileOver (device : DeviceState) (nodes : Nodes) : Type 0 where
+pub record IsFileOver (device : DeviceSeen) (nodes : Nodes) : Type 0 where
   pub node : device.node ≡ 0
   pub number : device.number ≡ only_device
   pub sized : (bytes : List ℕ) → device.content ≡ Some bytes → device.size ≡ length bytes
-  pub is : nodes ≡ with_file device
+  pub is : nodes ≡ file_node_alone device
 
 -- the nodes over a device are made, and the image's is number 1
-pub record IsOpenedAs (format : Format) (device : DeviceState) (nodes : Nodes) (image : ℕ) : Type 0
+pub record IsOpenedAs (format : Format) (device : DeviceSeen) (nodes : Nodes) (image : ℕ) : Type 0
   where
     pub number : image ≡ 1
     pub made : AreMadeOf format device nodes
@@ -34,7 +34,7 @@ pub record IsOpenedAs (format : Format) (device : DeviceState) (nodes : Nodes) (
     pub one : HaveOneImage nodes
 
 -- or why they aren't: where no read of the device failed, its count stands
-abbrev pub StopsAs : Format → DeviceState → DeviceState → OpenStop → Type 0
+abbrev pub StopsAs : Format → DeviceSeen → DeviceSeen → OpenStop → Type 0
 StopsAs format before now (Refused why) =
     IsRefusedImage format why before × (now.faults ≡ before.faults)
 StopsAs format before now (Io count) =
@@ -43,22 +43,22 @@ StopsAs format before now NoMemory = now.faults ≡ before.faults
 
 -- the image's node isn't added: of the nodes at most the count of their device has changed
 pub record StopsImageNode (format : Format) (old new : Nodes) (stop : OpenStop) : Type 0 where
-  pub before : DeviceState
-  pub now : DeviceState
+  pub before : DeviceSeen
+  pub now : DeviceSeen
   pub was : old.devices ≡ before ∷ []
   pub is : IsOnlyDevice new.devices now
   pub cause : StopsAs format before now stop
   pub kept : HasRisen before now
 
-pub record IsStopped (format : Format) (before now : DeviceState) (stop : OpenStop) : Type 0 where
+pub record IsStopped (format : Format) (before now : DeviceSeen) (stop : OpenStop) : Type 0 where
   pub cause : StopsAs format before now stop
   pub kept : HasRisen before now
 
 -- the stop that an image's is
-abbrev pub stop_by : ImageStop → OpenStop
-stop_by (stops.Io count) = Io count
-stop_by stops.NoMemory = NoMemory
-stop_by stop = Refused (Image stop)
+abbrev pub open_stop : ImageStop → OpenStop
+open_stop (stops.Io count) = Io count
+open_stop stops.NoMemory = NoMemory
+open_stop stop = Refused (Image stop)
 
 -- the status of an image that isn't opened
 abbrev pub IsImageStatus : List ℕ → OpenStop → Status → Type 0

@@ -25,19 +25,19 @@ use Rattle.q2_format.specs.declared.header.HeaderStop.TheVariants as headers
 use Rattle.q2_format.specs.declared.header.TheConstants.{MIN_HEADER_LENGTH}
 use Rattle.q2_image.specs.Opening.{refusal_of}
 use Rattle.q2_image.specs.declared.stop.ImageStop.TheVariants as images
-use Rattle.qblk_core.specs.Format.{disk_of, HasGoodLength, IsGoodImage, IsSoundAs}
+use Rattle.qblk_core.specs.Format.{disk_by_format, HasGoodLength, IsGoodImage, IsSoundAs}
 use Rattle.qblk_core.specs.declared.words.Format.{Format}
 use Rattle.qblk_core.specs.declared.words.Format.TheVariants.{Raw, Qcow2}
 use Rattle.blk_base.specs.declared.fault.Outcome.{Outcome}
 use Rattle.blk_base.specs.Outcomes.{is_good}
-use Rattle.blk_nodes.specs.Nodes.{Nodes, DeviceState}
+use Rattle.blk_nodes.specs.Nodes.{Nodes, DeviceSeen}
 use Rattle.blk_nodes.specs.Reading.{HasRisen, StoppedBy}
 use Rattle.qblk_inputs.specs.Inputs.{IsTraceFlaw}
 use Rattle.qblk_inputs.specs.declared.stop.InputFlaw.{InputFlaw}
 use Rattle.qblk_inputs.specs.declared.stop.InputFlaw.TheVariants as flaws
 use Rattle.qblk_core.specs.Along.{CountsOutcome, HaveNodes, GoesInTurn}
 use Rattle.qblk_core.specs.Face.{state_with, new_guest, machine_on}
-use Rattle.qblk_core.specs.ImageNodes.{AreMadeOf, faults_of, only_device}
+use Rattle.qblk_core.specs.ImageNodes.{AreMadeOf, device_faults, only_device}
 use Rattle.blk_pieces.specs.Pieces.{FlushesPart}
 use Rattle.qblk_core.specs.declared.status.InputWhy.{InputWhy}
 use Rattle.qblk_core.specs.declared.status.InputWhy.TheVariants.{Absent, NotUtf8, TooLong, BadLine, TooMany, TooLarge, NeedsBacking, Image}
@@ -55,14 +55,15 @@ pub record Outside : Type 0 where
 -- the machine of an image whose file holds these bytes, before the first request
 abbrev pub machine_of : Format → List ℕ → State
 machine_of format bytes =
-    let disk = disk_of format bytes in state_with (length bytes) (length disk) new_guest (Some disk)
+    let disk = disk_by_format format bytes
+    in state_with (length bytes) (length disk) new_guest (Some disk)
 
 -- the one guest is called `disk`
 abbrev pub guest_names : RowNames
 guest_names = record { guests = (100 ∷ 105 ∷ 115 ∷ 107 ∷ []) ∷ []; jobs = [] }
 
 -- The run on the nodes: they are made over the device, the history leaves them so, and at last what is under them is flushed.
-pub record IsRunOn (format : Format) (h : List Event) (device : DeviceState)
+pub record IsRunOn (format : Format) (h : List Event) (device : DeviceSeen)
     (first left last : Nodes) (flush : Outcome) : Type 0 where
   pub made : AreMadeOf format device first
   pub in_turn : GoesInTurn (machine_on first) h
@@ -71,7 +72,7 @@ pub record IsRunOn (format : Format) (h : List Event) (device : DeviceState)
   pub flushed : FlushesPart left last 1 flush
 
 -- the device has what the file has
-pub record IsOverFile (device : DeviceState) (f : File) : Type 0 where
+pub record IsOverFile (device : DeviceSeen) (f : File) : Type 0 where
   pub content : device.content ≡ Some f.bytes
   pub is_flushed : device.is_flushed ≡ Some f.is_flushed
   pub size : device.size ≡ length f.bytes
@@ -79,7 +80,7 @@ pub record IsOverFile (device : DeviceState) (f : File) : Type 0 where
 
 -- the image's file at the end reads as the flat disk of a legal history, and all else is as it was
 pub record TellsDisk (format : Format) (image : List ℕ) (h : List Event) (good : Bool)
-    (device : DeviceState) (first : Nodes) (back : DeviceState) (old : List File)
+    (device : DeviceSeen) (first : Nodes) (back : DeviceSeen) (old : List File)
     (new : Option (List File)) (f : File) : Type 0 where
   pub file : file_at image old ≡ Some f
   pub opened : IsOverFile device f
@@ -91,7 +92,8 @@ pub record TellsDisk (format : Format) (image : List ℕ) (h : List Event) (good
   pub content : back.content ≡ Some bytes
   pub flushed : back.is_flushed ≡ Some is_flushed
   pub kept : good ≡ true → is_flushed ≡ true
-  pub disk : disk_in (replay (machine_of format f.bytes) h).disks 1 ≡ Some (disk_of format bytes)
+  pub disk : disk_in (replay (machine_of format f.bytes) h).disks 1
+      ≡ Some (disk_by_format format bytes)
   pub sound : IsSoundAs format bytes
   pub files : new ≡ Some (put_file (record {
     name = image;
@@ -111,7 +113,7 @@ pub record HaveCounts (h : List Event) (flush : Outcome) (before opened left now
     pub flushed : CountsOutcome left now flush
 
 -- the record of the image's device as it was opened, once it is back with this count
-abbrev pub closed_opening : List ℕ → DeviceState → ℕ → Opened
+abbrev pub closed_opening : List ℕ → DeviceSeen → ℕ → Opened
 closed_opening image device count = record {
   name = image;
   size = device.size;
@@ -127,12 +129,12 @@ pub record IsRun (format : Format) (image : List ℕ) (ops : List Op) (flushed :
   -- so that its transcript is that of no other
   pub small : All IsSmall h
   -- the device as it was opened
-  pub device : DeviceState
+  pub device : DeviceSeen
   pub opened : new.opened ≡ old.opened ++ closed_opening image device now ∷ []
   -- where the count has not risen, no piece was stopped by a fault
   pub quiet : now ≡ before → before < 18446744073709551615 → NameNone h
   -- the device as it is given back, and the nodes over it
-  pub back : DeviceState
+  pub back : DeviceSeen
   pub first : Nodes
   pub left : Nodes
   pub end : Nodes
@@ -141,7 +143,7 @@ pub record IsRun (format : Format) (image : List ℕ) (ops : List Op) (flushed :
   pub good : is_good flush ≡ flushed
   pub ends : (device.faults ≡ before) × (back.faults ≡ now)
   pub given : end.devices ≡ back ∷ []
-  pub counts : HaveCounts h flush before (faults_of first) (faults_of left) now
+  pub counts : HaveCounts h flush before (device_faults first) (device_faults left) now
   pub told : IfTold old.files (λ files. (f : File)
       × TellsDisk format image h flushed device first back files new.files f)
 
@@ -156,16 +158,16 @@ HasTrace trace ops files =
     (λ f. (length f.bytes ≤ 67108864) × IsUtf8 f.bytes × (ops_of f.bytes ≡ Ok ops)) files
 
 -- why a trace's bytes are refused, and at which line
-abbrev pub IsBadTrace : InputWhy → ℕ → List ℕ → Type 0
-IsBadTrace Absent line bytes = ⊥
-IsBadTrace TooLarge line bytes = ⊥
-IsBadTrace NeedsBacking line bytes = ⊥
-IsBadTrace (Image stop) line bytes = ⊥
-IsBadTrace TooLong line bytes = (line ≡ 0) × (67108864 < length bytes)
-IsBadTrace NotUtf8 line bytes = (line ≡ 0) × (length bytes ≤ 67108864) × (IsUtf8 bytes → ⊥)
-IsBadTrace BadLine line bytes =
+abbrev pub IsFlawInTrace : InputWhy → ℕ → List ℕ → Type 0
+IsFlawInTrace Absent line bytes = ⊥
+IsFlawInTrace TooLarge line bytes = ⊥
+IsFlawInTrace NeedsBacking line bytes = ⊥
+IsFlawInTrace (Image stop) line bytes = ⊥
+IsFlawInTrace TooLong line bytes = (line ≡ 0) × (67108864 < length bytes)
+IsFlawInTrace NotUtf8 line bytes = (line ≡ 0) × (length bytes ≤ 67108864) × (IsUtf8 bytes → ⊥)
+IsFlawInTrace BadLine line bytes =
     (length bytes ≤ 67108864) × IsUtf8 bytes × (ops_of bytes ≡ Err (stops.BadLine line))
-IsBadTrace TooMany line bytes =
+IsFlawInTrace TooMany line bytes =
     (length bytes ≤ 67108864) × IsUtf8 bytes × (ops_of bytes ≡ Err (stops.TooMany line))
 
 -- why an image's bytes are refused: a qcow2 image by its first refusal, and then for its backing name
@@ -180,15 +182,16 @@ abbrev pub IsBadImage : Format → InputWhy → List ℕ → List File → Type 
 IsBadImage format Absent image files = LacksFile image files
 IsBadImage format why image files = HasFile image (λ f. IsBadBytes format why f.bytes) files
 
-abbrev pub IsRefusedTrace : InputWhy → ℕ → List ℕ → List File → Type 0
-IsRefusedTrace Absent line trace files = (line ≡ 0) × LacksFile trace files
-IsRefusedTrace why line trace files = HasFile trace (λ f. IsBadTrace why line f.bytes) files
+abbrev pub IsTraceFileRefused : InputWhy → ℕ → List ℕ → List File → Type 0
+IsTraceFileRefused Absent line trace files = (line ≡ 0) × LacksFile trace files
+IsTraceFileRefused why line trace files = HasFile trace (λ f. IsFlawInTrace why line f.bytes) files
 
 -- why an input is refused: the image before the trace
-abbrev pub IsRefusedInput : Format → List ℕ → List ℕ → List ℕ → ℕ → InputWhy → List File → Type 0
-IsRefusedInput format image trace name line why files =
+abbrev pub IsImageOrTraceRefused : Format → List ℕ → List ℕ → List ℕ → ℕ → InputWhy → List File
+    → Type 0
+IsImageOrTraceRefused format image trace name line why files =
     ((name ≡ image) × (line ≡ 0) × IsBadImage format why image files)
-    ⊎ ((name ≡ trace) × HasImage format image files × IsRefusedTrace why line trace files)
+    ⊎ ((name ≡ trace) × HasImage format image files × IsTraceFileRefused why line trace files)
 
 -- what is wrong with a script or a trace, as a status says it
 abbrev pub why_of : InputFlaw → InputWhy
@@ -219,22 +222,22 @@ HasLengthFor (Image stop) size = MIN_HEADER_LENGTH ≤ size
 HasLengthFor why size = ⊤
 
 -- the image's device was opened so and is back, and no call of it failed
-abbrev pub IsBackQuietly : List ℕ → DeviceState → Outside → Outside → Type 0
+abbrev pub IsBackQuietly : List ℕ → DeviceSeen → Outside → Outside → Type 0
 IsBackQuietly image device old new =
     new.opened ≡ old.opened ++ closed_opening image device device.faults ∷ []
 
 abbrev pub IsOpenedQuietly : List ℕ → Outside → Outside → Type 0
-IsOpenedQuietly image old new = (device : DeviceState) × IsBackQuietly image device old new
+IsOpenedQuietly image old new = (device : DeviceSeen) × IsBackQuietly image device old new
 
 -- So it was where the trace is refused, over an image that can be opened.
 abbrev pub IsOpenedWell : Format → List ℕ → Outside → Outside → Type 0
-IsOpenedWell format image old new = (device : DeviceState)
+IsOpenedWell format image old new = (device : DeviceSeen)
     × IsBackQuietly image device old new × HasGoodLength format device.size
 
 -- So it was where the image is refused, unless it is absent; and it was as long as the refusal says.
 abbrev pub IsOpenedQuietlyFor : InputWhy → List ℕ → Outside → Outside → Type 0
 IsOpenedQuietlyFor Absent image old new = new.opened ≡ old.opened
-IsOpenedQuietlyFor why image old new = (device : DeviceState)
+IsOpenedQuietlyFor why image old new = (device : DeviceSeen)
     × IsBackQuietly image device old new × HasLengthFor why device.size
 
 abbrev pub SpeaksOfInput : Format → List ℕ → List ℕ → Outside → Outside → List ℕ → ℕ → InputWhy
@@ -272,8 +275,8 @@ pub record FailsToOpen (format : Format) (image : List ℕ) (old new : Outside) 
   where
     pub reads : format ≡ Qcow2
     pub nothing : NothingWritten old new
-    pub device : DeviceState
-    pub behind : DeviceState
+    pub device : DeviceSeen
+    pub behind : DeviceSeen
     pub opened : new.opened ≡ old.opened ++ closed_opening image device behind.faults ∷ []
     pub stopped : StoppedBy device behind only_device count
     pub kept : HasRisen device behind
@@ -324,7 +327,7 @@ Answers format image trace old new Done = IsDone format image trace old new
 Answers format image trace old new Usage = ⊥
 Answers format image trace old new (Input name line why) =
     NothingWritten old new × SpeaksOfInput format image trace old new name.bytes line why
-    × IfTold old.files (IsRefusedInput format image trace name.bytes line why)
+    × IfTold old.files (IsImageOrTraceRefused format image trace name.bytes line why)
 Answers format image trace old new (Fault from count) =
     IsFaulty format image trace old new from count
 Answers format image trace old new (Stuck actor waits) = ⊥

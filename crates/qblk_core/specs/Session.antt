@@ -12,15 +12,15 @@ use Rattle.blk_base.specs.declared.fault.Outcome.{Outcome}
 use Rattle.blk_base.specs.declared.fault.Outcome.TheVariants.{Io}
 use Rattle.blk_nodes.specs.Contents.{Unfolds}
 use Rattle.blk_nodes.specs.Joined.{IsJoined}
-use Rattle.blk_nodes.specs.Nodes.{Nodes, DeviceState}
-use Rattle.qblk_core.specs.Face.{Face, machine_on}
-use Rattle.qblk_core.specs.Comes.{Comes}
+use Rattle.blk_nodes.specs.Nodes.{Nodes, DeviceSeen}
+use Rattle.qblk_core.specs.Face.{SessionSeen, machine_on}
+use Rattle.qblk_core.specs.Comes.{ComesFrom}
 use Rattle.qblk_core.specs.Format.{HasGoodLength, IsGoodImage}
 use Rattle.qblk_core.specs.ImageNodes.{AreMadeOf, HaveOneImage}
 use Rattle.blk_pieces.specs.Pieces.{FlushesPart}
 use Rattle.qblk_core.specs.declared.words.Format.{Format}
 use Rattle.qblk_core.specs.declared.words.Format.TheVariants.{Qcow2}
-use Rattle.qblk_core.specs.Run.{machine_of, HasLengthFor, IsBadTrace, IsBadBytes, IsImageCause}
+use Rattle.qblk_core.specs.Run.{machine_of, HasLengthFor, IsFlawInTrace, IsBadBytes, IsImageCause}
 use Rattle.qblk_core.specs.Output.{SendsFront}
 use Rattle.qblk_core.specs.declared.input.TraceRead.{TraceRead}
 use Rattle.qblk_core.specs.declared.input.TraceRead.TheVariants as reads
@@ -65,22 +65,23 @@ TellsGoodImage format first content = (bytes : List ℕ) → content ≡ Some by
     → IsGoodImage format bytes × (machine_on first ≡ machine_of format bytes)
 
 -- the fault of a flush
-abbrev pub fault_of : Outcome → Option FaultAt
-fault_of (Io dev count) = Some (record { from = Dev dev; count = count })
-fault_of outcome = None
+abbrev pub flush_fault : Outcome → Option FaultAt
+flush_fault (Io dev count) = Some (record { from = Dev dev; count = count })
+flush_fault outcome = None
 
 -- the nodes were flushed, and their device is given back, with the fault where the flush failed
-pub record AreNodesClosed (left last : Nodes) (flush : Outcome) (back : DeviceState)
+pub record AreNodesClosed (left last : Nodes) (flush : Outcome) (back : DeviceSeen)
     (fault : Option FaultAt) : Type 0 where
   pub flushed : FlushesPart left last 1 flush
-  pub told : fault ≡ fault_of flush
+  pub told : fault ≡ flush_fault flush
   pub joined : IsJoined last
   pub disks : Unfolds last
   pub one : HaveOneImage last
   pub given : last.devices ≡ back ∷ []
 
 -- the requests of a trace were made on a device
-pub record AreRequestsMade (format : Format) (trace : List ℕ) (before now : DeviceState) (w : Face)
+pub record AreRequestsMade (format : Format) (trace : List ℕ) (before now : DeviceSeen)
+    (w : SessionSeen)
     (fault : Option FaultAt) : Type 0 where
   pub first : Nodes
   pub last : Nodes
@@ -89,7 +90,7 @@ pub record AreRequestsMade (format : Format) (trace : List ℕ) (before now : De
   pub good : TellsGoodImage format first before.content
   pub text : IsUtf8 trace
   pub ops : ops_of trace ≡ Ok (asked_by 0 w.log.events)
-  pub comes : Comes first w
+  pub comes : ComesFrom first w
   pub idle : w.guest.flight ≡ None
   pub one : HaveOneImage w.nodes
   pub closed : AreNodesClosed w.nodes last flush now fault
@@ -98,7 +99,7 @@ pub record AreRequestsMade (format : Format) (trace : List ℕ) (before now : De
 
 -- why what was read of a trace is refused
 abbrev pub IsRefusedRead : TraceRead → InputWhy → ℕ → Type 0
-IsRefusedRead (reads.Whole bytes) why line = IsBadTrace why line bytes
+IsRefusedRead (reads.Whole bytes) why line = IsFlawInTrace why line bytes
 IsRefusedRead reads.Absent why line = (line ≡ 0) × (why ≡ Absent)
 IsRefusedRead reads.TooLong why line = (line ≡ 0) × (why ≡ TooLong)
 
@@ -112,19 +113,19 @@ IsTraceStop trace read (Stuck actor waits) = ⊥
 IsTraceStop trace read NoMemory = Unit {0}
 
 -- why an image isn't opened, by its device's length and by the bytes that this tells
-pub record IsRefusedImage (format : Format) (why : InputWhy) (device : DeviceState) : Type 0 where
+pub record IsRefusedImage (format : Format) (why : InputWhy) (device : DeviceSeen) : Type 0 where
   pub bytes : (bytes : List ℕ) → device.content ≡ Some bytes → IsBadBytes format why bytes
   pub there : why ≢ Absent
   pub length : HasLengthFor why device.size
   pub cause : IsImageCause format why
 
 -- an image on a device can be opened, by its length and by the bytes that it tells
-pub record IsGoodDevice (format : Format) (device : DeviceState) : Type 0 where
+pub record IsGoodDevice (format : Format) (device : DeviceSeen) : Type 0 where
   pub good : (bytes : List ℕ) → device.content ≡ Some bytes → IsGoodImage format bytes
   pub length : HasGoodLength format device.size
 
 -- the image, which is judged before the trace, or the trace is refused; or the image's device failed
-abbrev pub IsRunStop : Format → List ℕ → List ℕ → TraceRead → DeviceState → DeviceState → Status
+abbrev pub IsRunStop : Format → List ℕ → List ℕ → TraceRead → DeviceSeen → DeviceSeen → Status
     → Type 0
 IsRunStop format image trace read before now Done = ⊥
 IsRunStop format image trace read before now Usage = ⊥

@@ -11,16 +11,16 @@ use Rattle.blk_history.specs.Small.{IsSmallOutcome}
 use Rattle.blk_history.specs.declared.entry.Refused.{Refused}
 use Rattle.blk_history.specs.declared.event.Event.{Event}
 use Rattle.blk_history.specs.declared.event.Event.TheVariants as events
-use Rattle.blk_nodes.specs.Nodes.{Nodes, size_of}
+use Rattle.blk_nodes.specs.Nodes.{Nodes, node_size}
 use Rattle.blk_pieces.specs.Pieces.{shows_in}
 use Rattle.qblk_core.specs.Along.{CountsOutcome, HasForm}
-use Rattle.qblk_core.specs.Face.{Face, node_of}
-use Rattle.qblk_core.specs.ImageNodes.{told_disk, faults_of, HaveShapeOf}
+use Rattle.qblk_core.specs.Face.{SessionSeen, node_of}
+use Rattle.qblk_core.specs.ImageNodes.{told_disk, device_faults, HaveShapeOf}
 use Rattle.qblk_core.specs.Pieces.{IsPieceOn}
 
 -- the history with one more entry, and with bytes that it shows
-abbrev pub log_with : Recorded → Event → List ℕ → Recorded
-log_with log e got = record {
+abbrev pub log_with_shown : Recorded → Event → List ℕ → Recorded
+log_with_shown log e got = record {
   events = log.events ++ e ∷ [];
   bytes = log.bytes ++ got;
   room = log.room - 1;
@@ -28,29 +28,30 @@ log_with log e got = record {
 }
 
 -- the history with an entry that shows nothing
-abbrev pub log_of : Recorded → Event → Recorded
-log_of log e = record log { events = log.events ++ e ∷ []; room = log.room - 1 }
+abbrev pub log_with_entry : Recorded → Event → Recorded
+log_with_entry log e = record log { events = log.events ++ e ∷ []; room = log.room - 1 }
 
 -- a request was admitted, or refused for its cause
-abbrev pub after_admission : Face → Op → Option Refused → Face
-after_admission w op None = record w {
+abbrev pub admitted_or_refused : SessionSeen → Op → Option Refused → SessionSeen
+admitted_or_refused w op None = record w {
   guest = admitted op w.guest;
-  log = log_of w.log (events.Admit 0 w.guest.done op);
+  log = log_with_entry w.log (events.Admit 0 w.guest.done op);
 }
-after_admission w op (Some why) = record w {
+admitted_or_refused w op (Some why) = record w {
   guest = finished w.guest;
-  log = log_of w.log (events.Refuse 0 w.guest.done op why);
+  log = log_with_entry w.log (events.Refuse 0 w.guest.done op why);
 }
 
-abbrev pub IsRequestJudged : Face → Op → Option Refused → Type 0
-IsRequestJudged w op None = IsInside op (node_of (size_of w.nodes 1)) × (IsForbidden op w.guest → ⊥)
-IsRequestJudged w op (Some why) = IsRefusedFor op w.guest (node_of (size_of w.nodes 1)) why
+abbrev pub IsRequestJudged : SessionSeen → Op → Option Refused → Type 0
+IsRequestJudged w op None =
+    IsInside op (node_of (node_size w.nodes 1)) × (IsForbidden op w.guest → ⊥)
+IsRequestJudged w op (Some why) = IsRefusedFor op w.guest (node_of (node_size w.nodes 1)) why
 
 -- a request is over
-abbrev pub after_retirement : Face → Face
+abbrev pub after_retirement : SessionSeen → SessionSeen
 after_retirement w = record w {
   guest = finished w.guest;
-  log = log_of w.log (events.Retire 0 w.guest.done);
+  log = log_with_entry w.log (events.Retire 0 w.guest.done);
 }
 
 -- the next piece can be made: there is one, and the history has room for what it adds
@@ -73,13 +74,14 @@ pub record MakesPiece (old new : Nodes) (before now : Recorded) (request : ℕ) 
       (told_disk old)
   pub form : HasForm outcome f.op (piece f.op f.next)
   pub fits : IsSmallOutcome outcome
-  pub cause : CountsOutcome (faults_of old) (faults_of new) outcome
-  pub faults : faults_of old ≤ faults_of new
+  pub cause : CountsOutcome (device_faults old) (device_faults new) outcome
+  pub faults : device_faults old ≤ device_faults new
   pub bound : length got ≤ shows_in f.op (piece f.op f.next).len
   pub small : length got ≤ 65536
-  pub log : now ≡ log_with before (events.Piece 0 request f.next outcome got) got
+  pub log : now ≡ log_with_shown before (events.Piece 0 request f.next outcome got) got
 
 -- so it was, and the guest's row is one piece further
-pub record PutsPiece (old new : Face) (f : Flight) (outcome : Outcome) (got : List ℕ) : Type 0 where
+pub record PutsPiece (old new : SessionSeen) (f : Flight) (outcome : Outcome)
+    (got : List ℕ) : Type 0 where
   pub made : MakesPiece old.nodes new.nodes old.log new.log old.guest.done f outcome got
   pub guest : new.guest ≡ past_piece outcome old.guest

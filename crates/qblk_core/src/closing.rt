@@ -1,10 +1,10 @@
 //! The device of a run's nodes, flushed and given back.
 ghost use Rattle.std.specs.Prelude.{◌≡◌, [], ◌∷◌};
 ghost use Rattle.blk_base.specs.declared.fault.Outcome.{Outcome};
-ghost use Rattle.blk_nodes.specs.Nodes.{Nodes as SeenNodes, DeviceState};
-ghost use Rattle.qblk_core.specs.ImageNodes.{HaveOneImage, seen};
+ghost use Rattle.blk_nodes.specs.Nodes.{Nodes as SeenNodes, DeviceSeen};
+ghost use Rattle.qblk_core.specs.ImageNodes.{HaveOneImage, seen_device};
 ghost use Rattle.qblk_core.specs.Closing.{IsOnlyDevice};
-ghost use Rattle.qblk_core.specs.Session.{fault_of, AreNodesClosed};
+ghost use Rattle.qblk_core.specs.Session.{flush_fault, AreNodesClosed};
 
 use blk_base::{Device, FaultAt, FaultFrom, Outcome};
 use blk_graph::NodeId;
@@ -12,8 +12,8 @@ use blk_nodes::Nodes;
 
 /// The only device of nodes.
 pub(crate) fn device_of<D: Device>(nodes: Nodes<D>) -> D
-    requires { (device : DeviceState) × IsOnlyDevice nodes.devices device }
-    ensures { nodes.devices ≡ seen D.Device result ∷ [] }
+    requires { (device : DeviceSeen) × IsOnlyDevice nodes.devices device }
+    ensures { nodes.devices ≡ seen_device D.Device result ∷ [] }
 {
     let mut left = nodes.into_devices();
     let Some((_, _, device)) = left.next() else {
@@ -25,7 +25,7 @@ pub(crate) fn device_of<D: Device>(nodes: Nodes<D>) -> D
 
 /// The fault of a flush, where it failed.
 fn fault_of(outcome: Outcome) -> Option<FaultAt>
-    ensures { result ≡ fault_of outcome }
+    ensures { result ≡ flush_fault outcome }
 {
     match outcome {
         Outcome::Io { dev, count } => Some(FaultAt {
@@ -41,7 +41,7 @@ pub(crate) fn close<D: Device>(nodes: Nodes<D>, image: NodeId) -> (D, Option<Fau
     requires image { image ≡ 1 }
     requires one { HaveOneImage nodes }
     ensures { (last : SeenNodes) × (flush : Outcome)
-        × AreNodesClosed nodes last flush (seen D.Device result.0) result.1 }
+        × AreNodesClosed nodes last flush (seen_device D.Device result.0) result.1 }
 {
     let mut nodes = nodes;
     let _ = nodes.edges();

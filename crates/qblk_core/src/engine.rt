@@ -1,9 +1,9 @@
 //! One guest on one image, on one thread: each call is one event.
 ghost use Rattle.std.specs.Prelude.{◌≡◌, ◌<◌, ◌≤◌, length, List, ℕ, Some};
-ghost use Rattle.qblk_core.specs.Steps.{log_of, log_with, CanPiece, MakesPiece};
-ghost use Rattle.qblk_core.specs.Face.{request_at, flight_of, WasAdmitted};
+ghost use Rattle.qblk_core.specs.Steps.{log_with_entry, log_with_shown, CanPiece, MakesPiece};
+ghost use Rattle.qblk_core.specs.Face.{request_at, flight_in_history, WasAdmitted};
 ghost use Rattle.qblk_core.specs.ImageNodes.{HaveOneImage};
-ghost use Rattle.blk_nodes.specs.Nodes.{size_of};
+ghost use Rattle.blk_nodes.specs.Nodes.{node_size};
 ghost use Rattle.trace_codec.specs.declared.op.Op.{Op};
 ghost use Rattle.blk_history.specs.Fold.{With};
 ghost use Rattle.blk_history.specs.declared.event.Event.{Event};
@@ -34,14 +34,14 @@ pub(crate) struct Engine<D: Device> {
 }
 
 impl<D: Device> Model for Engine<D> {
-    ghost use Rattle.qblk_core.specs.Face.{Face, row_of};
+    ghost use Rattle.qblk_core.specs.Face.{SessionSeen, guest_on_image};
     ghost use Rattle.qblk_core.specs.Running.{IsRunning};
 
-    ghost Value = { Face };
+    ghost Value = { SessionSeen };
 
     ghost view = { λ a. record {
       nodes = a.nodes;
-      guest = row_of a.history.events a.done a.flight;
+      guest = guest_on_image a.history.events a.done a.flight;
       log = a.history;
     } };
 
@@ -52,7 +52,7 @@ impl<D: Device> Model for Engine<D> {
 fn note_admission(history: &mut History, request: u32, op: Op) -> u64
     requires { 0 < history.old.room }
     ensures place { result ≡ length history.old.events }
-    ensures noted { history.new ≡ log_of history.old (Event.Admit 0 request op) }
+    ensures noted { history.new ≡ log_with_entry history.old (Event.Admit 0 request op) }
 {
     let place = history.len();
     history.push(Entry::Admit {
@@ -66,7 +66,7 @@ fn note_admission(history: &mut History, request: u32, op: Op) -> u64
 /// Adds the entry of a refused request.
 fn note_refusal(history: &mut History, request: u32, op: Op, why: Refused)
     requires { 0 < history.old.room }
-    ensures { history.new ≡ log_of history.old (Event.Refuse 0 request op why) }
+    ensures { history.new ≡ log_with_entry history.old (Event.Refuse 0 request op why) }
 {
     history.push(Entry::Refuse {
         guest: 0,
@@ -81,7 +81,7 @@ fn note_piece(history: &mut History, request: u32, k: u32, outcome: Outcome, sho
     requires room { 0 < history.old.room }
     requires byte_room { length shown.now ≤ history.old.byte_room }
     ensures { history.new
-        ≡ log_with history.old (Event.Piece 0 request k outcome shown.now) shown.now }
+        ≡ log_with_shown history.old (Event.Piece 0 request k outcome shown.now) shown.now }
 {
     let got = history.push_read(shown);
     history.push(Entry::Piece {
@@ -96,7 +96,7 @@ fn note_piece(history: &mut History, request: u32, k: u32, outcome: Outcome, sho
 /// Adds the entry of a request that is over.
 fn note_retirement(history: &mut History, request: u32)
     requires { 0 < history.old.room }
-    ensures { history.new ≡ log_of history.old (Event.Retire 0 request) }
+    ensures { history.new ≡ log_with_entry history.old (Event.Retire 0 request) }
 {
     history.push(Entry::Retire { guest: 0, request });
 }
@@ -121,9 +121,9 @@ fn make_piece<D: Device>(
     requires image { image ≡ 1 }
     requires one { HaveOneImage nodes.old }
     requires block { length buffer.old ≡ 65536 }
-    requires can { With (flight_of history.old.events flight.now) (CanPiece history.old) }
-    requires admitted { WasAdmitted (size_of nodes.old 1) history.old.events (Some flight.now) }
-    ensures made { With (flight_of history.old.events flight.now) (λ f. (got : List ℕ)
+    requires can { With (flight_in_history history.old.events flight.now) (CanPiece history.old) }
+    requires admitted { WasAdmitted (node_size nodes.old 1) history.old.events (Some flight.now) }
+    ensures made { With (flight_in_history history.old.events flight.now) (λ f. (got : List ℕ)
         × MakesPiece nodes.old nodes.new history.old history.new request f result got) }
     ensures one { HaveOneImage nodes.new }
 {
@@ -140,14 +140,14 @@ impl<D: Device> Engine<D> {
     ghost use Rattle.blk_base.specs.declared.fault.Outcome.{Outcome};
     ghost use Rattle.blk_nodes.specs.Nodes.{Nodes as SeenNodes};
     ghost use Rattle.qblk_core.specs.Face.{new_guest};
-    ghost use Rattle.qblk_core.specs.ImageNodes.{HaveOneImage, seen};
+    ghost use Rattle.qblk_core.specs.ImageNodes.{HaveOneImage, seen_device};
     ghost use Rattle.qblk_core.specs.Session.{AreNodesClosed};
     ghost use Rattle.std.specs.Prelude.{◌≡◌, ◌+◌, ◌<◌, ◌≤◌, ◌^◌, ℕ, List, None};
-    ghost use Rattle.qblk_core.specs.Face.{Face};
-    ghost use Rattle.qblk_core.specs.Steps.{after_admission, IsRequestJudged, after_retirement, PutsPiece, CanPiece};
+    ghost use Rattle.qblk_core.specs.Face.{SessionSeen};
+    ghost use Rattle.qblk_core.specs.Steps.{admitted_or_refused, IsRequestJudged, after_retirement, PutsPiece, CanPiece};
     ghost use Rattle.blk_history.specs.Fold.{With};
     ghost use Rattle.blk_history.specs.Legal.{IsOver};
-    ghost use Rattle.qblk_core.specs.Comes.{Comes};
+    ghost use Rattle.qblk_core.specs.Comes.{ComesFrom};
 
     /// A guest that has asked for nothing yet, on the nodes of an image.
     pub(crate) fn new(nodes: Nodes<D>, image: NodeId, history: History, buffer: Vec<u8>) -> Self
@@ -170,7 +170,7 @@ impl<D: Device> Engine<D> {
     pub(crate) fn finish(self) -> (D, History, Option<FaultAt>)
         ensures one { HaveOneImage self.nodes }
         ensures closed { (last : SeenNodes) × (flush : Outcome)
-            × AreNodesClosed self.nodes last flush (seen D.Device result.0) result.2 }
+            × AreNodesClosed self.nodes last flush (seen_device D.Device result.0) result.2 }
         ensures history { result.1 ≡ self.log }
     {
         let Engine {
@@ -191,7 +191,7 @@ impl<D: Device> Engine<D> {
         requires room { 0 < self.old.log.room }
         requires numbered { self.old.guest.done + 1 < 2 ^ 32 }
         ensures judged { IsRequestJudged self.old op result }
-        ensures kept { self.new ≡ after_admission self.old op result }
+        ensures kept { self.new ≡ admitted_or_refused self.old op result }
     {
         let span = request_span(&op);
         if span.start + span.len > self.nodes.size(self.image) {
@@ -251,8 +251,8 @@ impl<D: Device> Engine<D> {
         requires room { 0 < self.old.log.room }
         requires numbered { self.old.guest.done + 1 < 2 ^ 32 }
         ensures judged { IsRequestJudged self.old op result }
-        ensures kept { self.new ≡ after_admission self.old op result }
-        ensures comes { (first : SeenNodes) → Comes first self.old → Comes first self.new }
+        ensures kept { self.new ≡ admitted_or_refused self.old op result }
+        ensures comes { (first : SeenNodes) → ComesFrom first self.old → ComesFrom first self.new }
     {
         self.put_admission(op)
     }
@@ -262,7 +262,7 @@ impl<D: Device> Engine<D> {
         requires { With self.old.guest.flight (CanPiece self.old.log) }
         ensures put { With self.old.guest.flight
             (λ f. (got : List ℕ) × PutsPiece self.old self.new f result got) }
-        ensures comes { (first : SeenNodes) → Comes first self.old → Comes first self.new }
+        ensures comes { (first : SeenNodes) → ComesFrom first self.old → ComesFrom first self.new }
     {
         self.put_piece()
     }
@@ -273,7 +273,7 @@ impl<D: Device> Engine<D> {
         requires room { 0 < self.old.log.room }
         requires numbered { self.old.guest.done + 1 < 2 ^ 32 }
         ensures kept { self.new ≡ after_retirement self.old }
-        ensures comes { (first : SeenNodes) → Comes first self.old → Comes first self.new }
+        ensures comes { (first : SeenNodes) → ComesFrom first self.old → ComesFrom first self.new }
     {
         self.put_retirement();
     }

@@ -1,7 +1,7 @@
 //! Inputs of a run: the trace that was read, and what is taken before the first request.
 ghost use Rattle.std.specs.Prelude.{◌≡◌, ◌≤◌, List, ℕ, length, IfOk, IfErr, IfSome, IsUtf8, Ok};
 ghost use Rattle.trace_codec.specs.Trace.{ops_of};
-ghost use Rattle.qblk_core.specs.Run.{IsBadTrace, guest_names};
+ghost use Rattle.qblk_core.specs.Run.{IsFlawInTrace, guest_names};
 ghost use Rattle.qblk_core.specs.Inputs.{IsRefusal};
 ghost use Rattle.qblk_core.specs.Ready.{IsSetUpFor};
 ghost use Rattle.qblk_core.specs.Session.{IsTraceStop};
@@ -52,7 +52,7 @@ pub(crate) fn refused(alloc: Global, name: &str, line: u32, why: InputWhy) -> St
 fn requests_in(alloc: Global, bytes: &[u8]) -> Result<Vec<Op>, Option<(u32, InputWhy)>>
     requires { length bytes.now ≤ 67108864 }
     ensures ok { IfOk result (λ ops. IsUtf8 bytes.now × (ops_of bytes.now ≡ Ok ops.items)) }
-    ensures err { IfErr result (λ stop. IfSome stop (λ at. IsBadTrace at.1 at.0 bytes.now)) }
+    ensures err { IfErr result (λ stop. IfSome stop (λ at. IsFlawInTrace at.1 at.0 bytes.now)) }
 {
     let Ok(text) = str::from_utf8(bytes) else {
         return Err(Some((0, InputWhy::NotUtf8)));

@@ -1,10 +1,10 @@
 //! The nodes of a run, made over the image's device.
 ghost use Rattle.std.specs.Prelude.{◌≡◌, false, None, IfOk, IfErr, OnErr};
 ghost use Rattle.blk_nodes.specs.Adding.{with_below, guest_edge};
-ghost use Rattle.blk_nodes.specs.Nodes.{DeviceState};
+ghost use Rattle.blk_nodes.specs.Nodes.{DeviceSeen};
 ghost use Rattle.blk_nodes.specs.Overlays.{IsOpened, with_qcow2};
-ghost use Rattle.qblk_core.specs.ImageNodes.{IsImageNodeOver, with_file, asked_image, image_name, seen};
-ghost use Rattle.qblk_core.specs.Opened.{IsFileOver, StopsImageNode, IsOpenedAs, IsStopped, stop_by};
+ghost use Rattle.qblk_core.specs.ImageNodes.{IsImageNodeOver, file_node_alone, asked_image, image_name, seen_device};
+ghost use Rattle.qblk_core.specs.Opened.{IsFileOver, StopsImageNode, IsOpenedAs, IsStopped, open_stop};
 
 use crate::closing::device_of;
 use crate::status::InputWhy;
@@ -32,7 +32,7 @@ pub(crate) enum OpenStop {
 
 /// The `file` node over a device.
 fn over_device<D: Device>(alloc: Global, device: D) -> Result<(Nodes<D>, NodeId), D>
-    ensures made { IfOk result (λ made. IsFileOver (seen D.Device device) made.0) }
+    ensures made { IfOk result (λ made. IsFileOver (seen_device D.Device device) made.0) }
     ensures file { IfOk result (λ made. made.1 ≡ 0) }
     ensures back { IfErr result (λ back. back ≡ device) }
 {
@@ -61,7 +61,7 @@ fn name_of_image(alloc: Global) -> Result<Text, NoMemory>
 /// Adds the node of a raw image, which is the whole file.
 fn add_raw<D: Device>(alloc: Global, nodes: &mut Nodes<D>, file: NodeId) -> Result<NodeId, OpenStop>
     requires file { file ≡ 0 }
-    requires over { (device : DeviceState) × IsFileOver device nodes.old }
+    requires over { (device : DeviceSeen) × IsFileOver device nodes.old }
     ensures ok { IfOk result (λ id. (id ≡ 1) × IsImageNodeOver Format.Raw nodes.old nodes.new) }
     ensures err { IfErr result (StopsImageNode Format.Raw nodes.old nodes.new) }
 {
@@ -80,7 +80,7 @@ fn add_raw<D: Device>(alloc: Global, nodes: &mut Nodes<D>, file: NodeId) -> Resu
 
 /// Why an image of qcow2 isn't opened.
 fn stop_of(stop: ImageStop) -> OpenStop
-    ensures { result ≡ stop_by stop }
+    ensures { result ≡ open_stop stop }
 {
     match stop {
         ImageStop::Io { count } => OpenStop::Io { count },
@@ -97,7 +97,7 @@ fn add_opened<D: Device>(
     image: Image,
 ) -> Result<NodeId, NoMemory>
     requires file { file ≡ 0 }
-    requires over { (device : DeviceState) × IsFileOver device nodes.old }
+    requires over { (device : DeviceSeen) × IsFileOver device nodes.old }
     requires opened { IsOpened nodes.old.devices 0 image }
     requires unnamed { image.header.name ≡ None }
     ensures ok { IfOk result
@@ -120,7 +120,7 @@ fn add_qcow2<D: Device>(
     file: NodeId,
 ) -> Result<NodeId, OpenStop>
     requires file { file ≡ 0 }
-    requires over { (device : DeviceState) × IsFileOver device nodes.old }
+    requires over { (device : DeviceSeen) × IsFileOver device nodes.old }
     ensures ok { IfOk result (λ id. (id ≡ 1) × IsImageNodeOver Format.Qcow2 nodes.old nodes.new) }
     ensures err { IfErr result (StopsImageNode Format.Qcow2 nodes.old nodes.new) }
 {
@@ -145,7 +145,7 @@ fn add_over<D: Device>(
     file: NodeId,
 ) -> Result<NodeId, OpenStop>
     requires file { file ≡ 0 }
-    requires over { (device : DeviceState) × IsFileOver device nodes.old }
+    requires over { (device : DeviceSeen) × IsFileOver device nodes.old }
     ensures ok { IfOk result (λ id. (id ≡ 1) × IsImageNodeOver format nodes.old nodes.new) }
     ensures err { IfErr result (StopsImageNode format nodes.old nodes.new) }
 {
@@ -158,8 +158,8 @@ fn add_over<D: Device>(
 /// Puts the guest's drive on the image's node.
 fn attach<D: Device>(nodes: &mut Nodes<D>, image: NodeId)
     requires image { image ≡ 1 }
-    requires over { (format : Format) × (device : DeviceState)
-        × IsImageNodeOver format (with_file device) nodes.old }
+    requires over { (format : Format) × (device : DeviceSeen)
+        × IsImageNodeOver format (file_node_alone device) nodes.old }
     ensures { nodes.new ≡ with_below nodes.old (guest_edge nodes.old 0 1 false) }
 {
     match nodes.attach(0, image, false) {
@@ -175,9 +175,10 @@ pub(crate) fn open_nodes<D: Device>(
     device: D,
 ) -> Result<(Nodes<D>, NodeId), (OpenStop, D)>
     ensures opened { IfOk result
-        (λ opened. IsOpenedAs format (seen D.Device device) opened.0 opened.1) }
+        (λ opened. IsOpenedAs format (seen_device D.Device device) opened.0 opened.1) }
     ensures stopped { IfErr result
-        (λ stop. IsStopped format (seen D.Device device) (seen D.Device stop.1) stop.0) }
+        (λ stop. IsStopped format (seen_device D.Device device)
+        (seen_device D.Device stop.1) stop.0) }
 {
     let (mut nodes, file) = match over_device(alloc, device) {
         Ok(made) => made,

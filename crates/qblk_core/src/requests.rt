@@ -1,7 +1,7 @@
 //! Requests, one after another.
 ghost use Rattle.blk_history.specs.Fold.{With};
 ghost use Rattle.std.specs.Prelude.{IfSome};
-ghost use Rattle.qblk_core.specs.Requests.{CanRun, PiecesDone, CanRecord, RequestDone, CanRecordAll, RequestsDone, IsRoomFor};
+ghost use Rattle.qblk_core.specs.Requests.{CanRun, PiecesDone, CanRecord, RequestDone, CanRecordAll, RequestsDone, IsRoomForRequests};
 
 use crate::engine::Engine;
 use blk_base::{Device, Room};
@@ -46,7 +46,7 @@ pub(crate) fn run_requests<D: Device>(engine: &mut Engine<D>, ops: Vec<Op>)
 
 /// The room that the history of some requests needs, where that can be counted.
 pub(crate) fn room_for(ops: &[Op]) -> Option<Room>
-    ensures { IfSome result (IsRoomFor ops.now) }
+    ensures { IfSome result (IsRoomForRequests ops.now) }
 {
     let mut room = Room {
         entries: 0,

@@ -1,6 +1,6 @@
 //! The calls of the program.
 ghost use Rattle.std.specs.Prelude.{◌≡◌, List, ℕ};
-ghost use Rattle.qblk_inputs.specs.Words.{texts_of};
+ghost use Rattle.qblk_inputs.specs.Words.{texts_in};
 ghost use Rattle.qblk_core.specs.Words.{IsIo};
 ghost use Rattle.qblk_core.specs.Run.{Answers, TellsFaults};
 ghost use Rattle.qblk_core.specs.declared.words.Format.{Format};
@@ -21,10 +21,10 @@ pub fn run_io<S: Store, K: Sink>(
     out: &mut K,
 ) -> (Status, S)
     requires form { (format : Format) × (image : List ℕ) × (trace : List ℕ)
-        × IsIo (texts_of words.now) format image trace }
+        × IsIo (texts_in words.now) format image trace }
     requires none_out { NoneOut (S.opened store) }
     ensures ended { (format : Format) (image trace : List ℕ)
-        → IsIo (texts_of words.now) format image trace → Answers format image trace
+        → IsIo (texts_in words.now) format image trace → Answers format image trace
         (record {
           files = S.files store;
           opened = S.opened store;
@@ -74,7 +74,7 @@ pub fn qblk<S: Store, K: Sink>(alloc: Global, words: &[Text], store: S, out: &mu
 
     // `io FORMAT IMAGE TRACE`
     ensures io { (format : Format) (image trace : List ℕ)
-        → IsIo (texts_of words.now) format image trace → Answers format image trace
+        → IsIo (texts_in words.now) format image trace → Answers format image trace
         (record {
           files = S.files store;
           opened = S.opened store;
@@ -92,7 +92,8 @@ pub fn qblk<S: Store, K: Sink>(alloc: Global, words: &[Text], store: S, out: &mu
         result.0 }
 
     // all other words: nothing is done
-    ensures usage { ((format : Format) (image trace : List ℕ) → IsIo (texts_of words.now) format image trace
+    ensures usage { ((format : Format) (image trace : List ℕ)
+        → IsIo (texts_in words.now) format image trace
         → ⊥) → (result.0 ≡ Status.Usage) × (result.1 ≡ store) × (out.new ≡ out.old) }
 
     // no fault of the store or the sink goes untold

@@ -9,8 +9,8 @@ ghost use Rattle.blk_nodes.specs.Reading.{HasRisen};
 ghost use Rattle.qblk_core.specs.Opened.{IsImageStatus};
 ghost use Rattle.blk_history.specs.Transcript.{transcript};
 ghost use Rattle.qblk_core.specs.Comes.{HaveLines};
-ghost use Rattle.qblk_core.specs.Face.{Face};
-ghost use Rattle.qblk_core.specs.ImageNodes.{seen};
+ghost use Rattle.qblk_core.specs.Face.{SessionSeen};
+ghost use Rattle.qblk_core.specs.ImageNodes.{seen_device};
 ghost use Rattle.qblk_core.specs.Run.{guest_names, Answers, StoreStands, TellsFaults};
 
 use crate::closing::device_of;
@@ -114,14 +114,15 @@ fn make_run<D: Device>(
     device: D,
 ) -> (Result<Made, Status>, D)
     ensures made { IfOk result.0
-        (λ made. (bytes : List ℕ) × (w : Face) × (read ≡ TraceRead.Whole bytes)
-        × AreRequestsMade format bytes (seen D.Device device) (seen D.Device result.1) w made.fault
+        (λ made. (bytes : List ℕ) × (w : SessionSeen) × (read ≡ TraceRead.Whole bytes)
+        × AreRequestsMade format bytes (seen_device D.Device device)
+        (seen_device D.Device result.1) w made.fault
         × (made.history ≡ w.log) × (made.names ≡ guest_names) × (made.line.bytes ≡ [])
         × (393476 ≤ made.line.spare)) }
     ensures stop { IfErr result.0 (IsRunStop format image.now trace.now read
-        (seen D.Device device) (seen D.Device result.1)) }
+        (seen_device D.Device device) (seen_device D.Device result.1)) }
     ensures kept { OnErr result.0
-        (HasRisen (seen D.Device device) (seen D.Device result.1)) }
+        (HasRisen (seen_device D.Device device) (seen_device D.Device result.1)) }
 {
     let (nodes, node) = match open_nodes(alloc, format, device) {
         Ok(opened) => opened,

@@ -6,10 +6,10 @@ ghost use Rattle.blk_history.specs.Disk.{done_in};
 ghost use Rattle.blk_history.specs.Machine.{done_by};
 ghost use Rattle.blk_history.specs.Legal.{Tells};
 ghost use Rattle.blk_nodes.specs.Joined.{IsJoined};
-ghost use Rattle.blk_nodes.specs.Nodes.{size_of};
+ghost use Rattle.blk_nodes.specs.Nodes.{node_size};
 ghost use Rattle.blk_pieces.specs.Pieces.{IsPartAsked, Transfers, shown_of};
 ghost use Rattle.qblk_core.specs.Along.{CountsOutcome, HasForm};
-ghost use Rattle.qblk_core.specs.ImageNodes.{HaveOneImage, HaveShapeOf, told_disk, faults_of};
+ghost use Rattle.qblk_core.specs.ImageNodes.{HaveOneImage, HaveShapeOf, told_disk, device_faults};
 
 use blk_base::{Device, Outcome, Span};
 use blk_graph::NodeId;
@@ -29,7 +29,7 @@ pub(crate) fn transfer<D: Device>(
     requires whole { length buffer.old ≡ part.len }
     requires part { IsPartAsked op.now part }
     requires block { IsWithinCluster 65536 part }
-    requires inside { end_of part ≤ size_of nodes.old 1 }
+    requires inside { end_of part ≤ node_size nodes.old 1 }
     ensures length { length buffer.new ≡ part.len }
     ensures done { Transfers op.now nodes.old nodes.new 1 1 part result buffer.new }
     ensures joined { IsJoined nodes.new }
@@ -40,8 +40,8 @@ pub(crate) fn transfer<D: Device>(
     ensures disk { told_disk nodes.new
         ≡ option_map (done_in op.now part (done_by result part)) (told_disk nodes.old) }
     ensures form { HasForm result op.now part }
-    ensures cause { CountsOutcome (faults_of nodes.old) (faults_of nodes.new) result }
-    ensures faults { faults_of nodes.old ≤ faults_of nodes.new }
+    ensures cause { CountsOutcome (device_faults nodes.old) (device_faults nodes.new) result }
+    ensures faults { device_faults nodes.old ≤ device_faults nodes.new }
 {
     let _ = nodes.edges();
     let outcome = blk_pieces::transfer(nodes, image, image, op, part, buffer);

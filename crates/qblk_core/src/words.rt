@@ -1,7 +1,7 @@
 //! The words of the program.
 ghost use Rattle.std.specs.Prelude.{◌≡◌, List, ℕ, bytes_eq, MatchOption};
-ghost use Rattle.qblk_inputs.specs.Words.{texts_of};
-ghost use Rattle.qblk_core.specs.Words.{format_of, IsIo};
+ghost use Rattle.qblk_inputs.specs.Words.{texts_in};
+ghost use Rattle.qblk_core.specs.Words.{format_by_word, IsIo};
 ghost use Rattle.qblk_core.specs.declared.words.Format.{Format};
 
 use blk_base::Text;
@@ -25,7 +25,7 @@ fn is_word(word: &Text, text: &str) -> bool
 
 /// The format that a word names.
 fn format_named(word: &Text) -> Option<Format>
-    ensures { result ≡ format_of word.now.bytes }
+    ensures { result ≡ format_by_word word.now.bytes }
 {
     if is_word(word, "raw") {
         Some(Format::Raw)
@@ -47,9 +47,9 @@ pub(crate) struct IoWords<'a> {
 /// The format, the image and the trace of the form `io FORMAT IMAGE TRACE`.
 pub(crate) fn io_words(words: &[Text]) -> Option<IoWords<'_>>
     ensures { MatchOption result
-        ((format : Format) (image trace : List ℕ) → IsIo (texts_of words.now) format image trace
+        ((format : Format) (image trace : List ℕ) → IsIo (texts_in words.now) format image trace
         → ⊥)
-        (λ io. IsIo (texts_of words.now) io.format io.image.now io.trace.now) }
+        (λ io. IsIo (texts_in words.now) io.format io.image.now io.trace.now) }
 {
     let [io, format, image, trace] = words else {
         return None;

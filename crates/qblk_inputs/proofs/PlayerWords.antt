@@ -6,15 +6,15 @@ use Rattle.std.proofs.lemmas.List.{drop_more, drop_all, take_all, length-map}
 use Rattle.std.proofs.lemmas.List.Folds.{list_all-map}
 use Rattle.std.proofs.lemmas.Slice.Eq.{bytes_eq-Decides}
 use Rattle.blk_base.specs.Written.{Written}
-use Rattle.qblk_inputs.specs.Words.{texts_of, is_file_name, player_of, names_of, all_differ, is_player, are_players, cast_of, IsRunOf}
+use Rattle.qblk_inputs.specs.Words.{texts_in, is_file_word, player_of, player_names, all_differ, is_player, are_players, cast_of, IsRunOf}
 
 -- words that begin so and go on with guests are a run's
 pub is_run : (words rest : List Written) (run one script : Written) → words ≡ run ∷ one ∷ script ∷ rest
-    → bytes_eq run.bytes (codes "run") ≡ true → bytes_eq one.bytes (codes "1") ≡ true → is_file_name script.bytes ≡ true → are_players (texts_of rest) ≡ true
-    → IsRunOf (texts_of words) (cast_of script.bytes (texts_of rest))
+    → bytes_eq run.bytes (codes "run") ≡ true → bytes_eq one.bytes (codes "1") ≡ true → is_file_word script.bytes ≡ true → are_players (texts_in rest) ≡ true
+    → IsRunOf (texts_in words) (cast_of script.bytes (texts_in rest))
 is_run words rest run one script form r o s p = record {
-  rest = texts_of rest;
-  form = ap texts_of form ∙ rw ((bytes_eq-Decides run.bytes (codes "run")).0 r, (bytes_eq-Decides one.bytes (codes "1")).0 o) refl;
+  rest = texts_in rest;
+  form = ap texts_in form ∙ rw ((bytes_eq-Decides run.bytes (codes "run")).0 r, (bytes_eq-Decides one.bytes (codes "1")).0 o) refl;
   script_name = s;
   players = p;
   cut = refl;
@@ -22,48 +22,48 @@ is_run words rest run one script form r o s p = record {
 
 -- a guest is among those that words name
 pub names_it : (name : List ℕ) (words : List Written)
-    → list_any (λ other. bytes_eq name other) (names_of (map player_of (texts_of words))) ≡ list_any (λ w. bytes_eq name (player_of w.bytes).name) words
+    → list_any (λ other. bytes_eq name other) (player_names (map player_of (texts_in words))) ≡ list_any (λ w. bytes_eq name (player_of w.bytes).name) words
 names_it name [] = refl
 names_it name (w ∷ words) = ap (λ b. bytes_eq name (player_of w.bytes).name || b) (names_it name words)
 
 -- words of which the first names a guest that is among the others, or that is not
 pub differ_no : (w : Written) (words : List Written) → list_any (λ v. bytes_eq (player_of w.bytes).name (player_of v.bytes).name) words ≡ true
-    → all_differ (names_of (map player_of (texts_of (w ∷ words)))) ≡ false
+    → all_differ (player_names (map player_of (texts_in (w ∷ words)))) ≡ false
 differ_no w words is = rw (names_it (player_of w.bytes).name words, is) refl
 
 pub differ_on : (w : Written) (words : List Written) → list_any (λ v. bytes_eq (player_of w.bytes).name (player_of v.bytes).name) words ≡ false
-    → all_differ (names_of (map player_of (texts_of (w ∷ words)))) ≡ all_differ (names_of (map player_of (texts_of words)))
+    → all_differ (player_names (map player_of (texts_in (w ∷ words)))) ≡ all_differ (player_names (map player_of (texts_in words)))
 differ_on w words is = rw (names_it (player_of w.bytes).name words, is) refl
 
 -- the words from one on
 pub players_from : (words : List Written) (i : ℕ) (w : Written) → i < length words → w ≡ get_or words i w
-    → map player_of (texts_of (drop i words)) ≡ player_of w.bytes ∷ map player_of (texts_of (drop (i + 1) words))
+    → map player_of (texts_in (drop i words)) ≡ player_of w.bytes ∷ map player_of (texts_in (drop (i + 1) words))
 players_from words i w below is = rw (drop_more words i w below, ← is) refl
 
-pub players_none : (words : List Written) (i : ℕ) → length words ≤ i → map player_of (texts_of (drop i words)) ≡ []
+pub players_none : (words : List Written) (i : ℕ) → length words ≤ i → map player_of (texts_in (drop i words)) ≡ []
 players_none words i le = rw (drop_all i words le) refl
 
 -- ---- the tests of a run's words
 
-pub players_many : (words : List Written) → 16 < length words → false ≡ are_players (texts_of words)
+pub players_many : (words : List Written) → 16 < length words → false ≡ are_players (texts_in words)
 players_many words h =
-    let many : leb (length (texts_of words)) 16 ≡ false = grind (arith, length-map words (λ (w : Written). w.bytes), h) in
+    let many : leb (length (texts_in words)) 16 ≡ false = grind (arith, length-map words (λ (w : Written). w.bytes), h) in
     rw many refl
 
-pub players_other : (words : List Written) → false ≡ list_all (λ w. is_player w.bytes) words → false ≡ are_players (texts_of words)
+pub players_other : (words : List Written) → false ≡ list_all (λ w. is_player w.bytes) words → false ≡ are_players (texts_in words)
 players_other words h =
-    let other : list_all is_player (texts_of words) ≡ false = list_all-map is_player (λ (w : Written). w.bytes) words ∙ sym h in
-    rw other (sym (right-false (leb (length (texts_of words)) 16)))
+    let other : list_all is_player (texts_in words) ≡ false = list_all-map is_player (λ (w : Written). w.bytes) words ∙ sym h in
+    rw other (sym (right-false (leb (length (texts_in words)) 16)))
   where
     right-false : (b : Bool) → (b && false) ≡ false
     right-false true = refl
     right-false false = refl
 
 pub players_all : (words : List Written) → length words ≤ 16 → true ≡ list_all (λ w. is_player w.bytes) words
-    → all_differ (names_of (map player_of (texts_of words))) ≡ are_players (texts_of words)
+    → all_differ (player_names (map player_of (texts_in words))) ≡ are_players (texts_in words)
 players_all words le h =
-    let few : leb (length (texts_of words)) 16 ≡ true = grind (arith, length-map words (λ (w : Written). w.bytes), le) in
-    let all : list_all is_player (texts_of words) ≡ true = list_all-map is_player (λ (w : Written). w.bytes) words ∙ sym h in
+    let few : leb (length (texts_in words)) 16 ≡ true = grind (arith, length-map words (λ (w : Written). w.bytes), le) in
+    let all : list_all is_player (texts_in words) ≡ true = list_all-map is_player (λ (w : Written). w.bytes) words ∙ sym h in
     rw (few, all) refl
 
 -- ---- patterns

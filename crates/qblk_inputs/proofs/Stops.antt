@@ -14,7 +14,7 @@ use Rattle.qblk_inputs.specs.declared.stop.InputFlaw.{InputFlaw}
 use Rattle.qblk_inputs.specs.declared.stop.InputFlaw.TheVariants.{Absent, NotUtf8, TooLong, BadLine, TooMany}
 use Rattle.qblk_inputs.specs.declared.stop.InputStop.{InputStop}
 use Rattle.qblk_inputs.specs.declared.stop.InputStop.TheVariants.{Refused, Failed, NoMemory}
-use Rattle.qblk_inputs.specs.Inputs.{IsText, IsScript, IsTrace, IsBadText, IsRefusedScript, IsRefusedTrace, IsScriptFlaw, IsTraceFlaw}
+use Rattle.qblk_inputs.specs.Inputs.{IsText, IsScript, ReadsAsTrace, IsBadText, IsRefusedScript, IsRefusedTrace, IsScriptFlaw, IsTraceFlaw}
 use Rattle.qblk_inputs.specs.Reading.{IsReadOfFile, IsUnread, IsUnreadFlaw, IsInputRefusal, StopsFor, OfFile}
 use Rattle.qblk_inputs.proofs.LineNumbers.{wishes_at_line}
 
@@ -114,9 +114,9 @@ script_long told name bytes h text many =
     (refl, refl, reads told name bytes (λ bs. IsText bs × (4097 ≡ 4097) × (4096 < count_of_lines (lines_of bs))) h (λ short. (record { short = short; text = text }, refl, many)))
 
 pub trace_read : (told : Option (List File)) (name bytes : List ℕ) (before asked : Amounts) (wishes : List Wish) → IfTold told (IsReadOfFile name bytes)
-    → IsUtf8 bytes → wishes_in before bytes ≡ Ok (wishes, asked) → IfTold told (HasFile name (λ f. IsTrace before wishes asked f.bytes))
+    → IsUtf8 bytes → wishes_in before bytes ≡ Ok (wishes, asked) → IfTold told (HasFile name (λ f. ReadsAsTrace before wishes asked f.bytes))
 trace_read told name bytes before asked wishes h text is =
-    reads told name bytes (IsTrace before wishes asked) h (λ short. record { text = record { short = short; text = text }; read = is })
+    reads told name bytes (ReadsAsTrace before wishes asked) h (λ short. record { text = record { short = short; text = text }; read = is })
 
 pub trace_bad : (told : Option (List File)) (name bytes : List ℕ) (before : Amounts) (line : ℕ) → IfTold told (IsReadOfFile name bytes)
     → IsUtf8 bytes → wishes_in before bytes ≡ Err (stops.BadLine line) → OfFile told name IsTraceFlaw (IsRefusedTrace before) name BadLine line

@@ -10,7 +10,7 @@ use Rattle.trace_codec.specs.declared.wish.Wish.{Wish}
 use Rattle.qblk_inputs.specs.declared.stop.InputFlaw.{InputFlaw}
 use Rattle.trace_codec.specs.Script.{Order}
 use Rattle.qblk_inputs.specs.Words.{Player, Cast, guests_of}
-use Rattle.qblk_inputs.specs.Inputs.{IsScript, IsTrace, HasTraces, HasWork, IsRefusedScript, IsRefusedTrace, IsFirstRefused, IsRefusedInput, IsScriptFlaw, IsTraceFlaw}
+use Rattle.qblk_inputs.specs.Inputs.{IsScript, ReadsAsTrace, HasTraces, HasWork, IsRefusedScript, IsRefusedTrace, IsFirstRefused, IsRefusedInput, IsScriptFlaw, IsTraceFlaw}
 use Rattle.qblk_inputs.specs.Reading.{OfFile, OfTraces, OfInputs}
 
 abbrev traces_of : List Player → List (List ℕ)
@@ -26,17 +26,17 @@ pub ahead-first : (told : Option (List File)) (players : List Player) → IsAhea
 ahead-first told players = record { good = λ more h. h; bad = λ name why line h. h; names = λ name h. h }
 
 more-traces : (told : Option (List File)) (before asked : Amounts) (p : Player) (rest : List Player) (wishes : List Wish) (more : List (List Wish))
-    → IfTold told (HasFile p.trace (λ f. IsTrace before wishes asked f.bytes)) → IfTold told (HasTraces asked rest more) → IfTold told (HasTraces before (p ∷ rest) (wishes ∷ more))
+    → IfTold told (HasFile p.trace (λ f. ReadsAsTrace before wishes asked f.bytes)) → IfTold told (HasTraces asked rest more) → IfTold told (HasTraces before (p ∷ rest) (wishes ∷ more))
 more-traces None before asked p rest wishes more here h = tt
 more-traces (Some files) before asked p rest wishes more here h = (asked, here, h)
 
 more-refused : (told : Option (List File)) (before asked : Amounts) (p : Player) (rest : List Player) (wishes : List Wish) (name : List ℕ) (why : InputFlaw) (line : ℕ)
-    → IfTold told (HasFile p.trace (λ f. IsTrace before wishes asked f.bytes)) → IfTold told (IsFirstRefused asked rest name line why) → IfTold told (IsFirstRefused before (p ∷ rest) name line why)
+    → IfTold told (HasFile p.trace (λ f. ReadsAsTrace before wishes asked f.bytes)) → IfTold told (IsFirstRefused asked rest name line why) → IfTold told (IsFirstRefused before (p ∷ rest) name line why)
 more-refused None before asked p rest wishes name why line here h = tt
 more-refused (Some files) before asked p rest wishes name why line here h = inr (wishes, asked, here, h)
 
 pub ahead-next : (told : Option (List File)) (players : List Player) (before asked : Amounts) (p : Player) (rest : List Player) (done : List (List Wish)) (wishes : List Wish)
-    → IfTold told (HasFile p.trace (λ f. IsTrace before wishes asked f.bytes)) → IsAhead told players before (p ∷ rest) done → IsAhead told players asked rest (done ++ wishes ∷ [])
+    → IfTold told (HasFile p.trace (λ f. ReadsAsTrace before wishes asked f.bytes)) → IsAhead told players before (p ∷ rest) done → IsAhead told players asked rest (done ++ wishes ∷ [])
 ahead-next told players before asked p rest done wishes here a = record {
   good = λ more h. subst (λ ts. IfTold told (HasTraces nothing players ts)) (sym (append_assoc done (wishes ∷ []) more)) (a.good (wishes ∷ more) (more-traces told before asked p rest wishes more here h));
   bad = λ name why line h. a.bad name why line (more-refused told before asked p rest wishes name why line here h);

@@ -31,7 +31,8 @@ pub record IsScript (guests : List (List ℕ)) (orders : List Order) (bytes : Li
   pub orders_are : orders ≡ orders_of guests bytes
 
 -- a trace, behind those that ask for so much; with it all ask for so much
-pub record IsTrace (before : Amounts) (wishes : List Wish) (asked : Amounts) (bytes : List ℕ) : Type
+pub record ReadsAsTrace (before : Amounts) (wishes : List Wish) (asked : Amounts)
+    (bytes : List ℕ) : Type
     0 where
   pub text : IsText bytes
   pub read : wishes_in before bytes ≡ Ok (wishes, asked)
@@ -39,7 +40,7 @@ pub record IsTrace (before : Amounts) (wishes : List Wish) (asked : Amounts) (by
 abbrev pub HasTraces : Amounts → List Player → List (List Wish) → List File → Type 0
 HasTraces before [] [] files = Unit {0}
 HasTraces before (p ∷ players) (wishes ∷ traces) files =
-    (asked : Amounts) × HasFile p.trace (λ f. IsTrace before wishes asked f.bytes) files
+    (asked : Amounts) × HasFile p.trace (λ f. ReadsAsTrace before wishes asked f.bytes) files
     × HasTraces asked players traces files
 HasTraces before _ _ files = ⊥
 
@@ -83,7 +84,7 @@ IsFirstRefused before [] name line why files = ⊥
 IsFirstRefused before (p ∷ players) name line why files =
     ((name ≡ p.trace) × IsRefusedTrace before why line p.trace files)
     ⊎ ((wishes : List Wish) × (asked : Amounts)
-    × HasFile p.trace (λ f. IsTrace before wishes asked f.bytes) files
+    × HasFile p.trace (λ f. ReadsAsTrace before wishes asked f.bytes) files
     × IsFirstRefused asked players name line why files)
 
 -- the script before the traces

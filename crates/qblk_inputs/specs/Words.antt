@@ -4,12 +4,12 @@ use Rattle.std.specs.List.{list_any, list_all, before_first, after_first}
 use Rattle.trace_codec.specs.Awaits.{is_name}
 use Rattle.blk_base.specs.Written.{Written}
 
-abbrev pub texts_of : List Written → List (List ℕ)
-texts_of words = map (λ w. w.bytes) words
+abbrev pub texts_in : List Written → List (List ℕ)
+texts_in words = map (λ w. w.bytes) words
 
 -- a file name has 1 to 1,023 bytes, none of them zero; no word begins with `-`
-abbrev pub is_file_name : List ℕ → Bool
-is_file_name word =
+abbrev pub is_file_word : List ℕ → Bool
+is_file_word word =
     nat_lt 0 (length word) && nat_lt (length word) 1024 && not (slice_index word 0 == 45)
     && not (list_any (λ b. b == 0) word)
 
@@ -46,11 +46,11 @@ pub record Cast : Type 0 where
   pub players : List Player
 
 -- the guests, by number
-abbrev pub names_of : List Player → List (List ℕ)
-names_of players = map (λ p. p.name) players
+abbrev pub player_names : List Player → List (List ℕ)
+player_names players = map (λ p. p.name) players
 
 abbrev pub guests_of : Cast → List (List ℕ)
-guests_of cast = names_of cast.players
+guests_of cast = player_names cast.players
 
 abbrev pub cast_of : List ℕ → List (List ℕ) → Cast
 cast_of script words = record { script = script; players = map player_of words }
@@ -59,12 +59,12 @@ cast_of script words = record { script = script; players = map player_of words }
 abbrev pub are_players : List (List ℕ) → Bool
 are_players words =
     nat_le (length words) 16
-    && (list_all is_player words && all_differ (names_of (map player_of words)))
+    && (list_all is_player words && all_differ (player_names (map player_of words)))
 
 -- `run 1 SCRIPT GUEST=TRACE ..`
 pub record IsRunOf (words : List (List ℕ)) (cast : Cast) : Type 0 where
   pub rest : List (List ℕ)
   pub form : words ≡ codes "run" ∷ codes "1" ∷ cast.script ∷ rest
-  pub script_name : is_file_name cast.script ≡ true
+  pub script_name : is_file_word cast.script ≡ true
   pub players : are_players rest ≡ true
   pub cut : cast.players ≡ map player_of rest

@@ -4,8 +4,8 @@ ghost use Rattle.blk_base.specs.Answers.{HasFile};
 ghost use Rattle.blk_base.specs.Files.{IfTold};
 ghost use Rattle.trace_codec.specs.Amounts.{nothing};
 ghost use Rattle.trace_codec.specs.Script.{seen_order};
-ghost use Rattle.qblk_inputs.specs.Words.{texts_of, player_of, names_of, guests_of, cast_of};
-ghost use Rattle.qblk_inputs.specs.Inputs.{IsScript, IsTrace, HasTraces, IsRefusedScript, IsRefusedTrace, HasWork, IsScriptFlaw, IsTraceFlaw};
+ghost use Rattle.qblk_inputs.specs.Words.{texts_in, player_of, player_names, guests_of, cast_of};
+ghost use Rattle.qblk_inputs.specs.Inputs.{IsScript, ReadsAsTrace, HasTraces, IsRefusedScript, IsRefusedTrace, HasWork, IsScriptFlaw, IsTraceFlaw};
 ghost use Rattle.qblk_inputs.specs.Reading.{NoneOut, IsReadOfFile, IsUnread, IsUnreadFlaw, IsInputRefusal, StopsFor, OfFile, OfTraces, OfInputs};
 
 use crate::stop::{InputFlaw, InputStop};
@@ -107,7 +107,7 @@ fn read_trace<S: Store>(
 ) -> Result<Vec<Wish>, InputStop>
     requires { NoneOut (S.opened store.old) }
     ensures read { IfOk result (λ wishes. IfTold (S.files store.old) (HasFile name.now
-        (λ f. IsTrace asked.old wishes.items asked.new f.bytes))) }
+        (λ f. ReadsAsTrace asked.old wishes.items asked.new f.bytes))) }
     ensures stop { IfErr result (StopsFor
         (OfFile (S.files store.old) name.now IsTraceFlaw (IsRefusedTrace asked.old))
         (S.faults store.old) (S.faults store.new)) }
@@ -139,10 +139,10 @@ fn read_traces<S: Store>(
 ) -> Result<Vec<Vec<Wish>>, InputStop>
     requires { NoneOut (S.opened store.old) }
     ensures read { IfOk result (λ traces. IfTold (S.files store.old) (HasTraces nothing
-        (map player_of (texts_of players.now)) (map (λ t. t.items) traces.items))) }
+        (map player_of (texts_in players.now)) (map (λ t. t.items) traces.items))) }
     ensures count { IfOk result (λ traces. vec_len traces ≡ length players.now) }
     ensures stop { IfErr result (StopsFor
-        (OfTraces (S.files store.old) (map player_of (texts_of players.now)))
+        (OfTraces (S.files store.old) (map player_of (texts_in players.now)))
         (S.faults store.old) (S.faults store.new)) }
     ensures files { S.files store.new ≡ S.files store.old }
     ensures opened { S.opened store.new ≡ S.opened store.old }
@@ -166,7 +166,7 @@ fn read_traces<S: Store>(
 
 /// The names of the guests, by number.
 fn guest_names(alloc: Global, players: &[Text]) -> Result<Names1, NoMemory>
-    ensures { IfOk result (λ names. names ≡ names_of (map player_of (texts_of players.now))) }
+    ensures { IfOk result (λ names. names ≡ player_names (map player_of (texts_in players.now))) }
 {
     let mut names = Vec::new(alloc);
     for word in players {
@@ -187,15 +187,15 @@ pub fn read_inputs<S: Store>(
     requires none_out { NoneOut (S.opened store.old) }
     requires few { length players.now ≤ 16 }
     ensures guests { IfOk result (λ i.
-        i.guests ≡ guests_of (cast_of script.now (texts_of players.now))) }
+        i.guests ≡ guests_of (cast_of script.now (texts_in players.now))) }
     ensures count { IfOk result (λ i. vec_len i.traces ≡ length players.now) }
     ensures read { IfOk result (λ i. IfTold (S.files store.old)
-        (HasWork (cast_of script.now (texts_of players.now)) (record {
+        (HasWork (cast_of script.now (texts_in players.now)) (record {
           script = map seen_order i.script.items;
           traces = map (λ t. t.items) i.traces.items;
         }))) }
     ensures stop { IfErr result (StopsFor
-        (OfInputs (S.files store.old) (cast_of script.now (texts_of players.now)))
+        (OfInputs (S.files store.old) (cast_of script.now (texts_in players.now)))
         (S.faults store.old) (S.faults store.new)) }
     ensures files { S.files store.new ≡ S.files store.old }
     ensures opened { S.opened store.new ≡ S.opened store.old }

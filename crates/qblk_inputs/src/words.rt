@@ -1,7 +1,7 @@
 //! The words of a run.
 ghost use Rattle.std.specs.Prelude.{◌≡◌, ◌==◌, ◌<◌, bytes_eq, map, length, MatchOption};
 ghost use Rattle.std.specs.List.{list_any, list_all, position_or_len, before_first, after_first};
-ghost use Rattle.qblk_inputs.specs.Words.{Cast, IsRunOf, texts_of, is_file_name, is_inner_name, is_player, player_of, names_of, are_players, all_differ, cast_of};
+ghost use Rattle.qblk_inputs.specs.Words.{Cast, IsRunOf, texts_in, is_file_word, is_inner_name, is_player, player_of, player_names, are_players, all_differ, cast_of};
 
 use blk_base::Text;
 use trace_codec::is_name;
@@ -25,7 +25,7 @@ fn is_word(word: &Text, text: &str) -> bool
 
 /// Whether a word names a file: 1 to 1,023 bytes without a zero byte, the first no `-`.
 pub fn names_file(word: &str) -> bool
-    ensures { result ≡ is_file_name word.now }
+    ensures { result ≡ is_file_word word.now }
 {
     let bytes = word.as_bytes();
     !bytes.is_empty() && bytes.len() < 1024 && bytes[0] != b'-' && !bytes.contains(&0)
@@ -70,7 +70,7 @@ fn is_player(word: &str) -> bool
 
 /// Whether the words name guests of different names.
 fn all_differ(words: &[Text]) -> bool
-    ensures { result ≡ all_differ (names_of (map player_of (texts_of words.now))) }
+    ensures { result ≡ all_differ (player_names (map player_of (texts_in words.now))) }
 {
     let mut rest = words;
     while let [word, others @ ..] = rest {
@@ -100,7 +100,7 @@ fn all_players(words: &[Text]) -> bool
 
 /// Whether the words are at most 16 guests with their traces, of different names.
 fn are_players(words: &[Text]) -> bool
-    ensures { result ≡ are_players (texts_of words.now) }
+    ensures { result ≡ are_players (texts_in words.now) }
 {
     if words.len() > 16 {
         return false;
@@ -113,8 +113,8 @@ fn are_players(words: &[Text]) -> bool
 
 /// The script and the guests of the form `run 1 SCRIPT GUEST=TRACE ..`.
 pub fn run_words(words: &[Text]) -> Option<RunWords<'_>>
-    ensures { MatchOption result ((cast : Cast) → IsRunOf (texts_of words.now) cast → ⊥)
-        (λ run. IsRunOf (texts_of words.now) (cast_of run.script.now (texts_of run.players.now))) }
+    ensures { MatchOption result ((cast : Cast) → IsRunOf (texts_in words.now) cast → ⊥)
+        (λ run. IsRunOf (texts_in words.now) (cast_of run.script.now (texts_in run.players.now))) }
 {
     let [run, workers, script, players @ ..] = words else {
         return None;

@@ -12,7 +12,7 @@ use Rattle.blk_base.specs.declared.fault.FaultFrom.TheVariants.{Dev}
 use Rattle.blk_base.specs.declared.file.File.{File}
 use Rattle.blk_base.specs.declared.memory.Room.{Room}
 use Rattle.trace_codec.specs.declared.waits.Waits.{Waits}
-use Rattle.qmp_rules.specs.Table.{Table}
+use Rattle.qmp_rules.specs.Table.{RunTable}
 use Rattle.blk_history.specs.Fold.{With}
 use Rattle.flat_machine.specs.State.{State, Guest}
 use Rattle.flat_machine.specs.Final.{AreDisks}
@@ -27,7 +27,7 @@ use Rattle.flat_machine.specs.Licence.{Counts, AreLicensed}
 use Rattle.flat_machine.specs.declared.opening.Opening.{Opening}
 use Rattle.world_commands.specs.Closing.{IsToldBack, count_back, store_in}
 use Rattle.world_commands.specs.Comes.{Comes}
-use Rattle.world_parts.specs.Face.{Face, seen_state, first_counts, counts_now}
+use Rattle.world_parts.specs.Face.{WorldSeen, seen_state, first_counts, counts_now}
 use Rattle.world_parts.specs.Progress.{ended_in}
 use Rattle.world_parts.specs.Steps.{StoreSeen, IsOpeningOf, new_world}
 use Rattle.world_commands.specs.Tabling.{IsTableAfter}
@@ -60,12 +60,12 @@ opening-of store guests = record { guests_are = refl; files_are = by_files store
     by_files (Some files) told = refl
 
 -- the numbers that an entry prints have 64 bits
-small-event : (w v : Face) (e : Event) → IsEventOf w v e → IsSmall e
+small-event : (w v : WorldSeen) (e : Event) → IsEventOf w v e → IsSmall e
 small-event w v (Piece g r k outcome got) event = event.left.made.fits
 small-event w v (End job outcome offset) event = absurd event.left
 small-event w v _ event = tt
 
-all-small : (o : Opening) (c : Course) (w : Face) (h : List Event) (v : Face) → GoesThrough o c w h v → All IsSmall h
+all-small : (o : Opening) (c : Course) (w : WorldSeen) (h : List Event) (v : WorldSeen) → GoesThrough o c w h v → All IsSmall h
 all-small o c w [] v through = All-nil IsSmall
 all-small o c w (e ∷ h) v through =
     All-cons IsSmall e h (small-event through.0 through.1 e through.4) (all-small o (onward c e) through.1 h v through.5)
@@ -76,7 +76,7 @@ with-none P (Some a) holds none = let bad : ⊥ = cc none in bad
 
 -- ---- the account of a world that was closed
 
-module _ (old : StoreSeen) (guests : List (List ℕ)) (w v : Face) (store : StoreSeen) (fault : Option FaultAt)
+module _ (old : StoreSeen) (guests : List (List ℕ)) (w v : WorldSeen) (store : StoreSeen) (fault : Option FaultAt)
     (earlier : w.earlier ≡ old.opened) (first : w.first_faults ≡ old.faults) (telling : is_some w.files ≡ is_some old.files) (roomy : w.room ≡ old.room)
     (counted : v.first_faults ≤ v.faults) (stays : StaysIn w v) (comes : Comes (opening_by old guests) v) (end : IsEnd v store fault) where
   abbrev pub account : Account
@@ -135,7 +135,7 @@ module _ (old : StoreSeen) (guests : List (List ℕ)) (w v : Face) (store : Stor
 
   pub run-is : (cast : Cast) (work : Work) (had : Bool) → guests_of cast ≡ guests → length work.traces ≡ length guests
       → KeepsOrder (course_of work.script work.traces) v.progress.log.events
-      → (room : Room) → room ≡ history_room work → (near : Face)
+      → (room : Room) → room ≡ history_room work → (near : WorldSeen)
       → GoesThrough (opening_by old guests) (course_of work.script work.traces) (new_world old guests room) v.progress.log.events near
       → IsLast had (course_after (course_of work.script work.traces) v.progress.log.events).script near v → IsRun cast work had fault old store account
   run-is cast work had names count order room sized near through is_last = record {
@@ -192,7 +192,7 @@ module _ (old : StoreSeen) (guests : List (List ℕ)) (w v : Face) (store : Stor
         idle = rw comes.requests at (all-idle v.progress.guests (idle-at v after work.script work.traces can keeps done));
       };
       history = λ told. comes.history.history (told-as told);
-      jobs = λ told. ap (λ (t : Table). t.jobs) (comes.shows (told-as told)).table.table_is ∙ comes.coherent.jobs;
+      jobs = λ told. ap (λ (t : RunTable). t.jobs) (comes.shows (told-as told)).table.table_is ∙ comes.coherent.jobs;
     }
 
     -- what is asked of a state is asked of its table, its guests and the actors that are done
@@ -237,10 +237,10 @@ module _ (old : StoreSeen) (guests : List (List ℕ)) (w v : Face) (store : Stor
             record {
               state = s;
               table =
-                  subst (λ (t : Table). IsTableAfter guests v.progress.log.events t s.dirty) (sym shows.table.table_is)
+                  subst (λ (t : RunTable). IsTableAfter guests v.progress.log.events t s.dirty) (sym shows.table.table_is)
                   (subst (IsTableAfter guests v.progress.log.events v.table) (sym shows.dirty) comes.table);
               devices = subst (HaveDevices guests v.progress.log.events) (sym shows.table.table_is) devices;
-              jobs = ap (λ (t : Table). t.jobs) shows.table.table_is ∙ comes.coherent.jobs;
+              jobs = ap (λ (t : RunTable). t.jobs) shows.table.table_is ∙ comes.coherent.jobs;
               told = λ is. refl;
               guests = shows.guests.guests_are ∙ comes.requests;
               ended = shows.guests.ended_are ∙ sym ended;

@@ -2,7 +2,7 @@
 use Rattle.std.proofs.Common.{◌≡◌, ◌↔◌, ℕ, true, false, Bool, List, IsTrue, Option, Some, None, refl, sym, ap}
 use Rattle.std.specs.Prelude.{Contains}
 use Rattle.std.proofs.lemmas.Bool.{false≢true}
-use Rattle.qmp_rules.specs.Chains.{has_id}
+use Rattle.qmp_rules.specs.Chains.{is_listed}
 use Rattle.world_parts.proofs.Ends.{has-is, is-has}
 use Rattle.flat_machine.specs.Courses.{is_answered}
 use Rattle.trace_codec.specs.declared.wish.Wish.{Wish}
@@ -12,9 +12,9 @@ use Rattle.qblk_run.specs.Turns.{waited_in, is_over_in}
 -- a test that says the same
 pub answered-is : (b : Bool) (answered : List ℕ) (line : ℕ) → IsTrue b ↔ Contains answered line → b ≡ is_answered answered line
 answered-is true answered line says = sym (is-has line answered (says.0 refl))
-answered-is false answered line says = by_test (has_id line answered) refl
+answered-is false answered line says = by_test (is_listed line answered) refl
   where
-    by_test : (t : Bool) → has_id line answered ≡ t → false ≡ has_id line answered
+    by_test : (t : Bool) → is_listed line answered ≡ t → false ≡ is_listed line answered
     by_test true e = absurd (false≢true (says.1 (has-is line answered e)))
     by_test false e = sym e
 

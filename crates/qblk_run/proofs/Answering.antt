@@ -22,7 +22,7 @@ use Rattle.flat_machine.specs.Courses.{Course, course_of, course_after}
 use Rattle.flat_machine.specs.Licence.{fault_at}
 use Rattle.flat_machine.specs.declared.opening.Opening.{Opening}
 use Rattle.world_commands.specs.Comes.{Comes}
-use Rattle.world_parts.specs.Face.{Face}
+use Rattle.world_parts.specs.Face.{WorldSeen}
 use Rattle.world_parts.specs.Steps.{IsOpeningOf, new_world}
 use Rattle.qblk_core.specs.Output.{SendsFront}
 use Rattle.qblk_core.specs.declared.status.Status.{Status}
@@ -33,7 +33,7 @@ use Rattle.qblk_run.specs.Beginning.{new_tasks}
 use Rattle.qblk_run.specs.Ending.{EndsAs, ended_as, failed_as, WentOut}
 use Rattle.qblk_run.specs.Run.{Setting, Account, IsRun, WasRun, HasRunStopped, IsFaulty, Answers, history_room, whole_transcript, seen_waits}
 use Rattle.qblk_run.specs.Session.{IsPlayed}
-use Rattle.qblk_run.specs.Tasks.{HaveLines, KeepsTo, guests_only}
+use Rattle.qblk_run.specs.Tasks.{CanHaveLines, KeepsTo, guests_only}
 use Rattle.qblk_run.proofs.Accounts.{opening_by, opening-of, account, run-is, ends-done, ends-stuck, has-stopped, flush-failed}
 use Rattle.qblk_run.proofs.Beginnings.{start-keeps}
 use Rattle.qblk_run.proofs.Devices.{run-devices}
@@ -44,7 +44,7 @@ use Rattle.qblk_run.specs.Worlds.{HasCome, IsLast}
 -- ---- the transcript
 
 -- no job starts
-no-jobs : (guests : List (List ℕ)) (s : State) (h : List Event) → HaveLines guests h → jobs_from s h ≡ []
+no-jobs : (guests : List (List ℕ)) (s : State) (h : List Event) → CanHaveLines guests h → jobs_from s h ≡ []
 no-jobs guests s [] lines = refl
 no-jobs guests s (Start job ∷ h) lines = absurd (let none = lines.0.named.0 in omega arith)
 no-jobs guests s (Admit g r op ∷ h) lines = no-jobs guests (after s (Admit g r op)) h lines.1
@@ -57,7 +57,7 @@ no-jobs guests s (Ready job ∷ h) lines = absurd (let none = lines.0.named.0 in
 no-jobs guests s (End job outcome offset ∷ h) lines = absurd (let none = lines.0.named.0 in omega arith)
 no-jobs guests s (Ended actor ∷ h) lines = no-jobs guests (after s (Ended actor)) h lines.1
 
-pub printed-is : (o : Opening) (h : List Event) → HaveLines o.guests h → transcript_of o h ≡ transcript (guests_only o.guests) h
+pub printed-is : (o : Opening) (h : List Event) → CanHaveLines o.guests h → transcript_of o h ≡ transcript (guests_only o.guests) h
 printed-is o h lines = ap (λ (jobs : List _). transcript (record { guests = o.guests; jobs = jobs }) h) (no-jobs o.guests (start o) h lines)
 
 -- ---- what went out
@@ -77,7 +77,7 @@ module _ (cast : Cast) (work : Work) (old new : Setting) (room : Room) (sized : 
     (inputs : IfTold old.store.files (HasWork cast work)) (count : length work.traces ≡ length (guests_of cast))
     (played : IsPlayed (new_world old.store (guests_of cast) room) (new_tasks work.script work.traces) new.store log fault waiting)
     (begins : (o : Opening) → IsOpeningOf old.store (guests_of cast) o → Comes o (new_world old.store (guests_of cast) room)) where
-  abbrev w : Face
+  abbrev w : WorldSeen
   w = new_world old.store (guests_of cast) room
 
   abbrev course : Course
@@ -163,18 +163,18 @@ module _ (cast : Cast) (work : Work) (old new : Setting) (room : Room) (sized : 
   by-failure whole is (Some f) some front =
       flush f some (length front.part.0) (front-out old.sent new.sent front.part.0 front.part.1 (whole_transcript its) (front.part.2 ∙ is) front.part.3) (inr front.rose)
 
-  pub run-answers : HaveLines (guests_of cast) log.events → (status : Status)
+  pub run-answers : CanHaveLines (guests_of cast) log.events → (status : Status)
       → EndsAs fault waiting old.sent new.sent (transcript (guests_only (guests_of cast)) log.events) old.sink_faults new.sink_faults status → Answers cast old new status
   run-answers lines status (inl none) = rw none.0 (unsent none.1 none.2)
   run-answers lines status (inr (inl end)) = rw end.0 (by-end _ (whole-is lines) fault refl waiting refl end.1)
     where
-      whole-is : HaveLines (guests_of cast) log.events → transcript (guests_only (guests_of cast)) log.events ≡ whole_transcript its
+      whole-is : CanHaveLines (guests_of cast) log.events → transcript (guests_only (guests_of cast)) log.events ≡ whole_transcript its
       whole-is lines =
           let same : log.events ≡ played.now.progress.log.events = ap (λ (l : Recorded). l.events) played.log_is in
           ap (transcript (guests_only (guests_of cast))) same ∙ sym (printed-is (opening_by old.store (guests_of cast)) played.now.progress.log.events (rw same at lines))
   run-answers lines status (inr (inr end)) = rw end.0 (by-failure _ (whole-is lines) fault refl end.1)
     where
-      whole-is : HaveLines (guests_of cast) log.events → transcript (guests_only (guests_of cast)) log.events ≡ whole_transcript its
+      whole-is : CanHaveLines (guests_of cast) log.events → transcript (guests_only (guests_of cast)) log.events ≡ whole_transcript its
       whole-is lines =
           let same : log.events ≡ played.now.progress.log.events = ap (λ (l : Recorded). l.events) played.log_is in
           ap (transcript (guests_only (guests_of cast))) same ∙ sym (printed-is (opening_by old.store (guests_of cast)) played.now.progress.log.events (rw same at lines))

@@ -17,12 +17,12 @@ use Rattle.flat_machine.specs.Machine.{replay}
 use Rattle.flat_machine.specs.Opening.{start}
 use Rattle.flat_machine.specs.Agreement.{Contents, IsLeftAs}
 use Rattle.flat_machine.specs.Final.{bytes_named, IsDiskIn, IsLeftIn, AreDisks}
-use Rattle.flat_machine.specs.Licence.{Counts, IsBetween, AreLicensed, faults_of, count_of}
+use Rattle.flat_machine.specs.Licence.{Counts, IsBetween, AreLicensed, faults_of, source_count}
 use Rattle.flat_machine.specs.declared.opening.Opening.{Opening}
 use Rattle.flat_machine.proofs.ImagesKept.{sound_same}
 use Rattle.world_commands.specs.Comes.{Comes}
 use Rattle.world_commands.specs.Counting.{HaveNotFallen}
-use Rattle.world_parts.specs.Face.{Face, held, told_bytes, contents_of}
+use Rattle.world_parts.specs.Face.{WorldSeen, held, told_bytes, contents_of}
 use Rattle.world_parts.specs.Steps.{StoreSeen}
 use Rattle.qblk_run.specs.Run.{HaveStood, LeavesFiles, Account}
 use Rattle.qblk_run.specs.Session.{IsEnd}
@@ -70,7 +70,7 @@ behind-back (o ∷ earlier) made none name = behind-back earlier made (λ n. or-
 between-later : (a b c : Counts) → b.store ≤ c.store → HaveNotFallen b.devices c.devices → (fault : FaultAt) → IsBetween a b fault → IsBetween a c fault
 between-later a b c store devices fault is = record { risen = is.risen; reached = by_source fault.from is.reached }
   where
-    by_source : (from : FaultFrom) → With (count_of b from) (λ now. fault.count ≤ now) → With (count_of c from) (λ now. fault.count ≤ now)
+    by_source : (from : FaultFrom) → With (source_count b from) (λ now. fault.count ≤ now) → With (source_count c from) (λ now. fault.count ≤ now)
     by_source Store le = omega arith
     by_source Sink le = le
     by_source (Dev dev) le =
@@ -86,9 +86,9 @@ licensed-later a b c h store devices is = record {
 -- where no count has risen none is named
 none-between : (a b : Counts) (fault : FaultAt) → HaveStood a b → IsBetween a b fault → ⊥
 none-between a b fault stood is =
-    let first = with-some (count_of a fault.from) (λ before. HasFailedSince before fault.count) is.risen in
+    let first = with-some (source_count a fault.from) (λ before. HasFailedSince before fault.count) is.risen in
     let same = stood fault.from first.0 first.1 in
-    let last = with-some (count_of b fault.from) (λ now. fault.count ≤ now) is.reached in
+    let last = with-some (source_count b fault.from) (λ now. fault.count ≤ now) is.reached in
     let equal : last.0 ≡ first.0 = some-same (sym last.1 ∙ same.1) in
     let rose = first.2 in
     let less = same.0 in
@@ -116,7 +116,7 @@ left-in files c holds left is = by_file (file_at left.file files) (subst (λ x. 
     by_file None is = is
     by_file (Some f) is = is
 
-pub leaves-files : (o : Opening) (v : Face) (a : Account) (store : StoreSeen) (fault : Option FaultAt) (files : List File)
+pub leaves-files : (o : Opening) (v : WorldSeen) (a : Account) (store : StoreSeen) (fault : Option FaultAt) (files : List File)
     → a.opening ≡ o → a.events ≡ v.progress.log.events → Comes o v → IsEnd v store fault → is_some v.files ≡ true → store.files ≡ Some files
     → LeavesFiles a fault files
 leaves-files o v a store fault files opening events comes end told is =

@@ -8,8 +8,8 @@ use Rattle.trace_codec.specs.declared.wish.Wish.{Wish}
 use Rattle.trace_codec.specs.declared.wish.Wish.TheVariants.{Ask, Wait}
 use Rattle.trace_codec.specs.declared.waits.Waits.{Waits}
 use Rattle.trace_codec.specs.Script.{Order}
-use Rattle.qmp_rules.specs.Chains.{has_id}
-use Rattle.qmp_rules.specs.Table.{device_at}
+use Rattle.qmp_rules.specs.Chains.{is_listed}
+use Rattle.qmp_rules.specs.Table.{device_by_number}
 use Rattle.blk_history.specs.Fold.{change}
 use Rattle.blk_history.specs.declared.event.Event.{Event}
 use Rattle.blk_history.specs.declared.event.Event.TheVariants.{Admit, Refuse, Piece, Retire, Reply, Reached, Start, Ready, End, Done}
@@ -26,7 +26,7 @@ use Rattle.qblk_run.proofs.History.{traces-onward}
 record Sound (lines : List ℕ) (c : Course) : Type 0 where
   free : AwaitsNothing c.script
   come : (line : ℕ) → is_answered lines line ≡ true → is_answered (c.answered ++ lines_in c.script) line ≡ true
-  over : has_id 0 c.ended ≡ true → c.script ≡ []
+  over : is_listed 0 c.ended ≡ true → c.script ≡ []
   waits : (g : ℕ) (wishes : List Wish) → rest_of c g ≡ Some wishes → WaitsForLines lines wishes
 
 -- ---- traces
@@ -134,7 +134,7 @@ script-free s (Watch line it ∷ rest) what free waits = free
 
 -- once each line is answered, a trace waits for none
 trace-free : (s : State) (g : ℕ) (lines answered : List ℕ) (wishes : List Wish) (what : Waits (List ℕ)) → WaitsForLines lines wishes
-    → ((line : ℕ) → is_answered lines line ≡ true → is_answered answered line ≡ true) → IsSome (device_at s.table g)
+    → ((line : ℕ) → is_answered lines line ≡ true → is_answered answered line ≡ true) → IsSome (device_by_number s.table g)
     → TraceWaits s g (past_waits answered wishes) what → ⊥
 trace-free s g lines answered [] what is all attached waits = waits
 trace-free s g lines answered (Ask op ∷ wishes) what is all attached waits = false≢true (subst IsSome waits.0 attached)
@@ -145,7 +145,7 @@ trace-free s g lines answered (Wait line ∷ wishes) what is all attached waits 
 pub none-stuck : (work : Work) (h : List Event) (s : State) (actor : ℕ) (what : Waits (List ℕ)) → CanBeWhole work → KeepsOrder (course_of work.script work.traces) h
     → IsStuck s (course_after (course_of work.script work.traces) h) actor what → AreAttached s.table (length work.traces) → ⊥
 none-stuck work h s actor what can keeps stuck attached =
-    by_script (has_id 0 c.ended) refl
+    by_script (is_listed 0 c.ended) refl
   where
     c : Course
     c = course_after (course_of work.script work.traces) h
@@ -167,7 +167,7 @@ none-stuck work h s actor what can keeps stuck attached =
         trace-free s g (lines_in work.script) c.answered found.0 what (sound.waits g found.0 found.1)
         (λ line there. rw (used, append-nil c.answered) at (sound.come line there)) (attached g (omega (arith, count))) found.2
 
-    by_script : (b : Bool) → has_id 0 c.ended ≡ b → ⊥
+    by_script : (b : Bool) → is_listed 0 c.ended ≡ b → ⊥
     by_script true done = waits-none (sound.over done) stuck.unfinished.0 stuck.waiting
     by_script false none =
         let it = stuck.others 0 (omega arith, λ has. false≢true (sym none ∙ is-has 0 c.ended has)) in

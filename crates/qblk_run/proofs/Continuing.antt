@@ -11,13 +11,13 @@ use Rattle.blk_history.specs.Machine.{Flight}
 use Rattle.blk_history.specs.declared.event.Event.{Event}
 use Rattle.blk_history.specs.declared.event.Event.TheVariants.{Admit, Refuse, Piece, Retire, Reply, Reached, Start, Ready, End, Done}
 use Rattle.flat_machine.specs.Blocked.{ScriptWaits}
-use Rattle.flat_machine.specs.Marks.{Drained, holds_disk, is_held}
+use Rattle.flat_machine.specs.Marks.{Drained, holds_disk, is_guest_held}
 use Rattle.flat_machine.specs.State.{disk_of_guest}
 use Rattle.flat_machine.specs.Courses.{course_of, course_after, past_waits, rest_of}
-use Rattle.world_parts.specs.Face.{Face, seen_state}
+use Rattle.world_parts.specs.Face.{WorldSeen, seen_state}
 use Rattle.world_parts.specs.Progress.{Progress, answered_in}
 use Rattle.qblk_inputs.specs.Room.{bytes_for}
-use Rattle.qblk_run.specs.Tasks.{Task, ScriptTask, Tasks, IsTaskOf, IsTaskIn, IsFlying, IsScriptIn, AreDrainsOf, CanGoOn, KeepsTo, IsRestOf, Halts, IsGiving, IsPutOffFor, Rests, ScriptHalts, ScriptRests, entries_of, entries_of_script, steps_of, steps_of_all, in_flight, entries_in_flight}
+use Rattle.qblk_run.specs.Tasks.{Task, ScriptTask, Tasks, IsTaskOf, IsTaskIn, IsFlying, IsScriptIn, AreDrainsOf, CanGoOn, KeepsTo, IsRestOf, Halts, IsGiving, IsPutOffFor, Rests, ScriptHalts, ScriptRests, entries_of, entries_of_script, steps_of, steps_of_all, flight_entries, entries_in_flight}
 use Rattle.qblk_run.specs.Turns.{StaysIn, DrainsAfter, IsOwnOrder, IsScriptPutOff, IsScriptTurn}
 use Rattle.qblk_run.specs.Rounds.{Continues, GuestsHalt, AllRest, Goes, HasTurn}
 use Rattle.qblk_run.proofs.Lists.{same_or_not, get-below, below-get, get-set, get-set-other, with-at, with-map, with-some}
@@ -57,7 +57,7 @@ passed-task p a g before after passes was = record {
   row = with-map (slice_get p.guests g) (λ row. IsTaskOf row before) (λ row. IsTaskOf row after) (λ row is.
       let short = length-past a before.wishes in
       let size : length after.wishes ≡ length (past_waits a before.wishes) = ap length passes.wishes in
-      let flies : in_flight after.left ≡ in_flight before.left = ap in_flight passes.left in
+      let flies : flight_entries after.left ≡ flight_entries before.left = ap flight_entries passes.left in
       let count = is.count in
       record {
         flying = rw passes.left is.flying;
@@ -107,7 +107,7 @@ module _ (p : Progress) (script : ScriptTask) (tasks : List Task) (g : ℕ) (bef
 
 -- ---- drains
 
-pub drains_stay : (w v : Face) (script : ScriptTask) → v.drains ≡ w.drains → AreDrainsOf w script → AreDrainsOf v script
+pub drains_stay : (w v : WorldSeen) (script : ScriptTask) → v.drains ≡ w.drains → AreDrainsOf w script → AreDrainsOf v script
 drains_stay w v script same was = record { jobs = ap (λ (d : Drained). d.jobs) same ∙ was.jobs; command = by_command was.command }
   where
     by_command : (w.drains.command ≡ []) ⊎ IsGiving script.orders → (v.drains.command ≡ []) ⊎ IsGiving script.orders
@@ -116,7 +116,7 @@ drains_stay w v script same was = record { jobs = ap (λ (d : Drained). d.jobs) 
 
 -- ---- one turn
 
-pub turn-continues : (w v : Face) (script : ScriptTask) (old new : List Task) (g : ℕ) (moved : Bool) → CanGoOn w.progress (record { script = script; guests = old })
+pub turn-continues : (w v : WorldSeen) (script : ScriptTask) (old new : List Task) (g : ℕ) (moved : Bool) → CanGoOn w.progress (record { script = script; guests = old })
     → HasTurn w v old new g moved → Continues w v (record { script = script; guests = old }) (record { script = script; guests = new })
 turn-continues w v script old new g true can turn =
     let e = turn.turn.0.0 in
@@ -146,7 +146,7 @@ turn-continues w v script old new g false can turn =
     })
 
 -- the script's entry, and the drains behind it
-script_drains : (w v : Face) (before after : ScriptTask) (e : Event) → IsOwnOrder before after e → DrainsAfter w v e → AreDrainsOf w before → AreDrainsOf v after
+script_drains : (w v : WorldSeen) (before after : ScriptTask) (e : Event) → IsOwnOrder before after e → DrainsAfter w v e → AreDrainsOf w before → AreDrainsOf v after
 script_drains w v before after (Reply line given command text) own kept was =
     record { jobs = ap (λ (d : Drained). d.jobs) kept ∙ was.jobs; command = inl (ap (λ (d : Drained). d.command) kept) }
 script_drains w v before after (Reached line what) own kept was =
@@ -169,10 +169,10 @@ script_drains w v before after (Start job) own kept was = absurd own
 script_drains w v before after (Ready job) own kept was = absurd own
 script_drains w v before after (End job outcome offset) own kept was = absurd own
 
-script-put-off : (w v : Face) (before after : ScriptTask) (tasks : List Task) → CanGoOn w.progress (record { script = before; guests = tasks })
+script-put-off : (w v : WorldSeen) (before after : ScriptTask) (tasks : List Task) → CanGoOn w.progress (record { script = before; guests = tasks })
     → IsScriptPutOff w v before after → Continues w v (record { script = before; guests = tasks }) (record { script = after; guests = tasks })
 script-put-off w v before after tasks can off =
-    let same : v.progress ≡ w.progress = ap (λ (u : Face). u.progress) (put-off-left before.orders w v off.off) in
+    let same : v.progress ≡ w.progress = ap (λ (u : WorldSeen). u.progress) (put-off-left before.orders w v off.off) in
     record {
       can = rw (off.task, same) can;
       order = λ orders traces keeps. rw (off.task, same) keeps;
@@ -183,9 +183,9 @@ script-put-off w v before after tasks can off =
     }
 
 -- a request in flight is waited for
-put-off-for : (w v : Face) (before after : ScriptTask) → IsScriptPutOff w v before after → IsPutOffFor v.progress after
+put-off-for : (w v : WorldSeen) (before after : ScriptTask) → IsScriptPutOff w v before after → IsPutOffFor v.progress after
 put-off-for w v before after off =
-    let same : v.progress ≡ w.progress = ap (λ (u : Face). u.progress) (put-off-left before.orders w v off.off) in
+    let same : v.progress ≡ w.progress = ap (λ (u : WorldSeen). u.progress) (put-off-left before.orders w v off.off) in
     let flies = put-off-flies before.orders w v off.off in
     record {
       gives = rw off.task (put-off-gives before.orders w v off.off);
@@ -193,7 +193,7 @@ put-off-for w v before after off =
       flies = subst (λ (p : Progress). With (slice_get p.guests flies.0) (λ row. IsSome row.flight)) (sym same) flies.1;
     }
 
-pub script-continues : (w v : Face) (before after : ScriptTask) (tasks : List Task) (moved : Bool) → CanGoOn w.progress (record { script = before; guests = tasks })
+pub script-continues : (w v : WorldSeen) (before after : ScriptTask) (tasks : List Task) (moved : Bool) → CanGoOn w.progress (record { script = before; guests = tasks })
     → IsScriptTurn w v before after moved → Continues w v (record { script = before; guests = tasks }) (record { script = after; guests = tasks })
 script-continues w v before after tasks true can turn =
     let e = turn.0 in
@@ -220,7 +220,7 @@ script-continues w v before after tasks false can (inr off) = script-put-off w v
 
 -- ---- several
 
-pub continues-then : (w v u : Face) (a b c : Tasks) → Continues w v a b → Continues v u b c → Continues w u a c
+pub continues-then : (w v u : WorldSeen) (a b c : Tasks) → Continues w v a b → Continues v u b c → Continues w u a c
 continues-then w v u a b c first then =
     let x = first.steps in
     let y = then.steps in
@@ -234,7 +234,7 @@ continues-then w v u a b c first then =
       count = then.count ∙ first.count;
     }
 
-pub script-goes : (w v : Face) (before after : ScriptTask) (tasks : List Task) (moved : Bool) → IsScriptTurn w v before after moved
+pub script-goes : (w v : WorldSeen) (before after : ScriptTask) (tasks : List Task) (moved : Bool) → IsScriptTurn w v before after moved
     → Goes v (record { script = before; guests = tasks }) (record { script = after; guests = tasks }) 0 moved
 script-goes w v before after tasks true turn =
     let less = script-less before after turn.0 turn.1.runs turn.1.own in
@@ -243,7 +243,7 @@ script-goes w v before after tasks false (inl turn) = (inl (rw turn.world turn.r
 script-goes w v before after tasks false (inr off) = (inr (put-off-for w v before after off), λ g task below is. absurd (omega arith))
 
 -- a turn more
-pub goes-on : (w v u : Face) (a b c : Tasks) (n : ℕ) (moved turned : Bool) → Continues w v a b → Goes v a b n moved
+pub goes-on : (w v u : WorldSeen) (a b c : Tasks) (n : ℕ) (moved turned : Bool) → Continues w v a b → Goes v a b n moved
     → Continues v u b c → c.script ≡ b.script → HasTurn v u b.guests c.guests n turned → Goes u a c (n + 1) (turned || moved)
 goes-on w v u a b c n moved true so goes then script turn =
     let less = turn.turn.0.1.steps in
@@ -268,7 +268,7 @@ goes-on w v u a b c n false false so goes then script turn =
         by_place (inr apart) =
             rw turn.turn.world (goes.1 g task (omega arith) (sym (get-set-other b.guests n g turn.now apart) ∙ rw turn.after_is at is))
 
-pub continues-same : (w : Face) (a : Tasks) → CanGoOn w.progress a → Continues w w a a
+pub continues-same : (w : WorldSeen) (a : Tasks) → CanGoOn w.progress a → Continues w w a a
 continues-same w a can = record {
   can = can;
   order = λ orders traces keeps. keeps;
@@ -281,7 +281,7 @@ continues-same w a can = record {
 -- ---- nothing has moved in a whole round
 
 -- a guest that makes no entry has no request in flight
-halts-idle : (w : Face) (g : ℕ) (task : Task) → IsTaskIn w.progress g task → Halts w g task → task.left ≡ None
+halts-idle : (w : WorldSeen) (g : ℕ) (task : Task) → IsTaskIn w.progress g task → Halts w g task → task.left ≡ None
 halts-idle w g task is (inl (inl done)) =
     let row = with-some (slice_get w.progress.guests g) (λ row. IsTaskOf row task) is.row in
     (row.2.used done).1
@@ -289,7 +289,7 @@ halts-idle w g task is (inl (inr waits)) = waits.idle
 halts-idle w g task is (inr held) = held.idle
 
 -- so the script's line has not to come again
-none-off : (w : Face) (tasks : Tasks) → CanGoOn w.progress tasks → GuestsHalt w (length tasks.guests) tasks.guests → IsPutOffFor w.progress tasks.script → ⊥
+none-off : (w : WorldSeen) (tasks : Tasks) → CanGoOn w.progress tasks → GuestsHalt w (length tasks.guests) tasks.guests → IsPutOffFor w.progress tasks.script → ⊥
 none-off w tasks can halt off =
     let row = with-some (slice_get w.progress.guests off.guest) (λ row. IsSome row.flight) off.flies in
     let below = below-get w.progress.guests off.guest row.0 row.1 in
@@ -306,7 +306,7 @@ none-off w tasks can halt off =
     flies-not (Some n) flight none is some = let bad : ⊥ = cc none in bad
 
 -- and no drain stands
-none-drained : (w : Face) (script : ScriptTask) → IsScriptIn w.progress script → ScriptRests w script → AreDrainsOf w script → w.drains.command ≡ []
+none-drained : (w : WorldSeen) (script : ScriptTask) → IsScriptIn w.progress script → ScriptRests w script → AreDrainsOf w script → w.drains.command ≡ []
 none-drained w script is rests drains = by_command drains.command
   where
     rests-not : ScriptRests w script → IsGiving script.orders → ⊥
@@ -322,14 +322,14 @@ none-drained w script is rests drains = by_command drains.command
     by_command (inl none) = none
     by_command (inr gives) = absurd (rests-not rests gives)
 
-none-held : (w : Face) (g : ℕ) → w.drains.jobs ≡ [] → w.drains.command ≡ [] → is_held (seen_state w) w.drains g ≡ false
+none-held : (w : WorldSeen) (g : ℕ) → w.drains.jobs ≡ [] → w.drains.command ≡ [] → is_guest_held (seen_state w) w.drains g ≡ false
 none-held w g jobs command = by_disk (disk_of_guest w.table g)
   where
     by_disk : (disk : Option ℕ) → holds_disk w.table w.drains disk ≡ false
     by_disk None = refl
     by_disk (Some node) = rw (jobs, command) refl
 
-pub round-rests : (w : Face) (a b : Tasks) → CanGoOn w.progress b → AreDrainsOf w b.script → Goes w a b (length b.guests) false → AllRest w b
+pub round-rests : (w : WorldSeen) (a b : Tasks) → CanGoOn w.progress b → AreDrainsOf w b.script → Goes w a b (length b.guests) false → AllRest w b
 round-rests w a b can drains goes = by_script goes.0
   where
     by_halt : w.drains.command ≡ [] → (g : ℕ) (task : Task) → Halts w g task → Rests w g task
@@ -345,7 +345,7 @@ round-rests w a b can drains goes = by_script goes.0
 
 -- ---- as the calls say it
 
-pub script-continues-in : (w v : Face) (before after : ScriptTask) (tasks : List Task) (a : Tasks) (E : Type 0) (r : Result Bool E)
+pub script-continues-in : (w v : WorldSeen) (before after : ScriptTask) (tasks : List Task) (a : Tasks) (E : Type 0) (r : Result Bool E)
     → record { script = before; guests = tasks } ≡ a → CanGoOn w.progress a → IfOk r (IsScriptTurn w v before after)
     → OnOk r (Continues w v a (record { script = after; guests = tasks }))
 script-continues-in w v before after tasks a E (Err e) is can turn = tt
@@ -353,27 +353,27 @@ script-continues-in w v before after tasks a E (Ok moved) is can turn =
     subst (λ (b : Tasks). Continues w v b (record { script = after; guests = tasks })) is
     (script-continues w v before after tasks moved (subst (CanGoOn w.progress) (sym is) can) turn)
 
-pub script-goes-in : (w v : Face) (before after : ScriptTask) (tasks : List Task) (a : Tasks) (E : Type 0) (r : Result Bool E)
+pub script-goes-in : (w v : WorldSeen) (before after : ScriptTask) (tasks : List Task) (a : Tasks) (E : Type 0) (r : Result Bool E)
     → record { script = before; guests = tasks } ≡ a → IfOk r (IsScriptTurn w v before after)
     → IfOk r (Goes v a (record { script = after; guests = tasks }) 0)
 script-goes-in w v before after tasks a E (Err e) is turn = tt
 script-goes-in w v before after tasks a E (Ok moved) is turn =
     subst (λ (b : Tasks). Goes v b (record { script = after; guests = tasks }) 0 moved) is (script-goes w v before after tasks moved turn)
 
-pub turn-continues-in : (w v : Face) (script : ScriptTask) (old new : List Task) (a : Tasks) (g : ℕ) (moved : Bool)
+pub turn-continues-in : (w v : WorldSeen) (script : ScriptTask) (old new : List Task) (a : Tasks) (g : ℕ) (moved : Bool)
     → record { script = script; guests = old } ≡ a → CanGoOn w.progress a
     → HasTurn w v old new g moved → Continues w v a (record { script = script; guests = new })
 turn-continues-in w v script old new a g moved is can turn =
     subst (λ (b : Tasks). Continues w v b (record { script = script; guests = new })) is
     (turn-continues w v script old new g moved (subst (CanGoOn w.progress) (sym is) can) turn)
 
-pub turn-length : (w v : Face) (old new : List Task) (g : ℕ) (moved : Bool) → HasTurn w v old new g moved → length new ≡ length old
+pub turn-length : (w v : WorldSeen) (old new : List Task) (g : ℕ) (moved : Bool) → HasTurn w v old new g moved → length new ≡ length old
 turn-length w v old new g moved turn = ap length turn.after_is ∙ length-set old g turn.now
 
 -- ---- the same run
 
-pub stays_same : (w : Face) → StaysIn w w
+pub stays_same : (w : WorldSeen) → StaysIn w w
 stays_same w = record { told = refl; first = refl; earlier = refl; room = refl }
 
-pub stays_then : (w v u : Face) → StaysIn w v → StaysIn v u → StaysIn w u
+pub stays_then : (w v u : WorldSeen) → StaysIn w v → StaysIn v u → StaysIn w u
 stays_then w v u a b = record { told = b.told ∙ a.told; first = b.first ∙ a.first; earlier = b.earlier ∙ a.earlier; room = b.room ∙ a.room }

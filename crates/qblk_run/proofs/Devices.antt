@@ -21,15 +21,15 @@ use Rattle.qmp_rules.specs.Refusals.{refusal_class, refusal_text}
 use Rattle.qmp_rules.specs.declared.rows.Device.{Device}
 use Rattle.qmp_rules.specs.declared.rows.NodeRecord.{NodeRecord}
 use Rattle.qmp_rules.specs.declared.told.Told.{Told}
-use Rattle.qmp_rules.specs.Answers.{Answer, accepted, refused_so, out_of_turn, refusal_behind, unbuilt, answer, answer_for, command_edits, left_by, line_answer, line_refusal, line_text, refusal_of, returned}
+use Rattle.qmp_rules.specs.Answers.{Answer, accepted, refused_so, out_of_turn, refusal_behind, unbuilt, answer, answer_for, command_edits, left_by, line_answer, line_refusal, line_text, refusal_to, returned}
 use Rattle.qmp_rules.specs.Changes.{all_changed, changed, without_device}
 use Rattle.qmp_rules.specs.Edits.{device_number, device_uses, edits_of, new_device, place_from, unused_from}
-use Rattle.qmp_rules.specs.Table.{Table, device_at, device_named, node_named}
+use Rattle.qmp_rules.specs.Table.{RunTable, device_by_number, device_named, node_named}
 use Rattle.qmp_asks.specs.CommandAsks.{asks_of, negotiates}
 use Rattle.flat_machine.proofs.Asked.{NoneHolds, none-both, none-holds, found-named, not-refused}
 use Rattle.blk_graph.proofs.Members.{find-Some}
 use Rattle.qmp_rules.specs.Refusals.{or_else}
-use Rattle.qmp_rules.specs.Asks.{first, holds}
+use Rattle.qmp_rules.specs.Asks.{first_unmet_ask, holds}
 use Rattle.flat_machine.specs.Wiring.{AreNumbered, IsNumberBy}
 use Rattle.blk_history.specs.Fold.{run}
 use Rattle.qblk_run.specs.Devices.{HaveDevices, has_device, has_after, plain_reply, with_command}
@@ -43,7 +43,7 @@ use Rattle.flat_machine.specs.Courses.{Course, onward}
 use Rattle.flat_machine.specs.declared.opening.Opening.{Opening}
 use Rattle.std.proofs.lemmas.List.{append_assoc}
 use Rattle.world_commands.specs.Comes.{Comes}
-use Rattle.world_parts.specs.Face.{Face}
+use Rattle.world_parts.specs.Face.{WorldSeen}
 use Rattle.world_commands.specs.Piecing.{table_after}
 use Rattle.world_parts.specs.Steps.{StoreSeen, new_world}
 use Rattle.qblk_run.specs.Worlds.{GoesThrough, IsEventOf, IsPieceEvent}
@@ -176,16 +176,16 @@ found-gone gone number (x ∷ devices) = by_test (x.number == gone) refl (gone =
 -- ---- one entry
 
 -- the table of a run: its guests, whose devices have their numbers, and who has one
-pub record AreDevices (guests : List (List ℕ)) (h : List Event) (t : Table) : Type 0 where
+pub record AreDevices (guests : List (List ℕ)) (h : List Event) (t : RunTable) : Type 0 where
   pub names : t.guests ≡ guests
-  pub have : (name : List ℕ) (g : ℕ) → place_from 0 name guests ≡ Some g → is_some (device_at t g) ≡ has_device name h
+  pub have : (name : List ℕ) (g : ℕ) → place_from 0 name guests ≡ Some g → is_some (device_by_number t g) ≡ has_device name h
 
 run-push : {S E : Type 0} (step : S → E → S) (s : S) (h : List E) (e : E) → run step s (h ++ e ∷ []) ≡ step (run step s h) e
 run-push step s [] e = refl
 run-push step s (a ∷ h) e = run-push step (step s a) h e
 
 -- an entry that says nothing of devices, and leaves them
-same-devices : (guests : List (List ℕ)) (h : List Event) (e : Event) (t u : Table) → SameDevices t u → ((name : List ℕ) (has : Bool) → has_after name has e ≡ has)
+same-devices : (guests : List (List ℕ)) (h : List Event) (e : Event) (t u : RunTable) → SameDevices t u → ((name : List ℕ) (has : Bool) → has_after name has e ≡ has)
     → AreDevices guests h t → AreDevices guests (h ++ e ∷ []) u
 same-devices guests h e t u same silent was = record {
   names = same.guests ∙ was.names;
@@ -194,14 +194,14 @@ same-devices guests h e t u same silent was = record {
       ∙ sym (run-push (has_after name) false h e ∙ silent name (has_device name h));
 }
 
-module _ (guests : List (List ℕ)) (h : List Event) (line : ℕ) (given text : List ℕ) (command' : Option Cmd) (t : Table) (told : Told) (numbers : AreNumbered t) (was : AreDevices guests h t) where
-  accepted-says : (c : Cmd) → command_at given ≡ Ok c → refusal_of t told c ≡ None → text ≡ line_text t told given → returned t told c ≡ object no_members → bytes_eq text (plain_reply given) ≡ true
+module _ (guests : List (List ℕ)) (h : List Event) (line : ℕ) (given text : List ℕ) (command' : Option Cmd) (t : RunTable) (told : Told) (numbers : AreNumbered t) (was : AreDevices guests h t) where
+  accepted-says : (c : Cmd) → command_at given ≡ Ok c → refusal_to t told c ≡ None → text ≡ line_text t told given → returned t told c ≡ object no_members → bytes_eq text (plain_reply given) ≡ true
   unfolding answer line_answer line_text
   accepted-says c is none says plain =
       let reply : text ≡ plain_reply given = says ∙ rw (is, none, plain) refl in
       rw reply (bytes_eq-same (plain_reply given))
 
-  refused-says : (c : Cmd) (cause : Refusal) → command_at given ≡ Ok c → refusal_of t told c ≡ Some cause → text ≡ line_text t told given → bytes_eq text (plain_reply given) ≡ false
+  refused-says : (c : Cmd) (cause : Refusal) → command_at given ≡ Ok c → refusal_to t told c ≡ Some cause → text ≡ line_text t told given → bytes_eq text (plain_reply given) ≡ false
   unfolding answer line_answer line_text
   refused-says c cause is some says =
       let reply : text ≡ compact_text (refused_data (id_at given) (refusal_class cause) (refusal_text cause)) = says ∙ rw (is, some) refl in
@@ -272,7 +272,7 @@ module _ (guests : List (List ℕ)) (h : List Event) (line : ℕ) (given text : 
   silent-refused e name has = rw e refl
 
   -- a device more
-  added-devices : (c : DeviceAdd (List ℕ)) (u : Table) (row : NodeRecord) → command_at given ≡ Ok (command.DeviceAdd c) → bytes_eq text (plain_reply given) ≡ true
+  added-devices : (c : DeviceAdd (List ℕ)) (u : RunTable) (row : NodeRecord) → command_at given ≡ Ok (command.DeviceAdd c) → bytes_eq text (plain_reply given) ≡ true
       → u.devices ≡ t.devices ++ new_device t c row ∷ [] → u.guests ≡ t.guests → AreDevices guests (h ++ Reply line given command' text ∷ []) u
   added-devices c u row is accepted devices names = record { names = names ∙ was.names; have = have }
     where
@@ -283,51 +283,51 @@ module _ (guests : List (List ℕ)) (h : List Event) (line : ℕ) (given text : 
       number : IsNumberBy (length guests) (device_number t c.id) (place_from 0 c.id guests)
       number = rw was.names (its-number (place_from 0 c.id guests) refl)
 
-      have : (name : List ℕ) (g : ℕ) → place_from 0 name guests ≡ Some g → is_some (device_at u g) ≡ has_device name (h ++ Reply line given command' text ∷ [])
+      have : (name : List ℕ) (g : ℕ) → place_from 0 name guests ≡ Some g → is_some (device_by_number u g) ≡ has_device name (h ++ Reply line given command' text ∷ [])
       have name g named =
           ap (λ (ds : List Device). is_some (find (λ d. d.number == g) ds)) devices
           ∙ found-push g t.devices (new_device t c row)
-          ∙ ap (λ (b : Bool). b || is_some (device_at t g)) (number-is guests (device_number t c.id) c.id name g named number)
+          ∙ ap (λ (b : Bool). b || is_some (device_by_number t g)) (number-is guests (device_number t c.id) c.id name g named number)
           ∙ ap (λ (b : Bool). bytes_eq c.id name || b) (was.have name g named)
           ∙ sym (run-push (has_after name) false h (Reply line given command' text) ∙ rw (accepted, is) refl)
 
   -- and one less
-  gone-devices : (id : List ℕ) (u : Table) (device : Device) → command_at given ≡ Ok (command.DeviceDel id) → bytes_eq text (plain_reply given) ≡ true
+  gone-devices : (id : List ℕ) (u : RunTable) (device : Device) → command_at given ≡ Ok (command.DeviceDel id) → bytes_eq text (plain_reply given) ≡ true
       → Contains t.devices device → device.id ≡ id → u.devices ≡ without_device device.number t.devices → u.guests ≡ t.guests → AreDevices guests (h ++ Reply line given command' text ∷ []) u
   gone-devices id u device is accepted there called devices names = record { names = names ∙ was.names; have = have }
     where
       number : IsNumberBy (length guests) device.number (place_from 0 id guests)
       number = rw (← called, ← was.names) (numbers device there)
 
-      have : (name : List ℕ) (g : ℕ) → place_from 0 name guests ≡ Some g → is_some (device_at u g) ≡ has_device name (h ++ Reply line given command' text ∷ [])
+      have : (name : List ℕ) (g : ℕ) → place_from 0 name guests ≡ Some g → is_some (device_by_number u g) ≡ has_device name (h ++ Reply line given command' text ∷ [])
       have name g named =
           ap (λ (ds : List Device). is_some (find (λ d. d.number == g) ds)) devices
           ∙ found-gone device.number g t.devices
-          ∙ ap (λ (b : Bool). not b && is_some (device_at t g)) (number-is guests device.number id name g named number)
+          ∙ ap (λ (b : Bool). not b && is_some (device_by_number t g)) (number-is guests device.number id name g named number)
           ∙ ap (λ (b : Bool). not (bytes_eq id name) && b) (was.have name g named)
           ∙ sym (run-push (has_after name) false h (Reply line given command' text) ∙ rw (accepted, is) refl)
 
 -- ---- what an accepted command asked
 
-all-then : (t : Table) (xs ys : List Change) → all_changed t (xs ++ ys) ≡ all_changed (all_changed t xs) ys
+all-then : (t : RunTable) (xs ys : List Change) → all_changed t (xs ++ ys) ≡ all_changed (all_changed t xs) ys
 all-then t [] ys = refl
 all-then t (c ∷ xs) ys = all-then (changed t c) xs ys
 
-asks-met : (t : Table) (told : Told) (c : Cmd) → refusal_of t told c ≡ None → NoneHolds t told (asks_of c)
-unfolding refusal_of
+asks-met : (t : RunTable) (told : Told) (c : Cmd) → refusal_to t told c ≡ None → NoneHolds t told (asks_of c)
+unfolding refusal_to
 asks-met t told c none =
-    let built = none-both (unbuilt c) (or_else (out_of_turn (negotiates c) t.negotiated) (or_else (first t told (asks_of c)) (refusal_behind t told c))) none in
-    let turn = none-both (out_of_turn (negotiates c) t.negotiated) (or_else (first t told (asks_of c)) (refusal_behind t told c)) built.1 in
-    let asks = none-both (first t told (asks_of c)) (refusal_behind t told c) turn.1 in
+    let built = none-both (unbuilt c) (or_else (out_of_turn (negotiates c) t.negotiated) (or_else (first_unmet_ask t told (asks_of c)) (refusal_behind t told c))) none in
+    let turn = none-both (out_of_turn (negotiates c) t.negotiated) (or_else (first_unmet_ask t told (asks_of c)) (refusal_behind t told c)) built.1 in
+    let asks = none-both (first_unmet_ask t told (asks_of c)) (refusal_behind t told c) turn.1 in
     none-holds t told (asks_of c) asks.0
 
-drive-there : (t : Table) (told : Told) (c : DeviceAdd (List ℕ)) → refusal_of t told (command.DeviceAdd c) ≡ None → (row : NodeRecord) × (node_named t c.drive ≡ Some row)
+drive-there : (t : RunTable) (told : Told) (c : DeviceAdd (List ℕ)) → refusal_to t told (command.DeviceAdd c) ≡ None → (row : NodeRecord) × (node_named t c.drive ≡ Some row)
 unfolding asks_of
 drive-there t told c none =
     let asks = asks-met t told (command.DeviceAdd c) none in
     found-named t told c.drive asks.1.1.1.1.0
 
-device-there : (t : Table) (told : Told) (id : List ℕ) → refusal_of t told (command.DeviceDel id) ≡ None → (device : Device) × (device_named t id ≡ Some device)
+device-there : (t : RunTable) (told : Told) (id : List ℕ) → refusal_to t told (command.DeviceDel id) ≡ None → (device : Device) × (device_named t id ≡ Some device)
 unfolding asks_of holds
 device-there t told id none =
     let asks = asks-met t told (command.DeviceDel id) none in
@@ -338,7 +338,7 @@ device-there t told id none =
     by_device (Some device) e k = (device, e)
 
 -- what it leaves
-device-added : (t : Table) (told : Told) (c : DeviceAdd (List ℕ)) (row : NodeRecord) → node_named t c.drive ≡ Some row
+device-added : (t : RunTable) (told : Told) (c : DeviceAdd (List ℕ)) (row : NodeRecord) → node_named t c.drive ≡ Some row
     → ((all_changed t (command_edits t told (command.DeviceAdd c))).devices ≡ t.devices ++ new_device t c row ∷ [])
     × ((all_changed t (command_edits t told (command.DeviceAdd c))).guests ≡ t.guests)
 unfolding edits_of changed
@@ -350,7 +350,7 @@ device-added t told c row found =
       rw (edits, split) used.guests,
     )
 
-device-gone : (t : Table) (told : Told) (id : List ℕ) (device : Device) → device_named t id ≡ Some device
+device-gone : (t : RunTable) (told : Told) (id : List ℕ) (device : Device) → device_named t id ≡ Some device
     → ((all_changed t (command_edits t told (command.DeviceDel id))).devices ≡ without_device device.number t.devices)
     × ((all_changed t (command_edits t told (command.DeviceDel id))).guests ≡ t.guests)
 unfolding edits_of changed
@@ -365,25 +365,25 @@ device-gone t told id device found =
 
 -- ---- a reply
 
-module _ (guests : List (List ℕ)) (h : List Event) (line : ℕ) (given text : List ℕ) (command' : Option Cmd) (t u : Table) (told : Told) (numbers : AreNumbered t) (was : AreDevices guests h t)
+module _ (guests : List (List ℕ)) (h : List Event) (line : ℕ) (given text : List ℕ) (command' : Option Cmd) (t u : RunTable) (told : Told) (numbers : AreNumbered t) (was : AreDevices guests h t)
     (says : text ≡ line_text t told given) where
   other-reply : (c : Cmd) → command_at given ≡ Ok c → (IsOfDevice c → ⊥) → u ≡ all_changed t (command_edits t told c) → AreDevices guests (h ++ Reply line given command' text ∷ []) u
   other-reply c is other kept =
       rw kept (same-devices guests h (Reply line given command' text) t (all_changed t (command_edits t told c)) (all-leave t (command_edits t told c) (leave-command t told c other))
       (silent-by guests h line given text command' t told numbers was (bytes_eq text (plain_reply given)) refl (λ name has. rw is (silent-of guests h line given text command' t told numbers was c other name has))) was)
 
-  accepted-reply : (c : Cmd) → command_at given ≡ Ok c → refusal_of t told c ≡ None → u ≡ all_changed t (command_edits t told c) → AreDevices guests (h ++ Reply line given command' text ∷ []) u
+  accepted-reply : (c : Cmd) → command_at given ≡ Ok c → refusal_to t told c ≡ None → u ≡ all_changed t (command_edits t told c) → AreDevices guests (h ++ Reply line given command' text ∷ []) u
   accepted-reply (command.DeviceAdd c) is none kept =
       let row = drive-there t told c none in
       let left = device-added t told c row.0 row.1 in
       added-devices guests h line given text command' t told numbers was c u row.0 is (accepted-says guests h line given text command' t told numbers was (command.DeviceAdd c) is none says refl)
-      (ap (λ (x : Table). x.devices) kept ∙ left.0) (ap (λ (x : Table). x.guests) kept ∙ left.1)
+      (ap (λ (x : RunTable). x.devices) kept ∙ left.0) (ap (λ (x : RunTable). x.guests) kept ∙ left.1)
   accepted-reply (command.DeviceDel id) is none kept =
       let device = device-there t told id none in
       let left = device-gone t told id device.0 device.1 in
       let there = find-Some (λ d. bytes_eq d.id id) t.devices device.0 device.1 in
       gone-devices guests h line given text command' t told numbers was id u device.0 is (accepted-says guests h line given text command' t told numbers was (command.DeviceDel id) is none says refl)
-      there.0 (same-bytes_eq device.0.id id there.1) (ap (λ (x : Table). x.devices) kept ∙ left.0) (ap (λ (x : Table). x.guests) kept ∙ left.1)
+      there.0 (same-bytes_eq device.0.id id there.1) (ap (λ (x : RunTable). x.devices) kept ∙ left.0) (ap (λ (x : RunTable). x.guests) kept ∙ left.1)
   accepted-reply (command.Capabilities enable) is none kept = other-reply (command.Capabilities enable) is (λ of. of) kept
   accepted-reply (command.BlockdevCreate c) is none kept = other-reply (command.BlockdevCreate c) is (λ of. of) kept
   accepted-reply (command.JobDismiss id) is none kept = other-reply (command.JobDismiss id) is (λ of. of) kept
@@ -410,7 +410,7 @@ module _ (guests : List (List ℕ)) (h : List Event) (line : ℕ) (given text : 
   unfolding answer line_answer
   reply-devices kept = by_line (command_at given) refl
     where
-      by_refusal : (c : Cmd) → command_at given ≡ Ok c → (first' : Option Refusal) → refusal_of t told c ≡ first' → AreDevices guests (h ++ Reply line given command' text ∷ []) u
+      by_refusal : (c : Cmd) → command_at given ≡ Ok c → (first' : Option Refusal) → refusal_to t told c ≡ first' → AreDevices guests (h ++ Reply line given command' text ∷ []) u
       by_refusal c is None none = accepted-reply c is none (kept ∙ rw (is, none) refl)
       by_refusal c is (Some cause) some =
           let changes : (line_answer t told given).changes ≡ left_by t c cause = rw (is, some) refl in
@@ -424,7 +424,7 @@ module _ (guests : List (List ℕ)) (h : List Event) (line : ℕ) (given text : 
       none-changed (Some cause) = refl
 
       by_line : (r : Result Cmd Stop) → command_at given ≡ r → AreDevices guests (h ++ Reply line given command' text ∷ []) u
-      by_line (Ok c) is = by_refusal c is (refusal_of t told c) refl
+      by_line (Ok c) is = by_refusal c is (refusal_to t told c) refl
       by_line (Err why) is =
           let same : u ≡ t = kept ∙ ap (λ (r : Result Cmd Stop). all_changed t (answer_for t told given r).changes) is ∙ none-changed (line_refusal t given why) in
           rw same
@@ -433,7 +433,7 @@ module _ (guests : List (List ℕ)) (h : List Event) (line : ℕ) (given text : 
 
 -- ---- each event, and all of them
 
-same-after : (op : Op) (node : ℕ) (t : Table) → SameDevices t (table_after op node t)
+same-after : (op : Op) (node : ℕ) (t : RunTable) → SameDevices t (table_after op node t)
 unfolding written_under
 same-after (Read span) node t = record { devices = refl; guests = refl }
 same-after (Write span payload) node t = record { devices = refl; guests = refl }
@@ -441,7 +441,7 @@ same-after (Zero span) node t = record { devices = refl; guests = refl }
 same-after Flush node t = record { devices = refl; guests = refl }
 same-after (Discard span) node t = record { devices = refl; guests = refl }
 
-pub event-devices : (guests : List (List ℕ)) (h : List Event) (o : Opening) (w v : Face) (e : Event) → Comes o w → IsEventOf w v e → AreDevices guests h w.table → AreDevices guests (h ++ e ∷ []) v.table
+pub event-devices : (guests : List (List ℕ)) (h : List Event) (o : Opening) (w v : WorldSeen) (e : Event) → Comes o w → IsEventOf w v e → AreDevices guests h w.table → AreDevices guests (h ++ e ∷ []) v.table
 event-devices guests h o w v (Admit g r op) comes event was =
     same-devices guests h (Admit g r op) w.table v.table (rw event.left.1 (record { devices = refl; guests = refl })) (λ name has. refl) was
 event-devices guests h o w v (Refuse g r op why) comes event was =
@@ -450,7 +450,7 @@ event-devices guests h o w v (Piece g r k outcome got) comes event was =
     same-devices guests h (Piece g r k outcome got) w.table v.table (same-kept event.left) (λ name has. refl) was
   where
     same-kept : IsPieceEvent w v g outcome → SameDevices w.table v.table
-    same-kept p = subst (SameDevices w.table) (sym (ap (λ (u : Face). u.table) p.made.kept)) (same-after p.flight.op (disk_node w.table p.made.drive) w.table)
+    same-kept p = subst (SameDevices w.table) (sym (ap (λ (u : WorldSeen). u.table) p.made.kept)) (same-after p.flight.op (disk_node w.table p.made.drive) w.table)
 event-devices guests h o w v (Retire g r) comes event was =
     same-devices guests h (Retire g r) w.table v.table (rw event.left (record { devices = refl; guests = refl })) (λ name has. refl) was
 event-devices guests h o w v (Reply line given command' text) comes event was =
@@ -463,7 +463,7 @@ event-devices guests h o w v (Start job) comes event was = absurd event.left
 event-devices guests h o w v (Ready job) comes event was = absurd event.left
 event-devices guests h o w v (End job outcome offset) comes event was = absurd event.left
 
-through-devices : (guests : List (List ℕ)) (o : Opening) (c : Course) (w v : Face) (before h : List Event) → GoesThrough o c w h v
+through-devices : (guests : List (List ℕ)) (o : Opening) (c : Course) (w v : WorldSeen) (before h : List Event) → GoesThrough o c w h v
     → AreDevices guests before w.table → AreDevices guests (before ++ h) v.table
 through-devices guests o c w v before [] still was = rw (append-nil before, uneventful-table c.script w v still) was
 through-devices guests o c w v before (e ∷ h) through was =
@@ -474,7 +474,7 @@ through-devices guests o c w v before (e ∷ h) through was =
     subst (λ (es : List Event). AreDevices guests es v.table) (append_assoc before (e ∷ []) h) (through-devices guests o (onward c e) y v (before ++ e ∷ []) h through.5 next)
 
 -- a run from its beginning
-pub run-devices : (o : Opening) (c : Course) (store : StoreSeen) (guests : List (List ℕ)) (room : Room) (h : List Event) (v : Face)
+pub run-devices : (o : Opening) (c : Course) (store : StoreSeen) (guests : List (List ℕ)) (room : Room) (h : List Event) (v : WorldSeen)
     → GoesThrough o c (new_world store guests room) h v → HaveDevices guests h v.table
 run-devices o c store guests room h v through =
     (through-devices guests o c (new_world store guests room) v [] h through (record { names = refl; have = λ name g named. refl })).have

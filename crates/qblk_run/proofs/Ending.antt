@@ -8,7 +8,7 @@ use Rattle.trace_codec.specs.Script.{Order}
 use Rattle.flat_machine.specs.State.{Guest, guest_at}
 use Rattle.flat_machine.specs.Blocked.{ScriptWaits, TraceWaits, ActorWaits, IsUnfinished, IsStuck, SlotWaits}
 use Rattle.flat_machine.specs.Courses.{Course, course_of, course_after, past_waits, rest_of, IsTraceUsedUp, AreAllDone, IsWhole}
-use Rattle.world_parts.specs.Face.{Face, seen_state}
+use Rattle.world_parts.specs.Face.{WorldSeen, seen_state}
 use Rattle.world_parts.specs.Progress.{ended_in, answered_in}
 use Rattle.qblk_run.specs.Tasks.{Task, Tasks, CanGoOn, KeepsTo, IsTaskOf, IsFlying, Rests, TaskWaits, ScriptRests}
 use Rattle.qblk_run.specs.Rounds.{AllRest, AreDone, IsFirstUndone, IsFirstGuest}
@@ -24,7 +24,7 @@ no-flight None row none is = by_flight row.flight refl is
     by_flight (Some f) e is = absurd is
 no-flight (Some n) row none is = absurd (let bad : ⊥ = cc none in bad)
 
-module _ (w : Face) (tasks : Tasks) (orders : List Order) (traces : List (List Wish))
+module _ (w : WorldSeen) (tasks : Tasks) (orders : List Order) (traces : List (List Wish))
     (can : CanGoOn w.progress tasks) (keeps : KeepsTo orders traces w.progress.log.events tasks) where
   abbrev c : Course
   c = course_after (course_of orders traces) w.progress.log.events

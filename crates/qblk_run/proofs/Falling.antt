@@ -26,7 +26,7 @@ use Rattle.flat_machine.specs.Machine.{after, replay}
 use Rattle.flat_machine.specs.Opening.{start}
 use Rattle.flat_machine.specs.Replies.{replied, edits_by, is_accepted}
 use Rattle.flat_machine.specs.declared.opening.Opening.{Opening}
-use Rattle.world_parts.specs.Face.{Face}
+use Rattle.world_parts.specs.Face.{WorldSeen}
 use Rattle.qblk_run.specs.Run.{Account, LeavesFiles}
 use Rattle.qblk_run.specs.Worlds.{GoesThrough, IsLeftBy}
 
@@ -158,7 +158,7 @@ are-events s (e ∷ h) own legal rest = (
   are-events (after s e) h own.1 legal.1 rest,
 )
 
-of-actor : (w v : Face) (e : Event) → IsLeftBy w v e → IsOfActor e
+of-actor : (w v : WorldSeen) (e : Event) → IsLeftBy w v e → IsOfActor e
 of-actor w v (Admit g r op) left = tt
 of-actor w v (Refuse g r op why) left = tt
 of-actor w v (Piece g r k outcome got) left = tt
@@ -170,7 +170,7 @@ of-actor w v (Ready job) left = absurd left
 of-actor w v (End job outcome offset) left = absurd left
 of-actor w v (Done actor) left = tt
 
-of-actors : (o : Opening) (c : Course) (w : Face) (h : List Event) (v : Face) → GoesThrough o c w h v → AreOfActors h
+of-actors : (o : Opening) (c : Course) (w : WorldSeen) (h : List Event) (v : WorldSeen) → GoesThrough o c w h v → AreOfActors h
 of-actors o c w [] v through = tt
 of-actors o c w (e ∷ h) v through =
     (of-actor through.0 through.1 e through.4.left, of-actors o (onward c e) through.1 h v through.5)
@@ -183,9 +183,9 @@ told-history a fault None now told leaves = absurd (false≢true told)
 told-history a fault (Some files) None told leaves = absurd leaves
 told-history a fault (Some files) (Some now) told leaves = leaves.history
 
-pub falls : (o : Opening) (c : Course) (w : Face) (h : List Event) (v : Face) → GoesThrough o c w h v → IsHistoryOf o h → FallsIntoEvents (start o) h
+pub falls : (o : Opening) (c : Course) (w : WorldSeen) (h : List Event) (v : WorldSeen) → GoesThrough o c w h v → IsHistoryOf o h → FallsIntoEvents (start o) h
 falls o c w h v through is = (map alone h, all-alone h, are-events (start o) h (of-actors o c w h v through) is.legal is.rest)
 
 pub run-falls : (a : Account) (fault : Option FaultAt) (files now : Option (List File)) → is_some files ≡ true → IfTold files (λ told. With now (LeavesFiles a fault))
-    → (c : Course) (w v : Face) → GoesThrough a.opening c w a.events v → FallsIntoEvents (start a.opening) a.events
+    → (c : Course) (w v : WorldSeen) → GoesThrough a.opening c w a.events v → FallsIntoEvents (start a.opening) a.events
 run-falls a fault files now told leaves c w v through = falls a.opening c w a.events v through (told-history a fault files now told leaves)

@@ -3,7 +3,7 @@ use Rattle.std.proofs.Common.{◌≡◌, ◌≢◌, ◌⊎◌, ℕ, ◌+◌, ◌
 use Rattle.std.specs.Prelude.{slice_get, MatchOption}
 use Rattle.blk_base.specs.Written.{Written}
 use Rattle.trace_codec.specs.declared.waits.Waits.{Waits}
-use Rattle.world_parts.specs.Face.{Face}
+use Rattle.world_parts.specs.Face.{WorldSeen}
 use Rattle.qblk_run.specs.Run.{seen_waits}
 use Rattle.qblk_run.specs.Rounds.{AllAreDone, AreDone, IsFirstUndone, IsFirstGuest}
 use Rattle.qblk_run.specs.Tasks.{Task, Tasks}
@@ -23,7 +23,7 @@ next-done tasks n item there done before other task less is = by_place (same_or_
     by_place (inr apart) = before other task (omega arith) is
 
 -- behind the script, which is done
-pub first-behind : (w : Face) (a : Tasks) (r : Option (ℕ × Waits Written)) → a.script.is_done ≡ true
+pub first-behind : (w : WorldSeen) (a : Tasks) (r : Option (ℕ × Waits Written)) → a.script.is_done ≡ true
     → MatchOption r (AllAreDone a.guests) (λ x. (g : ℕ) × (x.0 ≡ g + 1) × IsFirstGuest w a.guests g (seen_waits x.1))
     → MatchOption r (AreDone a) (λ x. IsFirstUndone w a x.0 (seen_waits x.1))
 first-behind w a None done all = record { script = done; guests = all }

@@ -11,9 +11,9 @@ use Rattle.blk_base.specs.declared.file.Opened.{Opened}
 use Rattle.blk_graph.proofs.Members.{Contains-here, Contains-there, Contains-cases}
 use Rattle.blk_graph.proofs.RoleLemmas.{head_pairs}
 use Rattle.blk_history.specs.Fold.{With}
-use Rattle.blk_nodes.specs.Nodes.{DeviceState}
-use Rattle.qmp_rules.specs.Table.{Table}
-use Rattle.world_commands.specs.Closing.{AreBack, HasFlushFault, IsBack, count_back, first_of}
+use Rattle.blk_nodes.specs.Nodes.{DeviceSeen}
+use Rattle.qmp_rules.specs.Table.{RunTable}
+use Rattle.world_commands.specs.Closing.{AreBack, HasFlushFault, IsBack, count_back, earlier_fault}
 use Rattle.world_parts.specs.Coherent.{AreHeld, IsOut}
 use Rattle.world_parts.specs.Face.{count_of_opening, counts_from}
 use Rattle.world_parts.specs.Steps.{StoreSeen}
@@ -23,7 +23,7 @@ use Rattle.world_commands.proofs.CountLemmas.{with-of}
 
 -- ---- counts by place
 
-counts-map : (devices : List DeviceState) (opened : List Opened) (first n : ℕ)
+counts-map : (devices : List DeviceSeen) (opened : List Opened) (first n : ℕ)
     → slice_get (counts_from devices first opened) n ≡ option_map (count_of_opening devices (first + n)) (slice_get opened n)
 counts-map devices [] first n = refl
 counts-map devices (o ∷ opened) first zero =
@@ -50,7 +50,7 @@ same-places (x ∷ xs) (y ∷ ys) each =
 
 -- ---- one device
 
-module _ (t : Table) (device : DeviceState) (rest : List DeviceState) (old new : StoreSeen) (fault : Option FaultAt) (back : IsBack t device old new fault)
+module _ (t : RunTable) (device : DeviceSeen) (rest : List DeviceSeen) (old new : StoreSeen) (fault : Option FaultAt) (back : IsBack t device old new fault)
     (held : AreHeld t (device ∷ rest) old.opened) where
   abbrev out : IsOut t old.opened device
   out = held.each device (Contains-here device rest)
@@ -103,7 +103,7 @@ module _ (t : Table) (device : DeviceState) (rest : List DeviceState) (old new :
 -- ---- all of them
 
 -- once none is out, each count is the one with which its device was given back
-stands-back : (t : Table) (opened : List Opened) → AreHeld t [] opened → (n : ℕ) → slice_get (map count_back opened) n ≡ slice_get (counts_from [] 0 opened) n
+stands-back : (t : RunTable) (opened : List Opened) → AreHeld t [] opened → (n : ℕ) → slice_get (map count_back opened) n ≡ slice_get (counts_from [] 0 opened) n
 stands-back t opened held n =
     back-map opened n ∙ by_found (slice_get opened n) refl ∙ sym (counts-map [] opened 0 n)
   where
@@ -116,8 +116,8 @@ stands-back t opened held n =
     by_found (Some o) is = ap (λ (c : ℕ). Some c) (by_back o is o.returned refl)
 
 -- an opening of which no device is out
-stands-past : (t : Table) (devices : List DeviceState) (old new : StoreSeen) (fault : Option FaultAt) → AreBack t devices old new fault → AreHeld t devices old.opened
-    → (n : ℕ) → ((device : DeviceState) → Contains devices device → n ≢ device.number.0)
+stands-past : (t : RunTable) (devices : List DeviceSeen) (old new : StoreSeen) (fault : Option FaultAt) → AreBack t devices old new fault → AreHeld t devices old.opened
+    → (n : ℕ) → ((device : DeviceSeen) → Contains devices device → n ≢ device.number.0)
     → slice_get (map count_back new.opened) n ≡ slice_get (counts_from devices 0 old.opened) n
 stands-past t [] old new fault back held n apart =
     ap (λ (s : StoreSeen). slice_get (map count_back s.opened) n) back.0 ∙ stands-back t old.opened held n
@@ -126,15 +126,15 @@ stands-past t (device ∷ devices) old new fault back held n apart =
     (λ other there. apart other (Contains-there device devices other there))
     ∙ stands-other t device devices old back.0 back.1 back.3 held n (apart device (Contains-here device devices))
 
-good-flush : (device : DeviceState) (count : ℕ) (fault : Option FaultAt) → fault ≡ None → HasFlushFault device count fault → count ≡ device.faults
+good-flush : (device : DeviceSeen) (count : ℕ) (fault : Option FaultAt) → fault ≡ None → HasFlushFault device count fault → count ≡ device.faults
 good-flush device count fault none cause = subst (HasFlushFault device count) none cause
 
-first-none : (first later : Option FaultAt) → first_of first later ≡ None → (first ≡ None) × (later ≡ None)
+first-none : (first later : Option FaultAt) → earlier_fault first later ≡ None → (first ≡ None) × (later ≡ None)
 first-none None later is = (refl, is)
 first-none (Some fault) later is = let bad : ⊥ = cc is in absurd bad
 
 -- where no flush failed
-pub all-stand : (t : Table) (devices : List DeviceState) (old new : StoreSeen) (fault : Option FaultAt) → AreBack t devices old new fault → AreHeld t devices old.opened
+pub all-stand : (t : RunTable) (devices : List DeviceSeen) (old new : StoreSeen) (fault : Option FaultAt) → AreBack t devices old new fault → AreHeld t devices old.opened
     → fault ≡ None → (n : ℕ) → slice_get (map count_back new.opened) n ≡ slice_get (counts_from devices 0 old.opened) n
 all-stand t [] old new fault back held none n = ap (λ (s : StoreSeen). slice_get (map count_back s.opened) n) back.0 ∙ stands-back t old.opened held n
 all-stand t (device ∷ devices) old new fault back held none n =
@@ -146,7 +146,7 @@ same-number : (a b : DevNo) → Dev a ≡ Dev b → a ≡ b
 same-number a b e = cc e
 
 -- those that were opened before the one of which the fault is told
-pub first-stand : (t : Table) (devices : List DeviceState) (old new : StoreSeen) (fault : Option FaultAt) → AreBack t devices old new fault → AreHeld t devices old.opened
+pub first-stand : (t : RunTable) (devices : List DeviceSeen) (old new : StoreSeen) (fault : Option FaultAt) → AreBack t devices old new fault → AreHeld t devices old.opened
     → (f : FaultAt) (dev : DevNo) → fault ≡ Some f → f.from ≡ Dev dev → (n : ℕ) → n < dev.0
     → slice_get (map count_back new.opened) n ≡ slice_get (counts_from devices 0 old.opened) n
 first-stand t [] old new fault back held f dev some from n before = let bad : ⊥ = cc (sym back.1 ∙ some) in absurd bad
@@ -156,25 +156,25 @@ first-stand t (device ∷ devices) old new fault back held f dev some from n bef
     by_first : (first : Option FaultAt) → back.1 ≡ first → (back.2 ≡ Some f → slice_get (map count_back new.opened) n ≡ slice_get (counts_from devices 0 back.0.opened) n)
         → slice_get (map count_back new.opened) n ≡ slice_get (counts_from (device ∷ devices) 0 old.opened) n
     by_first None none rest =
-        let later : back.2 ≡ Some f = sym (back.5 ∙ ap (λ (x : Option FaultAt). first_of x back.2) none) ∙ some in
+        let later : back.2 ≡ Some f = sym (back.5 ∙ ap (λ (x : Option FaultAt). earlier_fault x back.2) none) ∙ some in
         rest later
         ∙ stands-all t device devices old back.0 back.1 back.3 held (good-flush device back.3.count back.1 none back.3.cause) n
     by_first (Some named) is rest =
-        let same : named ≡ f = same_Some named f (sym (back.5 ∙ ap (λ (x : Option FaultAt). first_of x back.2) is) ∙ some) in
+        let same : named ≡ f = same_Some named f (sym (back.5 ∙ ap (λ (x : Option FaultAt). earlier_fault x back.2) is) ∙ some) in
         let cause : HasFlushFault device back.3.count (Some named) = subst (HasFlushFault device back.3.count) is back.3.cause in
         let own : Dev device.number ≡ Dev dev = sym (ap (λ (x : FaultAt). x.from) (sym same ∙ cause.0)) ∙ from in
         let number : device.number ≡ dev = same-number device.number dev own in
         let less : n < device.number.0 = subst (λ (d : DevNo). n < d.0) (sym number) before in
         stands-past t (device ∷ devices) old new fault back held n (λ other there. apart other less (Contains-cases device devices other there))
       where
-        apart : (other : DeviceState) → n < device.number.0 → (other ≡ device) ⊎ Contains devices other → n ≢ other.number.0
-        apart other less (inl same) equal = let number : other.number.0 ≡ device.number.0 = ap (λ (d : DeviceState). d.number.0) same in omega (arith, less, equal, number)
+        apart : (other : DeviceSeen) → n < device.number.0 → (other ≡ device) ⊎ Contains devices other → n ≢ other.number.0
+        apart other less (inl same) equal = let number : other.number.0 ≡ device.number.0 = ap (λ (d : DeviceSeen). d.number.0) same in omega (arith, less, equal, number)
         apart other less (inr there) equal =
-            let later : device.number.0 < other.number.0 = head_pairs (λ (a b : DeviceState). a.number.0 < b.number.0) device devices held.order other there in
+            let later : device.number.0 < other.number.0 = head_pairs (λ (a b : DeviceSeen). a.number.0 < b.number.0) device devices held.order other there in
             omega (arith, less, equal, later)
 
 -- its count rose above the one at its opening
-pub first-above : (t : Table) (devices : List DeviceState) (old new : StoreSeen) (fault : Option FaultAt) → AreBack t devices old new fault → AreHeld t devices old.opened
+pub first-above : (t : RunTable) (devices : List DeviceSeen) (old new : StoreSeen) (fault : Option FaultAt) → AreBack t devices old new fault → AreHeld t devices old.opened
     → (f : FaultAt) (dev : DevNo) → fault ≡ Some f → f.from ≡ Dev dev → With (slice_get (map (λ o. o.faults) old.opened) dev.0) (λ before. HasFailedSince before f.count)
 first-above t [] old new fault back held f dev some from = let bad : ⊥ = cc (sym back.1 ∙ some) in absurd bad
 first-above t (device ∷ devices) old new fault back held f dev some from =
@@ -183,13 +183,13 @@ first-above t (device ∷ devices) old new fault back held f dev some from =
     by_first : (first : Option FaultAt) → back.1 ≡ first → (back.2 ≡ Some f → With (slice_get (map (λ o. o.faults) back.0.opened) dev.0) (λ before. HasFailedSince before f.count))
         → With (slice_get (map (λ o. o.faults) old.opened) dev.0) (λ before. HasFailedSince before f.count)
     by_first None none rest =
-        let later : back.2 ≡ Some f = sym (back.5 ∙ ap (λ (x : Option FaultAt). first_of x back.2) none) ∙ some in
+        let later : back.2 ≡ Some f = sym (back.5 ∙ ap (λ (x : Option FaultAt). earlier_fault x back.2) none) ∙ some in
         let same : map (λ o. o.faults) back.0.opened ≡ map (λ o. o.faults) old.opened =
         ap (λ (s : StoreSeen). map (λ o. o.faults) s.opened) back.3.kept ∙ same-back (λ (o : Opened). o.faults) (λ o count. refl) back.3.name back.3.count old.opened in
         subst (λ (counts : List ℕ). With (slice_get counts dev.0) (λ before. HasFailedSince before f.count)) same
         (rest later)
     by_first (Some named) is rest =
-        let same : named ≡ f = same_Some named f (sym (back.5 ∙ ap (λ (x : Option FaultAt). first_of x back.2) is) ∙ some) in
+        let same : named ≡ f = same_Some named f (sym (back.5 ∙ ap (λ (x : Option FaultAt). earlier_fault x back.2) is) ∙ some) in
         let cause : HasFlushFault device back.3.count (Some named) = subst (HasFlushFault device back.3.count) is back.3.cause in
         let own : Dev device.number ≡ Dev dev = sym (ap (λ (x : FaultAt). x.from) (sym same ∙ cause.0)) ∙ from in
         let number : device.number ≡ dev = same-number device.number dev own in

@@ -5,7 +5,7 @@ use Rattle.blk_base.specs.declared.file.File.{File}
 use Rattle.trace_codec.specs.Amounts.{Amounts, nothing}
 use Rattle.trace_codec.specs.declared.wish.Wish.{Wish}
 use Rattle.trace_codec.specs.Script.{Order}
-use Rattle.qblk_inputs.specs.Inputs.{HasTraces, HasWork, IsBadScript, IsBadTrace, IsFirstRefused, IsRefusedInput, IsRefusedScript, IsRefusedTrace, IsScript, IsTrace, Work}
+use Rattle.qblk_inputs.specs.Inputs.{HasTraces, HasWork, IsBadScript, IsBadTrace, IsFirstRefused, IsRefusedInput, IsRefusedScript, IsRefusedTrace, IsScript, ReadsAsTrace, Work}
 use Rattle.qblk_inputs.specs.Words.{Cast, Player, guests_of}
 use Rattle.qblk_inputs.specs.declared.stop.InputFlaw.{InputFlaw}
 use Rattle.qblk_inputs.specs.declared.stop.InputFlaw.TheVariants.{Absent, NotUtf8, TooLong, BadLine, TooMany}
@@ -44,7 +44,7 @@ script-taken guests orders TooMany line name files good refused =
 
 -- ---- traces
 
-good-trace : (before asked : Amounts) (wishes : List Wish) (flaw : InputFlaw) (line : ℕ) (bytes : List ℕ) → IsTrace before wishes asked bytes → IsBadTrace before flaw line bytes → ⊥
+good-trace : (before asked : Amounts) (wishes : List Wish) (flaw : InputFlaw) (line : ℕ) (bytes : List ℕ) → ReadsAsTrace before wishes asked bytes → IsBadTrace before flaw line bytes → ⊥
 good-trace before asked wishes Absent line bytes good bad = bad
 good-trace before asked wishes NotUtf8 line bytes good bad = bad.2 good.text.text
 good-trace before asked wishes TooLong line bytes good bad = let short = good.text.short in let long = bad.1 in omega arith
@@ -52,19 +52,19 @@ good-trace before asked wishes BadLine line bytes good bad = let no : ⊥ = cc (
 good-trace before asked wishes TooMany line bytes good bad = let no : ⊥ = cc (sym good.read ∙ bad.1) in no
 
 trace-taken : (before asked : Amounts) (wishes : List Wish) (flaw : InputFlaw) (line : ℕ) (name : List ℕ) (files : List File)
-    → HasFile name (λ f. IsTrace before wishes asked f.bytes) files → IsRefusedTrace before flaw line name files → ⊥
-trace-taken before asked wishes Absent line name files good refused = there-not name (λ f. IsTrace before wishes asked f.bytes) files good refused.1
+    → HasFile name (λ f. ReadsAsTrace before wishes asked f.bytes) files → IsRefusedTrace before flaw line name files → ⊥
+trace-taken before asked wishes Absent line name files good refused = there-not name (λ f. ReadsAsTrace before wishes asked f.bytes) files good refused.1
 trace-taken before asked wishes NotUtf8 line name files good refused =
-    let both = same-file name (λ f. IsTrace before wishes asked f.bytes) (λ f. IsBadTrace before NotUtf8 line f.bytes) files good refused in
+    let both = same-file name (λ f. ReadsAsTrace before wishes asked f.bytes) (λ f. IsBadTrace before NotUtf8 line f.bytes) files good refused in
     good-trace before asked wishes NotUtf8 line both.0.bytes both.1 both.2
 trace-taken before asked wishes TooLong line name files good refused =
-    let both = same-file name (λ f. IsTrace before wishes asked f.bytes) (λ f. IsBadTrace before TooLong line f.bytes) files good refused in
+    let both = same-file name (λ f. ReadsAsTrace before wishes asked f.bytes) (λ f. IsBadTrace before TooLong line f.bytes) files good refused in
     good-trace before asked wishes TooLong line both.0.bytes both.1 both.2
 trace-taken before asked wishes BadLine line name files good refused =
-    let both = same-file name (λ f. IsTrace before wishes asked f.bytes) (λ f. IsBadTrace before BadLine line f.bytes) files good refused in
+    let both = same-file name (λ f. ReadsAsTrace before wishes asked f.bytes) (λ f. IsBadTrace before BadLine line f.bytes) files good refused in
     good-trace before asked wishes BadLine line both.0.bytes both.1 both.2
 trace-taken before asked wishes TooMany line name files good refused =
-    let both = same-file name (λ f. IsTrace before wishes asked f.bytes) (λ f. IsBadTrace before TooMany line f.bytes) files good refused in
+    let both = same-file name (λ f. ReadsAsTrace before wishes asked f.bytes) (λ f. IsBadTrace before TooMany line f.bytes) files good refused in
     good-trace before asked wishes TooMany line both.0.bytes both.1 both.2
 
 -- one text asks for one thing
@@ -72,7 +72,7 @@ abbrev asked-by : {E : Type 0} → Result (List Wish × Amounts) E → Amounts �
 asked-by (Ok read) none = read.1
 asked-by (Err why) none = none
 
-one-trace : (before a b : Amounts) (x y : List Wish) (bytes : List ℕ) → IsTrace before x a bytes → IsTrace before y b bytes → b ≡ a
+one-trace : (before a b : Amounts) (x y : List Wish) (bytes : List ℕ) → ReadsAsTrace before x a bytes → ReadsAsTrace before y b bytes → b ≡ a
 one-trace before a b x y bytes one other = ap (λ r. asked-by r a) (sym other.read ∙ one.read)
 
 traces-taken : (before : Amounts) (players : List Player) (traces : List (List Wish)) (name : List ℕ) (line : ℕ) (flaw : InputFlaw) (files : List File)
@@ -82,7 +82,7 @@ traces-taken before (p ∷ players) [] name line flaw files good refused = good
 traces-taken before (p ∷ players) (wishes ∷ traces) name line flaw files good (inl refused) =
     trace-taken before good.0 wishes flaw line p.trace files good.1 refused.1
 traces-taken before (p ∷ players) (wishes ∷ traces) name line flaw files good (inr (other, asked, has, later)) =
-    let both = same-file p.trace (λ f. IsTrace before wishes good.0 f.bytes) (λ f. IsTrace before other asked f.bytes) files good.1 has in
+    let both = same-file p.trace (λ f. ReadsAsTrace before wishes good.0 f.bytes) (λ f. ReadsAsTrace before other asked f.bytes) files good.1 has in
     let same : asked ≡ good.0 = one-trace before good.0 asked wishes other both.0.bytes both.1 both.2 in
     traces-taken good.0 players traces name line flaw files good.2 (subst (λ (a : Amounts). IsFirstRefused a players name line flaw files) same later)
 

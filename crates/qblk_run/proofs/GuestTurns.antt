@@ -25,14 +25,14 @@ use Rattle.flat_machine.specs.Courses.{past_waits}
 use Rattle.blk_pieces.specs.Pieces.{shows_in}
 use Rattle.flat_machine.specs.Legal.{IsNotDone}
 use Rattle.flat_machine.specs.Blocked.{TraceWaits}
-use Rattle.flat_machine.specs.Marks.{is_held}
+use Rattle.flat_machine.specs.Marks.{is_guest_held}
 use Rattle.world_parts.specs.declared.admission.Admission.TheVariants.{Admitted, Refused as NotAdmitted, Away}
-use Rattle.world_parts.specs.Face.{Face, seen_state}
-use Rattle.world_commands.specs.Piecing.{IsPieceMade, HasPieceLicence, shown_by}
-use Rattle.world_parts.specs.Progress.{Progress, ended_in, answered_in, done_at, flight_at, with_piece, with_retirement, IsFree, HasNext, CanShow, HasRoomFor}
-use Rattle.world_parts.specs.Steps.{onward, after_admission, after_end, IsAnswered, IsActorIdle}
+use Rattle.world_parts.specs.Face.{WorldSeen, seen_state}
+use Rattle.world_commands.specs.Piecing.{IsPieceMade, HasPieceLicence, shown_in_flight}
+use Rattle.world_parts.specs.Progress.{Progress, ended_in, answered_in, requests_done, flight_at, with_piece_entry, with_retirement, IsFree, HasNext, CanShow, HasRoomFor}
+use Rattle.world_parts.specs.Steps.{with_history, after_admission, after_actor_end, IsAnswered, IsActorIdle}
 use Rattle.qblk_inputs.specs.Room.{entries_for, bytes_for, HaveNumbers}
-use Rattle.qblk_run.specs.Tasks.{Task, IsTaskOf, IsTaskIn, HasPiecesLeft, IsFlying, in_flight, entries_of, steps_of, end_of}
+use Rattle.qblk_run.specs.Tasks.{Task, IsTaskOf, IsTaskIn, HasPiecesLeft, IsFlying, flight_entries, entries_of, steps_of, end_entries}
 use Rattle.qblk_run.specs.Turns.{IsOwnMove, MakesMove, IsTurn}
 use Rattle.qblk_run.proofs.Lists.{with-at, at-with, with-some, get-change, none-has, below-get}
 use Rattle.qblk_run.proofs.Waits.{through, grows-same, entries-past, bytes-past}
@@ -74,7 +74,7 @@ has-next (suc n) f more is = record { running = is.0; next = let sum = is.1 in o
 pub can-go : (p : Progress) (g left : ℕ) (task : Task) → IsTaskIn p g task → task.left ≡ Some left → 0 < left → With (flight_at p.guests g) HasNext
 can-go p g left task is flying more = let f = flight-of p g left task is flying in at-with (flight_at p.guests g) f.0 HasNext f.1 (has-next left f.0 more f.2)
 
-pub is-open : (w : Face) (g : ℕ) (task : Task) → IsTaskIn w.progress g task → task.is_done ≡ false → IsNotDone (seen_state w) (g + 1)
+pub is-open : (w : WorldSeen) (g : ℕ) (task : Task) → IsTaskIn w.progress g task → task.is_done ≡ false → IsNotDone (seen_state w) (g + 1)
 is-open w g task is going = none-has (ended_in w.progress.log.events) (g + 1) task.is_done is.ended going
 
 pub is-free : (p : Progress) (g : ℕ) (task : Task) → IsTaskIn p g task → task.left ≡ None → 0 < length task.wishes → With (slice_get p.guests g) IsFree
@@ -92,7 +92,7 @@ pub row-known : (p : Progress) (g : ℕ) (task : Task) → IsTaskIn p g task →
 row-known p g task is = let below = below-get p.guests g _ (row-of p g task is).1 in omega arith
 
 pub end-room : (p : Progress) (task : Task) → task.is_done ≡ false → entries_of task ≤ p.spare.entries → 0 < p.spare.entries
-end-room p task going entries = let one : end_of task.is_done ≡ 1 = ap end_of going in omega arith
+end-room p task going entries = let one : end_entries task.is_done ≡ 1 = ap end_entries going in omega arith
 
 pub has-room : (p : Progress) (g : ℕ) (task : Task) (op : Op) (rest : List Wish) → IsTaskIn p g task → task.wishes ≡ Ask op ∷ rest
     → entries_of task ≤ p.spare.entries → bytes_for task.wishes ≤ p.spare.bytes → HasRoomFor op p.spare
@@ -133,29 +133,29 @@ left-next n f outcome left is good bad = by_test (is_good outcome) refl
     by_test false e = rw (bad e) (inr (rw e refl))
 
 -- what a piece notes
-pub piece-noted : (w v : Face) (g : ℕ) (outcome : Outcome) → With (flight_at w.progress.guests g) HasNext
+pub piece-noted : (w v : WorldSeen) (g : ℕ) (outcome : Outcome) → With (flight_at w.progress.guests g) HasNext
     → ((f : Flight) → flight_at w.progress.guests g ≡ Some f → (made : IsPieceMade w v g f outcome) × HasPieceLicence w v g f outcome made)
-    → (f : Flight) → flight_at w.progress.guests g ≡ Some f → (got : List ℕ) × (v.progress ≡ with_piece g f.next outcome got w.progress) × CanShow (length got) f
+    → (f : Flight) → flight_at w.progress.guests g ≡ Some f → (got : List ℕ) × (v.progress ≡ with_piece_entry g f.next outcome got w.progress) × CanShow (length got) f
 piece-noted w v g outcome can made f there =
     let its = (made f there).0 in
     let next = with-at (flight_at w.progress.guests g) f HasNext there can in
-    (shown_by f outcome its.buffer, ap (λ (u : Face). u.progress) its.kept, record { next = next.next; shown = its.shown })
+    (shown_in_flight f outcome its.buffer, ap (λ (u : WorldSeen). u.progress) its.kept, record { next = next.next; shown = its.shown })
 
 -- and leaves of drains
-pub piece-drains : (w v : Face) (g : ℕ) (f : Flight) (outcome : Outcome) → IsPieceMade w v g f outcome → v.drains ≡ w.drains
-piece-drains w v g f outcome made = ap (λ (u : Face). u.drains) made.kept
+pub piece-drains : (w v : WorldSeen) (g : ℕ) (f : Flight) (outcome : Outcome) → IsPieceMade w v g f outcome → v.drains ≡ w.drains
+piece-drains w v g f outcome made = ap (λ (u : WorldSeen). u.drains) made.kept
 
 -- ---- each event
 
-module _ (w v : Face) (g : ℕ) (before after : Task) (is : IsTaskIn w.progress g before) where
-  pub retire-move : before.left ≡ Some 0 → v ≡ onward w (with_retirement g)
+module _ (w v : WorldSeen) (g : ℕ) (before after : Task) (is : IsTaskIn w.progress g before) where
+  pub retire-move : before.left ≡ Some 0 → v ≡ with_history w (with_retirement g)
       → after.wishes ≡ before.wishes → after.left ≡ None → after.is_done ≡ before.is_done → MakesMove w.progress v.progress g before after
   retire-move flying kept wishes left done =
       let row = row-of w.progress g before is in
       let count = row.2.count in
-      let e = Retire g (done_at w.progress.guests g) in
-      let flown : in_flight before.left ≡ 1 = ap in_flight flying in
-      let none : in_flight after.left ≡ 0 = ap in_flight left in
+      let e = Retire g (requests_done w.progress.guests g) in
+      let flown : flight_entries before.left ≡ 1 = ap flight_entries flying in
+      let none : flight_entries after.left ≡ 0 = ap flight_entries left in
       let size : length after.wishes ≡ length before.wishes = ap length wishes in (
         e,
         rw kept (record {
@@ -176,7 +176,7 @@ module _ (w v : Face) (g : ℕ) (before after : Task) (is : IsTaskIn w.progress 
       )
 
   pub piece-move : (left now : ℕ) (outcome : Outcome) → before.left ≡ Some left → 0 < left
-      → ((f : Flight) → flight_at w.progress.guests g ≡ Some f → (got : List ℕ) × (v.progress ≡ with_piece g f.next outcome got w.progress) × CanShow (length got) f)
+      → ((f : Flight) → flight_at w.progress.guests g ≡ Some f → (got : List ℕ) × (v.progress ≡ with_piece_entry g f.next outcome got w.progress) × CanShow (length got) f)
       → (is_good outcome ≡ true → now ≡ left - 1) → (is_good outcome ≡ false → now ≡ 0)
       → after.wishes ≡ before.wishes → after.left ≡ Some now → after.is_done ≡ before.is_done → MakesMove w.progress v.progress g before after
   piece-move zero now outcome flying more made good bad wishes left done = absurd (omega arith)
@@ -186,11 +186,11 @@ module _ (w v : Face) (g : ℕ) (before after : Task) (is : IsTaskIn w.progress 
       let here : flight_at w.progress.guests g ≡ Some f.0 = ap (option_and_then (λ (r : Guest). r.flight)) row.1 ∙ f.1 in
       let got = made f.0 here in
       let count = row.2.count in
-      let flown : in_flight before.left ≡ 1 = ap in_flight flying in
-      let some : in_flight after.left ≡ 1 = ap in_flight left in
+      let flown : flight_entries before.left ≡ 1 = ap flight_entries flying in
+      let some : flight_entries after.left ≡ 1 = ap flight_entries left in
       let size : length after.wishes ≡ length before.wishes = ap length wishes in
       let less : now ≤ n = now-less (is_good outcome) refl in
-      let e = Piece g (done_at w.progress.guests g) f.0.next outcome got.0 in
+      let e = Piece g (requests_done w.progress.guests g) f.0.next outcome got.0 in
       let flew = f.1 in (
         e,
         rw got.1 (record {
@@ -215,12 +215,12 @@ module _ (w v : Face) (g : ℕ) (before after : Task) (is : IsTaskIn w.progress 
       now-less false e = let is = bad e in omega arith
 
   pub end-move : before.left ≡ None → before.is_done ≡ false → before.wishes ≡ [] → entries_of before ≤ w.progress.spare.entries
-      → v ≡ after_end w (g + 1) → after.wishes ≡ [] → after.left ≡ None → after.is_done ≡ true → MakesMove w.progress v.progress g before after
+      → v ≡ after_actor_end w (g + 1) → after.wishes ≡ [] → after.left ≡ None → after.is_done ≡ true → MakesMove w.progress v.progress g before after
   end-move idle going used room kept wishes left done =
       let row = row-of w.progress g before is in
       let count = row.2.count in
-      let none : in_flight after.left ≡ 0 = ap in_flight left in
-      let was : in_flight before.left ≡ 0 = ap in_flight idle in
+      let none : flight_entries after.left ≡ 0 = ap flight_entries left in
+      let was : flight_entries before.left ≡ 0 = ap flight_entries idle in
       let size : length after.wishes ≡ 0 = ap length wishes in
       let entries : entries_of before ≡ 1 = rw (used, going) refl in (
         Done (g + 1),
@@ -248,12 +248,12 @@ module _ (w v : Face) (g : ℕ) (before after : Task) (is : IsTaskIn w.progress 
   admit-move op number idle next room kept left done going =
       let row = row-of w.progress g before is in
       let count = row.2.count in
-      let was : in_flight before.left ≡ 0 = ap in_flight idle in
-      let some : in_flight after.left ≡ 1 = ap in_flight left in
+      let was : flight_entries before.left ≡ 0 = ap flight_entries idle in
+      let some : flight_entries after.left ≡ 1 = ap flight_entries left in
       let size : length before.wishes ≡ suc (length after.wishes) = ap length next in
       let entries = room.entries in
       let bytes = room.bytes in (
-        Admit g (done_at w.progress.guests g) op,
+        Admit g (requests_done w.progress.guests g) op,
         rw kept (record {
           own = (refl, record { next = ap (past_waits (answered_in w.progress.log.events)) next; is_done = done });
           events = refl;
@@ -280,11 +280,11 @@ module _ (w v : Face) (g : ℕ) (before after : Task) (is : IsTaskIn w.progress 
   refuse-move op why idle next room kept left done going =
       let row = row-of w.progress g before is in
       let count = row.2.count in
-      let was : in_flight before.left ≡ 0 = ap in_flight idle in
-      let none : in_flight after.left ≡ 0 = ap in_flight left in
+      let was : flight_entries before.left ≡ 0 = ap flight_entries idle in
+      let none : flight_entries after.left ≡ 0 = ap flight_entries left in
       let size : length before.wishes ≡ suc (length after.wishes) = ap length next in
       let entries = room.entries in (
-        Refuse g (done_at w.progress.guests g) op why,
+        Refuse g (requests_done w.progress.guests g) op why,
         rw kept (record {
           own = (refl, record { next = ap (past_waits (answered_in w.progress.log.events)) next; is_done = done });
           events = refl;
@@ -359,12 +359,12 @@ move-passed p q g before mid after passes (e, move) =
 passed-twice : (a : List ℕ) (before after : Task) → Passes a before after → past_waits a after.wishes ≡ after.wishes
 passed-twice a before after passes = ap (past_waits a) passes.wishes ∙ through a a (grows-same a) before.wishes ∙ sym passes.wishes
 
-module _ (w v : Face) (g : ℕ) (before mid after : Task) (passes : Passes (answered_in w.progress.log.events) before mid) where
+module _ (w v : WorldSeen) (g : ℕ) (before mid after : Task) (passes : Passes (answered_in w.progress.log.events) before mid) where
   pub ask-moves : MakesMove w.progress v.progress g mid after → v.drains ≡ w.drains → IsTurn w v g before after true
   ask-moves move drains = (move-passed w.progress v.progress g before mid after passes move, drains)
 
   -- a drain holds it
-  pub ask-held : after ≡ mid → v ≡ w → mid.left ≡ None → is_held (seen_state w) w.drains g ≡ true → IsTurn w v g before after false
+  pub ask-held : after ≡ mid → v ≡ w → mid.left ≡ None → is_guest_held (seen_state w) w.drains g ≡ true → IsTurn w v g before after false
   ask-held same kept idle held = rw same (record {
     world = kept;
     wishes = passes.wishes;
@@ -384,7 +384,7 @@ module _ (w v : Face) (g : ℕ) (before mid after : Task) (passes : Passes (answ
   })
 
 -- a request that isn't admitted is given back
-pub away-waits : (w v : Face) (g : ℕ) (op back : Op) (rest : List Wish) → IsAnswered w g op (Away back) → TraceWaits (seen_state w) g (Ask back ∷ rest) Attached
+pub away-waits : (w v : WorldSeen) (g : ℕ) (op back : Op) (rest : List Wish) → IsAnswered w g op (Away back) → TraceWaits (seen_state w) g (Ask back ∷ rest) Attached
 away-waits w v g op back rest answer = (answer.0, refl)
 
 -- the same task, with its first wish in another place

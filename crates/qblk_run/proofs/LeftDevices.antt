@@ -19,8 +19,8 @@ use Rattle.qmp_rules.specs.declared.rows.NodeRecord.{NodeRecord}
 use Rattle.qmp_rules.specs.declared.told.Told.{Told}
 use Rattle.qmp_rules.specs.Answers.{actions_edits, command_edits, group_of, left_by}
 use Rattle.qmp_rules.specs.Changes.{all_changed, changed}
-use Rattle.qmp_rules.specs.Edits.{action_edits, added_edits, ask_edits, asked_by_cancel, backup_job, base_edits, commit_edits, commit_job, commit_unsettles, commit_uses, copy_edits, created_change, device_uses, edits_of, filter_edits, filter_row, file_below, file_under, file_used, goes_with_node, is_base, merges, mirror_job, of_row, qcow2_edits, raw_edits, reads_one_of, row_gone, spoiled, stream_edits, stream_job, target_edits, under_top, uses, uses_as, uses_target, with_inline, writable_if}
-use Rattle.qmp_rules.specs.Table.{Table, job_named, node_at, node_named}
+use Rattle.qmp_rules.specs.Edits.{action_edits, added_edits, ask_edits, asked_by_cancel, backup_job, base_edits, commit_edits, commit_job, commit_unsettles, commit_uses, copy_edits, created_change, device_uses, edits_of, filter_edits, filter_row, file_below, file_under, file_used, goes_with_node, is_base, merges, mirror_job, of_row, qcow2_edits, raw_edits, reads_one_of, row_gone, spoiled, stream_edits, stream_job, target_edits, under_top, file_uses, uses_as, uses_target, with_inline, writable_if}
+use Rattle.qmp_rules.specs.Table.{RunTable, job_named, node_by_id, node_named}
 use Rattle.qmp_rules.specs.Asks.{is_file}
 use Rattle.qmp_asks.specs.NodeAsks.{backing_name, is_read_only}
 use Rattle.qmp_asks.specs.Values.{flag_or_false}
@@ -40,11 +40,11 @@ abbrev pub AllLeave : List Change → Type 0
 AllLeave [] = Unit {0}
 AllLeave (c ∷ changes) = Leaves c × AllLeave changes
 
-pub record SameDevices (t u : Table) : Type 0 where
+pub record SameDevices (t u : RunTable) : Type 0 where
   pub devices : u.devices ≡ t.devices
   pub guests : u.guests ≡ t.guests
 
-change-leaves : (t : Table) (c : Change) → Leaves c → SameDevices t (changed t c)
+change-leaves : (t : RunTable) (c : Change) → Leaves c → SameDevices t (changed t c)
 unfolding changed
 change-leaves t change.Negotiate leaves = record { devices = refl; guests = refl }
 change-leaves t (change.KeepId id) leaves = record { devices = refl; guests = refl }
@@ -73,7 +73,7 @@ change-leaves t (change.TurnBitmap node name on) leaves = record { devices = ref
 change-leaves t (change.ClearBitmap node name) leaves = record { devices = refl; guests = refl }
 change-leaves t (change.MergeBitmap node name source_node source) leaves = record { devices = refl; guests = refl }
 
-pub all-leave : (t : Table) (changes : List Change) → AllLeave changes → SameDevices t (all_changed t changes)
+pub all-leave : (t : RunTable) (changes : List Change) → AllLeave changes → SameDevices t (all_changed t changes)
 all-leave t [] leave = record { devices = refl; guests = refl }
 all-leave t (c ∷ changes) leave =
     let one = change-leaves t c leave.0 in
@@ -94,67 +94,67 @@ leave-row f each (Some row) = each row
 
 -- ---- commands
 
-leave-uses : (name : Option (List ℕ)) → AllLeave (uses name)
+leave-uses : (name : Option (List ℕ)) → AllLeave (file_uses name)
 leave-uses None = tt
 leave-uses (Some name) = (tt, tt)
 
 pub leave-device-uses : (row : NodeRecord) → AllLeave (device_uses row)
 leave-device-uses row = by_file (is_file row)
   where
-    by_file : (b : Bool) → AllLeave (if b then uses row.filename else [])
+    by_file : (b : Bool) → AllLeave (if b then file_uses row.filename else [])
     by_file true = leave-uses row.filename
     by_file false = tt
 
-leave-used : (t : Table) (node : Option ℕ) → AllLeave (file_used t node)
-leave-used t node = leave-row device_uses leave-device-uses (option_and_then (node_at t) node)
+leave-used : (t : RunTable) (node : Option ℕ) → AllLeave (file_used t node)
+leave-used t node = leave-row device_uses leave-device-uses (option_and_then (node_by_id t) node)
 
-leave-created : (t : Table) (c : Created (List ℕ)) → AllLeave (created_change t c)
+leave-created : (t : RunTable) (c : Created (List ℕ)) → AllLeave (created_change t c)
 leave-created t (created.File c) = (tt, tt)
 leave-created t (created.Qcow2 c) = (tt, tt)
 leave-created t created.Unknown = tt
 
-leave-spoiled : (t : Table) (c : Created (List ℕ)) → AllLeave (spoiled t c)
+leave-spoiled : (t : RunTable) (c : Created (List ℕ)) → AllLeave (spoiled t c)
 leave-spoiled t (created.File c) = (tt, tt)
 leave-spoiled t (created.Qcow2 c) = (tt, tt)
 leave-spoiled t created.Unknown = tt
 
-leave-raw : (t : Table) (told : Told) (name : List ℕ) (read_only : Bool) (raw : _) (file : _) → AllLeave (raw_edits t told name read_only raw file)
+leave-raw : (t : RunTable) (told : Told) (name : List ℕ) (read_only : Bool) (raw : _) (file : _) → AllLeave (raw_edits t told name read_only raw file)
 leave-raw t told name read_only raw (file_ref.Name file) = (tt, tt)
 leave-raw t told name read_only raw (file_ref.Inline file) = (tt, (tt, tt))
 
-leave-qcow2 : (t : Table) (told : Told) (name : List ℕ) (read_only : Bool) (back : _) (file : _) → AllLeave (qcow2_edits t told name read_only back file)
+leave-qcow2 : (t : RunTable) (told : Told) (name : List ℕ) (read_only : Bool) (back : _) (file : _) → AllLeave (qcow2_edits t told name read_only back file)
 leave-qcow2 t told name read_only back (file_ref.Name file) = (tt, tt)
 leave-qcow2 t told name read_only back (file_ref.Inline file) = (tt, (tt, tt))
 
-leave-added : (t : Table) (told : Told) (name : List ℕ) (read_only : Bool) (driver : Added (List ℕ)) → AllLeave (added_edits t told name read_only driver)
+leave-added : (t : RunTable) (told : Told) (name : List ℕ) (read_only : Bool) (driver : Added (List ℕ)) → AllLeave (added_edits t told name read_only driver)
 leave-added t told name read_only (added.File filename) = (tt, tt)
 leave-added t told name read_only (added.Raw raw) = leave-raw t told name read_only raw raw.file
 leave-added t told name read_only (added.Qcow2 image) = leave-qcow2 t told name read_only (backing_name image.backing) image.file
 leave-added t told name read_only (added.CopyOnRead file) = (tt, tt)
 leave-added t told name read_only added.Unknown = tt
 
-leave-gone : (t : Table) (row : NodeRecord) → AllLeave (row_gone t row)
-leave-gone t row = leave-both (uses (file_under t row)) (change.RemoveNode row.id ∷ with_inline t row.id) (leave-uses (file_under t row)) (tt, by_found (find (goes_with_node row.id) t.nodes))
+leave-gone : (t : RunTable) (row : NodeRecord) → AllLeave (row_gone t row)
+leave-gone t row = leave-both (file_uses (file_under t row)) (change.RemoveNode row.id ∷ with_inline t row.id) (leave-uses (file_under t row)) (tt, by_found (find (goes_with_node row.id) t.nodes))
   where
     by_found : (found : Option NodeRecord) → AllLeave (elim found as (λ _. List Change) [ None ↦ [] | Some r ↦ change.RemoveNode r.id ∷ [] ])
     by_found None = tt
     by_found (Some r) = (tt, tt)
 
-leave-ask : (t : Table) (id : List ℕ) (ask' : JobRecord → Asked) → AllLeave (ask_edits t id ask')
+leave-ask : (t : RunTable) (id : List ℕ) (ask' : JobRecord → Asked) → AllLeave (ask_edits t id ask')
 leave-ask t id ask' = by_job (job_named t id)
   where
     by_job : (found : Option JobRecord) → AllLeave (elim found as (λ _. List Change) [ None ↦ [] | Some job ↦ change.AskJob job.number (ask' job) ∷ [] ])
     by_job None = tt
     by_job (Some job) = (tt, tt)
 
-leave-merges : (t : Table) (node target : List ℕ) (sources : SeenSources) → AllLeave (merges t node target sources)
+leave-merges : (t : RunTable) (node target : List ℕ) (sources : SeenSources) → AllLeave (merges t node target sources)
 leave-merges t node target [] = tt
 leave-merges t node target (s ∷ sources) = (tt, leave-merges t node target sources)
 
-leave-filter : (t : Table) (driver : Kind) (job : JobRecord) → AllLeave (filter_edits t driver job)
-leave-filter t driver job = leave-row (λ row. change.PutFilter (filter_row t driver job.id row) row.id ∷ []) (λ row. (tt, tt)) (node_at t job.source)
+leave-filter : (t : RunTable) (driver : Kind) (job : JobRecord) → AllLeave (filter_edits t driver job)
+leave-filter t driver job = leave-row (λ row. change.PutFilter (filter_row t driver job.id row) row.id ∷ []) (λ row. (tt, tt)) (node_by_id t job.source)
 
-leave-target : (t : Table) (target : Option ℕ) → AllLeave (target_edits t target)
+leave-target : (t : RunTable) (target : Option ℕ) → AllLeave (target_edits t target)
 leave-target t None = tt
 leave-target t (Some target) = leave-both (file_used t (Some target)) (change.Unsettle target ∷ []) (leave-used t (Some target)) (tt, tt)
 
@@ -162,7 +162,7 @@ leave-uses-target : (job : JobRecord) (target : Option ℕ) → AllLeave (uses_t
 leave-uses-target job None = tt
 leave-uses-target job (Some target) = (tt, tt)
 
-leave-copy : (t : Table) (driver : Kind) (job : JobRecord) → AllLeave (copy_edits t driver job)
+leave-copy : (t : RunTable) (driver : Kind) (job : JobRecord) → AllLeave (copy_edits t driver job)
 leave-copy t driver job =
     leave-both (target_edits t job.target ++ filter_edits t driver job) (change.StartJob job ∷ uses_target job job.target)
     (leave-both (target_edits t job.target) (filter_edits t driver job) (leave-target t job.target) (leave-filter t driver job))
@@ -173,7 +173,7 @@ leave-writable true (Some id) = (tt, tt)
 leave-writable true None = tt
 leave-writable false _ = tt
 
-leave-commit : (t : Table) (c : _) → AllLeave (commit_edits t c)
+leave-commit : (t : RunTable) (c : _) → AllLeave (commit_edits t c)
 leave-commit t c =
     let job : JobRecord = commit_job t c in
     let a = leave-used t job.target in
@@ -188,13 +188,13 @@ leave-commit t c =
     (leave-both (file_used t job.target ++ commit_unsettles t job) (base_edits t job) (leave-both (file_used t job.target) (commit_unsettles t job) a b) d) e)
     (tt, (tt, f))
 
-leave-stream : (t : Table) (c : _) → AllLeave (stream_edits t c)
+leave-stream : (t : RunTable) (c : _) → AllLeave (stream_edits t c)
 leave-stream t c =
     let job : JobRecord = stream_job t c in
     leave-both (file_used t job.target) (change.StartJob job ∷ change.UseNode job.slot StreamTop job.source ∷ uses_as job.slot StreamBelow job.read)
     (leave-used t job.target) (tt, (tt, leave-map (change.UseNode job.slot StreamBelow) (λ node. tt) job.read))
 
-leave-action : (t : Table) (group : Option ℕ) (a : Act) → AllLeave (action_edits t group a)
+leave-action : (t : RunTable) (group : Option ℕ) (a : Act) → AllLeave (action_edits t group a)
 unfolding action_edits
 leave-action t group (action.Snapshot c) = (tt, (tt, tt))
 leave-action t group (action.Backup c) = leave-copy t kind.BeforeWrite (backup_job t group c)
@@ -206,7 +206,7 @@ leave-action t group (action.BitmapDisable c) = (tt, tt)
 leave-action t group (action.BitmapMerge c) = leave-merges t c.node c.target c.bitmaps
 leave-action t group _ = tt
 
-leave-actions : (t : Table) (group : Option ℕ) (actions : List Act) → AllLeave (actions_edits t group actions)
+leave-actions : (t : RunTable) (group : Option ℕ) (actions : List Act) → AllLeave (actions_edits t group actions)
 leave-actions t group [] = tt
 leave-actions t group (a ∷ actions) =
     leave-both (action_edits t group a) (actions_edits (all_changed t (action_edits t group a)) group actions)
@@ -218,7 +218,7 @@ IsOfDevice (command.DeviceAdd c) = Unit {0}
 IsOfDevice (command.DeviceDel id) = Unit {0}
 IsOfDevice c = ⊥
 
-pub leave-command : (t : Table) (told : Told) (c : Cmd) → (IsOfDevice c → ⊥) → AllLeave (command_edits t told c)
+pub leave-command : (t : RunTable) (told : Told) (c : Cmd) → (IsOfDevice c → ⊥) → AllLeave (command_edits t told c)
 unfolding edits_of
 leave-command t told (command.Capabilities enable) other = (tt, tt)
 leave-command t told (command.BlockdevCreate c) other = (tt, leave-created t c.options)
@@ -244,7 +244,7 @@ leave-command t told (command.Transaction c) other = leave-actions t (group_of t
 leave-command t told command.QueryBlockJobs other = tt
 leave-command t told (command.QueryNamedBlockNodes flat) other = tt
 
-pub leave-left : (t : Table) (c : Cmd) (cause : Refusal) → AllLeave (left_by t c cause)
+pub leave-left : (t : RunTable) (c : Cmd) (cause : Refusal) → AllLeave (left_by t c cause)
 leave-left t (command.BlockdevCreate c) (refusal.Io from count) = leave-spoiled t c.options
 leave-left t (command.BlockdevCreate c) (refusal.NoSpace dev) = leave-spoiled t c.options
 leave-left t _ cause = tt

@@ -5,11 +5,11 @@ use Rattle.blk_history.specs.Line.{line_room, reply_by}
 use Rattle.blk_history.specs.declared.event.Event.{Event}
 use Rattle.blk_history.specs.declared.event.Event.TheVariants.{Admit, Refuse, Piece, Retire, Reply, Reached, Start, Ready, End, Done}
 use Rattle.qblk_core.specs.Output.{AllLinesFit}
-use Rattle.qblk_run.specs.Tasks.{HasLine, HaveLines, guests_only}
+use Rattle.qblk_run.specs.Tasks.{CanHaveLine, CanHaveLines, guests_only}
 use Rattle.qblk_run.specs.Sending.{RepliesFit, NamesFit}
 
 module _ (names : List (List ℕ)) (t n : ℕ) (short : NamesFit n names) where
-  room-of : (e : Event) → ((text : List ℕ) → reply_by e ≡ Some text → length text ≤ t) → HasLine names e
+  room-of : (e : Event) → ((text : List ℕ) → reply_by e ≡ Some text → length text ≤ t) → CanHaveLine names e
       → line_room (guests_only names) e ≤ (327936 + t) + n
   room-of (Admit g r op) texts line = let name = short g line.named in omega arith
   room-of (Refuse g r op why) texts line = let name = short g line.named in omega arith
@@ -23,13 +23,13 @@ module _ (names : List (List ℕ)) (t n : ℕ) (short : NamesFit n names) where
   room-of (Done zero) texts line = omega arith
   room-of (Done (suc g)) texts line = let name = short g line.named in omega arith
 
-  pub lines-fit : (memory : ℕ) (es : List Event) → ((65536 + 327936) + t) + n ≤ memory → RepliesFit t es → HaveLines names es → AllLinesFit (guests_only names) memory es
+  pub lines-fit : (memory : ℕ) (es : List Event) → ((65536 + 327936) + t) + n ≤ memory → RepliesFit t es → CanHaveLines names es → AllLinesFit (guests_only names) memory es
   lines-fit memory [] room texts lines = tt
   lines-fit memory (e ∷ es) room texts lines =
       let long = room-of e (λ text is. texts zero e text refl is) lines.0 in
       (record { named = lines.0.named; room = omega arith }, lines-fit memory es room (λ at x text there is. texts (suc at) x text there is) lines.1)
 
-pub text-fits : (names : List (List ℕ)) (t n room : ℕ) (es : List Event) (E : Type 0) (r : Result Written E) → NamesFit n names → RepliesFit t es → HaveLines names es
+pub text-fits : (names : List (List ℕ)) (t n room : ℕ) (es : List Event) (E : Type 0) (r : Result Written E) → NamesFit n names → RepliesFit t es → CanHaveLines names es
     → ((65536 + 327936) + t) + n ≤ room → IfOk r (λ text. text.bytes ≡ []) → IfOk r (λ text. room ≤ text.spare)
     → IfOk r (λ text. AllLinesFit (guests_only names) (memory_of text) es)
 text-fits names t n room es E (Err e) short texts lines fits empty spare = tt

@@ -2,7 +2,7 @@
 use Rattle.std.proofs.Common.{◌≡◌, ◌≢◌, ◌⊎◌, inl, inr, ℕ, zero, suc, ◌<◌, true, false, Bool, List, [], ◌∷◌, ◌++◌, length, set, refl, sym, ◌∙◌, ap, subst, arith, Option, Some, None, eq-eqb}
 use Rattle.std.specs.Prelude.{◌==◌, ◌||◌, slice_get, get_or, slice_index_or, option_map, Contains}
 use Rattle.std.proofs.lemmas.Bool.{false≢true, ne_eqb}
-use Rattle.qmp_rules.specs.Chains.{has_id}
+use Rattle.qmp_rules.specs.Chains.{is_listed}
 use Rattle.blk_history.specs.Fold.{change, With}
 use Rattle.world_parts.proofs.Ends.{has-is, is-has}
 
@@ -70,11 +70,11 @@ module _ {A : Type 0} where
 
 -- ---- ids in a list
 
-pub has-push : (ids : List ℕ) (id other : ℕ) → has_id id (ids ++ other ∷ []) ≡ (has_id id ids || (other == id))
+pub has-push : (ids : List ℕ) (id other : ℕ) → is_listed id (ids ++ other ∷ []) ≡ (is_listed id ids || (other == id))
 has-push [] id other = elim (other == id) as (λ b. (b || false) ≡ (false || b)) [ true ↦ refl | false ↦ refl ]
 has-push (x ∷ ids) id other =
     let rest = has-push ids id other in
-    elim (x == id) as (λ b. (b || has_id id (ids ++ other ∷ [])) ≡ ((b || has_id id ids) || (other == id))) [ true ↦ refl | false ↦ rest ]
+    elim (x == id) as (λ b. (b || is_listed id (ids ++ other ∷ [])) ≡ ((b || is_listed id ids) || (other == id))) [ true ↦ refl | false ↦ rest ]
 
 or-false : (b : Bool) → (b || false) ≡ b
 or-false true = refl
@@ -85,16 +85,16 @@ or-true true = refl
 or-true false = refl
 
 -- another's end
-pub has-stays : (ids : List ℕ) (id other : ℕ) → other ≢ id → has_id id (ids ++ other ∷ []) ≡ has_id id ids
-has-stays ids id other apart = has-push ids id other ∙ rw (ne_eqb other id apart) (or-false (has_id id ids))
+pub has-stays : (ids : List ℕ) (id other : ℕ) → other ≢ id → is_listed id (ids ++ other ∷ []) ≡ is_listed id ids
+has-stays ids id other apart = has-push ids id other ∙ rw (ne_eqb other id apart) (or-false (is_listed id ids))
 
-pub has-own : (ids : List ℕ) (id : ℕ) → has_id id (ids ++ id ∷ []) ≡ true
-has-own ids id = has-push ids id id ∙ rw (eq-eqb id id refl) (or-true (has_id id ids))
+pub has-own : (ids : List ℕ) (id : ℕ) → is_listed id (ids ++ id ∷ []) ≡ true
+has-own ids id = has-push ids id id ∙ rw (eq-eqb id id refl) (or-true (is_listed id ids))
 
-pub none-has : (ids : List ℕ) (id : ℕ) (b : Bool) → b ≡ has_id id ids → b ≡ false → Contains ids id → ⊥
+pub none-has : (ids : List ℕ) (id : ℕ) (b : Bool) → b ≡ is_listed id ids → b ≡ false → Contains ids id → ⊥
 none-has ids id b is going has = false≢true (sym going ∙ is ∙ is-has id ids has)
 
-pub some-has : (ids : List ℕ) (id : ℕ) (b : Bool) → b ≡ has_id id ids → b ≡ true → Contains ids id
+pub some-has : (ids : List ℕ) (id : ℕ) (b : Bool) → b ≡ is_listed id ids → b ≡ true → Contains ids id
 some-has ids id b is done = has-is id ids (sym is ∙ done)
 
 -- an element by its place

@@ -3,13 +3,13 @@ use Rattle.std.proofs.Common.{◌≡◌, ◌≢◌, ◌⊎◌, ℕ, ◌+◌, Lis
 use Rattle.std.specs.Prelude.{slice_get}
 use Rattle.std.proofs.Math.ListN.{length-set}
 use Rattle.std.proofs.lemmas.List.Elements.{filter_map-append}
-use Rattle.qmp_rules.specs.Chains.{has_id}
+use Rattle.qmp_rules.specs.Chains.{is_listed}
 use Rattle.blk_history.specs.declared.event.Event.{Event}
 use Rattle.blk_history.specs.declared.event.Event.TheVariants.{Admit, Refuse, Piece, Retire, Reply, Reached, Start, Ready, End, Done}
 use Rattle.flat_machine.specs.State.{Guest}
 use Rattle.flat_machine.specs.Comes.{guest_step}
 use Rattle.flat_machine.specs.Machine.{admitted, finished, past_piece}
-use Rattle.world_parts.specs.Progress.{Progress, ended_in, answered_in, done_by}
+use Rattle.world_parts.specs.Progress.{Progress, ended_in, answered_in, actor_done}
 use Rattle.world_parts.proofs.InStep.{ended-push}
 use Rattle.world_commands.proofs.Coherence.{length-change}
 use Rattle.qblk_run.specs.Tasks.{Task, ScriptTask, IsTaskIn, IsScriptIn, CanGoOn, AreTasksIn}
@@ -20,15 +20,15 @@ use Rattle.qblk_run.proofs.Sums.{entries-set, bytes-set}
 -- ---- ends of actors
 
 pub ended-done : (es : List Event) (actor : ℕ) → ended_in (es ++ Done actor ∷ []) ≡ ended_in es ++ actor ∷ []
-ended-done es actor = filter_map-append done_by es (Done actor ∷ [])
+ended-done es actor = filter_map-append actor_done es (Done actor ∷ [])
 
 -- whether the guest itself is done
 own-ended : (es : List Event) (a : List ℕ) (g : ℕ) (before after : Task) (e : Event) → IsOwnMove a g before after e
-    → before.is_done ≡ has_id (g + 1) (ended_in es) → after.is_done ≡ has_id (g + 1) (ended_in (es ++ e ∷ []))
-own-ended es a g before after (Admit n r op) own was = own.1.is_done ∙ was ∙ ap (has_id (g + 1)) (sym (ended-push es (Admit n r op) refl))
-own-ended es a g before after (Refuse n r op why) own was = own.1.is_done ∙ was ∙ ap (has_id (g + 1)) (sym (ended-push es (Refuse n r op why) refl))
-own-ended es a g before after (Piece n r k outcome got) own was = own.1.is_done ∙ was ∙ ap (has_id (g + 1)) (sym (ended-push es (Piece n r k outcome got) refl))
-own-ended es a g before after (Retire n r) own was = own.1.is_done ∙ was ∙ ap (has_id (g + 1)) (sym (ended-push es (Retire n r) refl))
+    → before.is_done ≡ is_listed (g + 1) (ended_in es) → after.is_done ≡ is_listed (g + 1) (ended_in (es ++ e ∷ []))
+own-ended es a g before after (Admit n r op) own was = own.1.is_done ∙ was ∙ ap (is_listed (g + 1)) (sym (ended-push es (Admit n r op) refl))
+own-ended es a g before after (Refuse n r op why) own was = own.1.is_done ∙ was ∙ ap (is_listed (g + 1)) (sym (ended-push es (Refuse n r op why) refl))
+own-ended es a g before after (Piece n r k outcome got) own was = own.1.is_done ∙ was ∙ ap (is_listed (g + 1)) (sym (ended-push es (Piece n r k outcome got) refl))
+own-ended es a g before after (Retire n r) own was = own.1.is_done ∙ was ∙ ap (is_listed (g + 1)) (sym (ended-push es (Retire n r) refl))
 own-ended es a g before after (Done actor) own was =
     own.1.is_done ∙ sym (rw (ended-done es actor, own.0) (has-own (ended_in es) (g + 1)))
 own-ended es a g before after (Reply line given command text) own was = absurd own
@@ -39,11 +39,11 @@ own-ended es a g before after (End job outcome offset) own was = absurd own
 
 -- and whether another actor is
 other-ended : (es : List Event) (a : List ℕ) (g : ℕ) (before after : Task) (e : Event) (actor : ℕ) → IsOwnMove a g before after e → actor ≢ g + 1
-    → has_id actor (ended_in (es ++ e ∷ [])) ≡ has_id actor (ended_in es)
-other-ended es a g before after (Admit n r op) actor own apart = ap (has_id actor) (ended-push es (Admit n r op) refl)
-other-ended es a g before after (Refuse n r op why) actor own apart = ap (has_id actor) (ended-push es (Refuse n r op why) refl)
-other-ended es a g before after (Piece n r k outcome got) actor own apart = ap (has_id actor) (ended-push es (Piece n r k outcome got) refl)
-other-ended es a g before after (Retire n r) actor own apart = ap (has_id actor) (ended-push es (Retire n r) refl)
+    → is_listed actor (ended_in (es ++ e ∷ [])) ≡ is_listed actor (ended_in es)
+other-ended es a g before after (Admit n r op) actor own apart = ap (is_listed actor) (ended-push es (Admit n r op) refl)
+other-ended es a g before after (Refuse n r op why) actor own apart = ap (is_listed actor) (ended-push es (Refuse n r op why) refl)
+other-ended es a g before after (Piece n r k outcome got) actor own apart = ap (is_listed actor) (ended-push es (Piece n r k outcome got) refl)
+other-ended es a g before after (Retire n r) actor own apart = ap (is_listed actor) (ended-push es (Retire n r) refl)
 other-ended es a g before after (Done other) actor own apart =
     rw (ended-done es other) (has-stays (ended_in es) actor other (λ same. apart (sym same ∙ own.0)))
 other-ended es a g before after (Reply line given command text) actor own apart = absurd own
@@ -91,7 +91,7 @@ module _ (p q : Progress) (script : ScriptTask) (tasks : List Task) (g : ℕ) (b
           let now : after ≡ task = get-set tasks g after task (rw same at is) in
           rw (same, ← now) (record {
             row = move.task;
-            ended = own-ended p.log.events (answered_in p.log.events) g before after e move.own (all g before there).ended ∙ ap (λ es. has_id (g + 1) (ended_in es)) (sym move.events);
+            ended = own-ended p.log.events (answered_in p.log.events) g before after e move.own (all g before there).ended ∙ ap (λ es. is_listed (g + 1) (ended_in es)) (sym move.events);
           })
 
       elsewhere : k ≢ g → IsTaskIn q k task
@@ -99,7 +99,7 @@ module _ (p q : Progress) (script : ScriptTask) (tasks : List Task) (g : ℕ) (b
           let was = all k task (sym (get-set-other tasks g k after apart) ∙ is) in
           record {
             row = rw (move.guests, step-other p.guests (answered_in p.log.events) g k before after e move.own apart) was.row;
-            ended = was.ended ∙ sym (ap (λ es. has_id (k + 1) (ended_in es)) move.events
+            ended = was.ended ∙ sym (ap (λ es. is_listed (k + 1) (ended_in es)) move.events
                 ∙ other-ended p.log.events (answered_in p.log.events) g before after e (k + 1) move.own (λ same. apart (omega arith)));
           }
 
@@ -109,7 +109,7 @@ module _ (p q : Progress) (script : ScriptTask) (tasks : List Task) (g : ℕ) (b
 
   script-in : IsScriptIn p script → IsScriptIn q script
   script-in was = record {
-    ended = was.ended ∙ sym (ap (λ es. has_id 0 (ended_in es)) move.events
+    ended = was.ended ∙ sym (ap (λ es. is_listed 0 (ended_in es)) move.events
         ∙ other-ended p.log.events (answered_in p.log.events) g before after e 0 move.own (λ same. absurd (omega arith)));
     used = was.used;
   }

@@ -12,7 +12,7 @@ use Rattle.blk_history.specs.declared.event.Event.TheVariants.{Admit, Refuse, Pi
 use Rattle.blk_history.proofs.Folds.{each-push}
 use Rattle.flat_machine.specs.Courses.{Course, course_of, course_after, onward, IsOwn, past_waits, behind, rest_of, IsNextOf, CanBeDone}
 use Rattle.world_parts.specs.Progress.{Progress, answered_in}
-use Rattle.qblk_run.specs.Tasks.{Task, ScriptTask, AreRestsOf, IsRestOf, KeepsTo, HasLine, HaveLines, guests_only}
+use Rattle.qblk_run.specs.Tasks.{Task, ScriptTask, AreRestsOf, IsRestOf, KeepsTo, CanHaveLine, CanHaveLines, guests_only}
 use Rattle.qblk_run.specs.Turns.{IsOwnMove, IsMove, Asks, Ends}
 use Rattle.qblk_run.proofs.Lists.{same_or_not, get-set, get-set-other, get-change, get-change-other, with-map, below-get}
 use Rattle.qblk_run.proofs.History.{course-answered, course-push}
@@ -143,7 +143,7 @@ module _ (p q : Progress) (script : ScriptTask) (tasks : List Task) (g : ℕ) (b
 
 -- ---- lines
 
-pub lines-push : (guests : List (List ℕ)) (es : List Event) (e : Event) → HaveLines guests es → HasLine guests e → HaveLines guests (es ++ e ∷ [])
+pub lines-push : (guests : List (List ℕ)) (es : List Event) (e : Event) → CanHaveLines guests es → CanHaveLine guests e → CanHaveLines guests (es ++ e ∷ [])
 lines-push guests [] e all one = (one, tt)
 lines-push guests (x ∷ es) e all one = (all.0, lines-push guests es e all.1 one)
 
@@ -160,7 +160,7 @@ has-name guests a g before after (Ready job) own known = absurd own
 has-name guests a g before after (End job outcome offset) own known = absurd own
 
 pub move-lines : (p q : Progress) (tasks : List Task) (g : ℕ) (before after : Task) (e : Event) → slice_get tasks g ≡ Some before → IsMove p q g before after e
-    → (guests : List (List ℕ)) → length tasks ≤ length guests → HaveLines guests p.log.events → HaveLines guests q.log.events
+    → (guests : List (List ℕ)) → length tasks ≤ length guests → CanHaveLines guests p.log.events → CanHaveLines guests q.log.events
 move-lines p q tasks g before after e there move guests many lines =
     let known = below-get tasks g before there in
     rw move.events (lines-push guests p.log.events e lines (record {

@@ -16,7 +16,7 @@ use Rattle.blk_history.specs.Recorded.{Recorded}
 use Rattle.flat_machine.specs.Courses.{KeepsOrder, course_of, course_after}
 use Rattle.flat_machine.specs.declared.opening.Opening.{Opening}
 use Rattle.world_commands.specs.Comes.{Comes}
-use Rattle.world_parts.specs.Face.{Face}
+use Rattle.world_parts.specs.Face.{WorldSeen}
 use Rattle.world_parts.specs.Progress.{Progress, no_progress}
 use Rattle.world_parts.specs.Steps.{StoreSeen, IsOpeningOf, new_world}
 use Rattle.qblk_core.specs.declared.status.Status.{Status}
@@ -34,7 +34,7 @@ use Rattle.qblk_run.specs.Run.{Setting, Answers, history_room, status_of}
 use Rattle.qblk_run.specs.Session.{IsPlayed, IsGivenUp}
 use Rattle.blk_history.specs.Transcript.{transcript}
 use Rattle.qblk_run.specs.Ending.{EndsAs}
-use Rattle.qblk_run.specs.Tasks.{Tasks, ScriptTask, AreDrainsOf, CanGoOn, HaveLines, guests_only}
+use Rattle.qblk_run.specs.Tasks.{Tasks, ScriptTask, AreDrainsOf, CanGoOn, CanHaveLines, guests_only}
 use Rattle.qblk_run.proofs.Answering.{run-answers}
 use Rattle.qblk_run.proofs.Accounts.{opening_by, opening-of, account, run-is}
 use Rattle.qblk_run.proofs.Beginnings.{start-can, start-keeps}
@@ -43,7 +43,7 @@ use Rattle.qblk_run.specs.Worlds.{GoesThrough, HasCome, IsUndoneBy}
 
 -- ---- the beginning
 
-pub play-can : (store : StoreSeen) (guests its names : List (List ℕ)) (script : List Order) (traces : List (List Wish)) (actors : Tasks) (room : Room) (world : Face)
+pub play-can : (store : StoreSeen) (guests its names : List (List ℕ)) (script : List Order) (traces : List (List Wish)) (actors : Tasks) (room : Room) (world : WorldSeen)
     → IsRunReady script traces guests actors its names room → length traces ≡ length guests → length guests ≤ 16 → world ≡ new_world store its room
     → CanGoOn world.progress actors
 play-can store guests its names script traces actors room world ready count few is =
@@ -53,17 +53,17 @@ play-can store guests its names script traces actors room world ready count few 
     rw (is, ready.actors_are) placed
 
 -- and no drain stands
-pub play-drains : (store : StoreSeen) (guests : List (List ℕ)) (room : Room) (world : Face) (script : ScriptTask) → world ≡ new_world store guests room → AreDrainsOf world script
-play-drains store guests room world script is = subst (λ (w : Face). AreDrainsOf w script) (sym is) (record { jobs = refl; command = inl refl })
+pub play-drains : (store : StoreSeen) (guests : List (List ℕ)) (room : Room) (world : WorldSeen) (script : ScriptTask) → world ≡ new_world store guests room → AreDrainsOf world script
+play-drains store guests room world script is = subst (λ (w : WorldSeen). AreDrainsOf w script) (sym is) (record { jobs = refl; command = inl refl })
 
 -- ---- the end
 
-pub played-lines : (w : Face) (script : List Order) (traces : List (List Wish)) (store : StoreSeen) (log : Recorded) (fault : Option FaultAt) (waiting : Option (ℕ × Waits Written))
-    (guests : List (List ℕ)) → w.progress.log.events ≡ [] → length traces ≡ length guests → IsPlayed w (new_tasks script traces) store log fault waiting → HaveLines guests log.events
+pub played-lines : (w : WorldSeen) (script : List Order) (traces : List (List Wish)) (store : StoreSeen) (log : Recorded) (fault : Option FaultAt) (waiting : Option (ℕ × Waits Written))
+    (guests : List (List ℕ)) → w.progress.log.events ≡ [] → length traces ≡ length guests → IsPlayed w (new_tasks script traces) store log fault waiting → CanHaveLines guests log.events
 played-lines w script traces store log fault waiting guests none count played =
     let size : length (map new_task traces) ≡ length traces = length-map traces new_task in
-    let lines : HaveLines guests w.progress.log.events = rw none tt in
-    subst (λ (l : Recorded). HaveLines guests l.events) (sym played.log_is) (played.so.lines guests (omega arith) lines)
+    let lines : CanHaveLines guests w.progress.log.events = rw none tt in
+    subst (λ (l : Recorded). CanHaveLines guests l.events) (sym played.log_is) (played.so.lines guests (omega arith) lines)
 
 -- memory wasn't had for a turn
 pub given-up : (cast : Cast) (work : Work) (old new : Setting) (room : Room) → room ≡ history_room work → IfTold old.store.files (HasWork cast work) → length work.traces ≡ length (guests_of cast)
@@ -154,15 +154,15 @@ room-is work room is =
     one ∙ two
 
 -- the world and the actors that a run began with
-world-is : (store : StoreSeen) (guests its : List (List ℕ)) (room : Room) (world : Face) → its ≡ guests → world ≡ new_world store its room → world ≡ new_world store guests room
+world-is : (store : StoreSeen) (guests its : List (List ℕ)) (room : Room) (world : WorldSeen) → its ≡ guests → world ≡ new_world store its room → world ≡ new_world store guests room
 world-is store guests its room world same is = is ∙ ap (λ (names : List (List ℕ)). new_world store names room) same
 
-begins-is : (store : StoreSeen) (guests its : List (List ℕ)) (room : Room) (world : Face) → its ≡ guests → world ≡ new_world store its room
+begins-is : (store : StoreSeen) (guests its : List (List ℕ)) (room : Room) (world : WorldSeen) → its ≡ guests → world ≡ new_world store its room
     → ((o : Opening) → IsOpeningOf store its o → Comes o world) → (o : Opening) → IsOpeningOf store guests o → Comes o (new_world store guests room)
 begins-is store guests its room world same is begins o opening =
     subst (Comes o) (world-is store guests its room world same is) (begins o (rw same opening))
 
-module _ (cast : Cast) (work : Work) (old new : Setting) (room : Room) (guests its names : List (List ℕ)) (actors : Tasks) (world : Face)
+module _ (cast : Cast) (work : Work) (old new : Setting) (room : Room) (guests its names : List (List ℕ)) (actors : Tasks) (world : WorldSeen)
     (ready : IsRunReady work.script work.traces guests actors its names room) (called : guests_of cast ≡ guests) (count : length work.traces ≡ length guests)
     (is : world ≡ new_world old.store its room) (begins : (o : Opening) → IsOpeningOf old.store its o → Comes o world) where
   same : its ≡ guests_of cast
@@ -172,13 +172,13 @@ module _ (cast : Cast) (work : Work) (old new : Setting) (room : Room) (guests i
   given-here inputs given sent sink =
       given-up cast work old new room (room-is work room ready.room_is) inputs (count ∙ ap length (sym called)) (begins-is old.store (guests_of cast) its room world same is begins)
       (subst (λ (t : Tasks). IsGivenUp (new_world old.store (guests_of cast) room) t new.store) ready.actors_are
-      (subst (λ (w : Face). IsGivenUp w actors new.store) (world-is old.store (guests_of cast) its room world same is) given)) sent sink
+      (subst (λ (w : WorldSeen). IsGivenUp w actors new.store) (world-is old.store (guests_of cast) its room world same is) given)) sent sink
 
   played-as : (log : Recorded) (fault : Option FaultAt) (waiting : Option (ℕ × Waits Written)) → IsPlayed world actors new.store log fault waiting
       → IsPlayed (new_world old.store (guests_of cast) room) (new_tasks work.script work.traces) new.store log fault waiting
   played-as log fault waiting played =
       subst (λ (t : Tasks). IsPlayed (new_world old.store (guests_of cast) room) t new.store log fault waiting) ready.actors_are
-      (subst (λ (w : Face). IsPlayed w actors new.store log fault waiting) (world-is old.store (guests_of cast) its room world same is) played)
+      (subst (λ (w : WorldSeen). IsPlayed w actors new.store log fault waiting) (world-is old.store (guests_of cast) its room world same is) played)
 
   pub played-here : (log : Recorded) (fault : Option FaultAt) (waiting : Option (ℕ × Waits Written)) (status : Status)
       → IfTold old.store.files (HasWork cast work) → IsPlayed world actors new.store log fault waiting
@@ -191,11 +191,11 @@ module _ (cast : Cast) (work : Work) (old new : Setting) (room : Room) (guests i
       status (subst (λ (ns : List (List ℕ)). EndsAs fault waiting old.sent new.sent (transcript (guests_only ns) log.events) old.sink_faults new.sink_faults status) printed ends)
 
 -- the lines of a history that was played have their names
-pub lines-here : (store : StoreSeen) (script : List Order) (traces : List (List Wish)) (guests its names : List (List ℕ)) (actors : Tasks) (room : Room) (world : Face) (after : StoreSeen)
+pub lines-here : (store : StoreSeen) (script : List Order) (traces : List (List Wish)) (guests its names : List (List ℕ)) (actors : Tasks) (room : Room) (world : WorldSeen) (after : StoreSeen)
     (log : Recorded) (fault : Option FaultAt) (waiting : Option (ℕ × Waits Written)) → IsRunReady script traces guests actors its names room → length traces ≡ length guests
-    → world ≡ new_world store its room → IsPlayed world actors after log fault waiting → HaveLines names log.events
+    → world ≡ new_world store its room → IsPlayed world actors after log fault waiting → CanHaveLines names log.events
 lines-here store script traces guests its names actors room world after log fault waiting ready count is played =
-    let begun : world.progress.log.events ≡ [] = ap (λ (w : Face). w.progress.log.events) is in
+    let begun : world.progress.log.events ≡ [] = ap (λ (w : WorldSeen). w.progress.log.events) is in
     let tasks : IsPlayed world (new_tasks script traces) after log fault waiting = subst (λ (t : Tasks). IsPlayed world t after log fault waiting) ready.actors_are played in
     played-lines world script traces after log fault waiting names begun (count ∙ ap length (sym ready.names_are)) tasks
 

@@ -5,7 +5,7 @@ use Rattle.blk_base.specs.Written.{Written}
 use Rattle.trace_codec.specs.declared.order.Order.{Order as OrderOf}
 use Rattle.trace_codec.specs.Script.{Order, seen_order}
 use Rattle.flat_machine.specs.Legal.{IsNotDone}
-use Rattle.world_parts.specs.Face.{Face, seen_state}
+use Rattle.world_parts.specs.Face.{WorldSeen, seen_state}
 use Rattle.world_parts.specs.Progress.{ended_in}
 use Rattle.qblk_run.specs.Tasks.{ScriptTask, IsScriptIn}
 use Rattle.qblk_run.proofs.Lists.{none-has}
@@ -24,5 +24,5 @@ first-next orders old next taken olds rest order is kept some gone = rw (is, ←
 
 -- ---- whether it is done
 
-pub script-open : (w : Face) (old s : ScriptTask) → IsScriptIn w.progress s → old ≡ s → old.is_done ≡ false → IsNotDone (seen_state w) 0
+pub script-open : (w : WorldSeen) (old s : ScriptTask) → IsScriptIn w.progress s → old ≡ s → old.is_done ≡ false → IsNotDone (seen_state w) 0
 script-open w old s is same going = none-has (ended_in w.progress.log.events) 0 s.is_done is.ended (ap (λ (t : ScriptTask). t.is_done) (sym same) ∙ going)

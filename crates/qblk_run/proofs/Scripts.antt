@@ -4,14 +4,14 @@ use Rattle.std.specs.Prelude.{slice_get}
 use Rattle.std.proofs.lemmas.Bool.{false≢true}
 use Rattle.trace_codec.specs.declared.wish.Wish.{Wish}
 use Rattle.trace_codec.specs.Script.{Order}
-use Rattle.qmp_rules.specs.Chains.{has_id}
+use Rattle.qmp_rules.specs.Chains.{is_listed}
 use Rattle.blk_history.specs.declared.event.Event.{Event}
 use Rattle.blk_history.specs.declared.event.Event.TheVariants.{Admit, Refuse, Piece, Retire, Reply, Reached, Start, Ready, End, Done}
 use Rattle.blk_history.proofs.Folds.{each-push}
 use Rattle.flat_machine.specs.Courses.{Course, course_of, course_after, onward, IsOwn}
 use Rattle.world_parts.specs.Progress.{Progress, ended_in}
 use Rattle.world_parts.proofs.InStep.{ended-push}
-use Rattle.qblk_run.specs.Tasks.{Task, ScriptTask, CanGoOn, AreRestsOf, KeepsTo, HasLine, HaveLines, entries_of_script}
+use Rattle.qblk_run.specs.Tasks.{Task, ScriptTask, CanGoOn, AreRestsOf, KeepsTo, CanHaveLine, CanHaveLines, entries_of_script}
 use Rattle.qblk_run.specs.Turns.{IsOwnOrder, IsScriptMove}
 use Rattle.qblk_run.proofs.Lists.{with-map, has-stays, has-own}
 use Rattle.qblk_run.proofs.Waits.{Grows, grows-same, grows-more, alike-later}
@@ -22,9 +22,9 @@ use Rattle.qblk_run.proofs.Orders.{lines-push}
 -- ---- ends of actors
 
 guest-ended : (es : List Event) (before after : ScriptTask) (e : Event) (g : ℕ) → IsOwnOrder before after e
-    → has_id (g + 1) (ended_in (es ++ e ∷ [])) ≡ has_id (g + 1) (ended_in es)
-guest-ended es before after (Reply line given command text) g own = ap (has_id (g + 1)) (ended-push es (Reply line given command text) refl)
-guest-ended es before after (Reached line what) g own = ap (has_id (g + 1)) (ended-push es (Reached line what) refl)
+    → is_listed (g + 1) (ended_in (es ++ e ∷ [])) ≡ is_listed (g + 1) (ended_in es)
+guest-ended es before after (Reply line given command text) g own = ap (is_listed (g + 1)) (ended-push es (Reply line given command text) refl)
+guest-ended es before after (Reached line what) g own = ap (is_listed (g + 1)) (ended-push es (Reached line what) refl)
 guest-ended es before after (Done actor) g own = rw (ended-done es actor) (has-stays (ended_in es) (g + 1) actor (λ same. absurd (let is = own.0 in omega arith)))
 guest-ended es before after (Admit n r op) g own = absurd own
 guest-ended es before after (Refuse n r op why) g own = absurd own
@@ -35,9 +35,9 @@ guest-ended es before after (Ready job) g own = absurd own
 guest-ended es before after (End job outcome offset) g own = absurd own
 
 script-ended : (es : List Event) (before after : ScriptTask) (e : Event) → before.is_done ≡ false → IsOwnOrder before after e
-    → before.is_done ≡ has_id 0 (ended_in es) → after.is_done ≡ has_id 0 (ended_in (es ++ e ∷ []))
-script-ended es before after (Reply line given command text) going own was = own.1 ∙ sym going ∙ was ∙ ap (has_id 0) (sym (ended-push es (Reply line given command text) refl))
-script-ended es before after (Reached line what) going own was = own.1 ∙ sym going ∙ was ∙ ap (has_id 0) (sym (ended-push es (Reached line what) refl))
+    → before.is_done ≡ is_listed 0 (ended_in es) → after.is_done ≡ is_listed 0 (ended_in (es ++ e ∷ []))
+script-ended es before after (Reply line given command text) going own was = own.1 ∙ sym going ∙ was ∙ ap (is_listed 0) (sym (ended-push es (Reply line given command text) refl))
+script-ended es before after (Reached line what) going own was = own.1 ∙ sym going ∙ was ∙ ap (is_listed 0) (sym (ended-push es (Reached line what) refl))
 script-ended es before after (Done actor) going own was = own.3 ∙ sym (rw (ended-done es actor, own.0) (has-own (ended_in es) 0))
 script-ended es before after (Admit n r op) going own was = absurd own
 script-ended es before after (Refuse n r op why) going own was = absurd own
@@ -116,7 +116,7 @@ rests-answer c d before after tasks now rests = record {
 
 -- ---- lines
 
-has-line : (guests : List (List ℕ)) (before after : ScriptTask) (e : Event) → IsOwnOrder before after e → HasLine guests e
+has-line : (guests : List (List ℕ)) (before after : ScriptTask) (e : Event) → IsOwnOrder before after e → CanHaveLine guests e
 has-line guests before after (Reply line given command text) own = record { named = tt; shown = omega arith }
 has-line guests before after (Reached line what) own = record { named = tt; shown = omega arith }
 has-line guests before after (Done actor) own = record { named = rw own.0 tt; shown = omega arith }
@@ -143,10 +143,10 @@ module _ (p q : Progress) (before after : ScriptTask) (tasks : List Task) (e : E
         count = can.count ∙ ap length (sym move.guests);
         guests = λ g task is. let was = can.guests g task is in record {
           row = rw move.guests was.row;
-          ended = was.ended ∙ sym (ap (λ es. has_id (g + 1) (ended_in es)) move.events ∙ guest-ended p.log.events before after e g move.own);
+          ended = was.ended ∙ sym (ap (λ es. is_listed (g + 1) (ended_in es)) move.events ∙ guest-ended p.log.events before after e g move.own);
         };
         script = record {
-          ended = script-ended p.log.events before after e move.runs move.own can.script.ended ∙ ap (λ es. has_id 0 (ended_in es)) (sym move.events);
+          ended = script-ended p.log.events before after e move.runs move.own can.script.ended ∙ ap (λ es. is_listed 0 (ended_in es)) (sym move.events);
           used = script-used before after e move.own;
         };
         entries = omega arith;
@@ -162,5 +162,5 @@ module _ (p q : Progress) (before after : ScriptTask) (tasks : List Task) (e : E
         rests = rw (course-push (course_of orders traces) p.log.events e) (rests-answer c (onward c e) before after tasks (answers c before after e keeps.rests.script move.own) keeps.rests);
       })
 
-  pub script-lines : (guests : List (List ℕ)) → HaveLines guests p.log.events → HaveLines guests q.log.events
+  pub script-lines : (guests : List (List ℕ)) → CanHaveLines guests p.log.events → CanHaveLines guests q.log.events
   script-lines guests lines = rw move.events (lines-push guests p.log.events e lines (has-line guests before after e move.own))

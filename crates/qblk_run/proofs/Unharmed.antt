@@ -12,12 +12,12 @@ use Rattle.qmp_codec.specs.Commands.{Cmd}
 use Rattle.qmp_codec.specs.Lines.{command_at}
 use Rattle.flat_machine.specs.Courses.{Course, onward}
 use Rattle.flat_machine.specs.EventLicence.{IsCommandsFull, ReachesDevice, full_in_text}
-use Rattle.flat_machine.specs.Replies.{command_in}
+use Rattle.flat_machine.specs.Replies.{command_read}
 use Rattle.flat_machine.specs.State.{drive_of}
 use Rattle.flat_machine.specs.declared.opening.Opening.{Opening}
 use Rattle.world_commands.specs.Carrying.{would_pass}
-use Rattle.world_commands.specs.Counting.{sources_of}
-use Rattle.world_parts.specs.Face.{Face, counts_now}
+use Rattle.world_commands.specs.Counting.{seen_sources}
+use Rattle.world_parts.specs.Face.{WorldSeen, counts_now}
 use Rattle.qblk_core.specs.declared.status.Status.{Status}
 use Rattle.qblk_core.specs.declared.status.Status.TheVariants.{Done, Usage, Input, Fault, Stuck, NoMemory}
 use Rattle.qblk_inputs.specs.Words.{Cast}
@@ -29,25 +29,25 @@ use Rattle.qblk_run.proofs.Lists.{is-get, below-get, with-at, with-some}
 
 -- ---- no device is full
 
-full-not : (w v : Face) (line : ℕ) (given : List ℕ) (command : _) (text : List ℕ) → IsEventOf w v (Reply line given command text) → HasSpaceFor w (Reply line given command text)
+full-not : (w v : WorldSeen) (line : ℕ) (given : List ℕ) (command : _) (text : List ℕ) → IsEventOf w v (Reply line given command text) → HasSpaceFor w (Reply line given command text)
     → full_in_text text ≡ None
 full-not w v line given command text event space = by_full (full_in_text text) refl
   where
-    passes : (dev : ℕ) → full_in_text text ≡ Some dev → IsCommandsFull w.table (sources_of w) (counts_now w) (would_pass w (command_in (command_at given))) (Some dev) (command_in (command_at given))
+    passes : (dev : ℕ) → full_in_text text ≡ Some dev → IsCommandsFull w.table (seen_sources w) (counts_now w) (would_pass w (command_read (command_at given))) (Some dev) (command_read (command_at given))
     passes dev is =
         let licensed = event.left.replied.licensed.2 in
-        subst (λ (full : Option ℕ). IsCommandsFull w.table (sources_of w) (counts_now w) (would_pass w (command_in (command_at given))) full (command_in (command_at given)))
+        subst (λ (full : Option ℕ). IsCommandsFull w.table (seen_sources w) (counts_now w) (would_pass w (command_read (command_at given))) full (command_read (command_at given)))
         (sym (ap full_in_text event.left.says) ∙ is) licensed
 
-    by_command : (dev : ℕ) (c : Option Cmd) → command_in (command_at given) ≡ c → IsCommandsFull w.table (sources_of w) (counts_now w) (would_pass w c) (Some dev) c → ⊥
+    by_command : (dev : ℕ) (c : Option Cmd) → command_read (command_at given) ≡ c → IsCommandsFull w.table (seen_sources w) (counts_now w) (would_pass w c) (Some dev) c → ⊥
     by_command dev None is full = full.0
     by_command dev (Some c) is full = space c is (record { 0 = dev }) full.0 full.1
 
     by_full : (full : Option ℕ) → full_in_text text ≡ full → full ≡ None
     by_full None is = refl
-    by_full (Some dev) is = absurd (by_command dev (command_in (command_at given)) refl (passes dev is))
+    by_full (Some dev) is = absurd (by_command dev (command_read (command_at given)) refl (passes dev is))
 
-full-none : (w v : Face) (e : Event) → IsEventOf w v e → HasSpaceFor w e → full_in e ≡ None
+full-none : (w v : WorldSeen) (e : Event) → IsEventOf w v e → HasSpaceFor w e → full_in e ≡ None
 full-none w v (Admit g r op) event space = refl
 full-none w v (Refuse g r op why) event space = refl
 full-none w v (Piece g r k Good got) event space = refl
@@ -56,8 +56,8 @@ full-none w v (Piece g r k (Io dev count) got) event space = refl
 full-none w v (Piece g r k (NoSpace dev) got) event space =
     let p = event.left in
     let licensed = p.licence.licensed in
-    let reached : ReachesDevice w.table (sources_of w) p.made.drive dev.0 =
-    with-at (drive_of w.table g) p.made.drive (λ node. ReachesDevice w.table (sources_of w) node dev.0) p.made.on licensed.0 in
+    let reached : ReachesDevice w.table (seen_sources w) p.made.drive dev.0 =
+    with-at (drive_of w.table g) p.made.drive (λ node. ReachesDevice w.table (seen_sources w) node dev.0) p.made.on licensed.0 in
     absurd (space p.flight p.made.drive dev.0 p.there p.made.on reached licensed.2)
 full-none w v (Retire g r) event space = refl
 full-none w v (Reply line given command text) event space = full-not w v line given command text event space
@@ -67,7 +67,7 @@ full-none w v (Ready job) event space = refl
 full-none w v (End job outcome offset) event space = absurd event.left
 full-none w v (Ended actor) event space = refl
 
-pub none-full : (o : Opening) (c : Course) (w : Face) (h : List Event) (v : Face) (through : GoesThrough o c w h v) → HaveSpace o c w h v through
+pub none-full : (o : Opening) (c : Course) (w : WorldSeen) (h : List Event) (v : WorldSeen) (through : GoesThrough o c w h v) → HaveSpace o c w h v through
     → filter_map full_in h ≡ []
 none-full o c w [] v through space = refl
 none-full o c w (e ∷ h) v through space =

@@ -10,7 +10,7 @@ use Rattle.trace_codec.specs.Script.{Order}
 use Rattle.qmp_codec.specs.Commands.{Cmd}
 use Rattle.qmp_codec.specs.Lines.{command_at}
 use Rattle.qmp_rules.specs.Chains.{disk_node}
-use Rattle.qmp_rules.specs.Table.{Table, device_at}
+use Rattle.qmp_rules.specs.Table.{RunTable, device_by_number}
 use Rattle.blk_history.specs.Machine.{Flight}
 use Rattle.blk_history.specs.declared.entry.JobEnd.{JobEnd}
 use Rattle.blk_history.specs.declared.entry.JobEnd.TheVariants.{Failed}
@@ -19,12 +19,12 @@ use Rattle.blk_history.specs.declared.event.Event.TheVariants.{Piece, Reply, End
 use Rattle.flat_machine.specs.Courses.{Course, is_answered, onward}
 use Rattle.flat_machine.specs.EventLicence.{ReachesDevice, full_by, full_in_text}
 use Rattle.flat_machine.specs.Licence.{faults_of}
-use Rattle.flat_machine.specs.Replies.{command_in}
+use Rattle.flat_machine.specs.Replies.{command_read}
 use Rattle.flat_machine.specs.State.{drive_of}
 use Rattle.flat_machine.specs.declared.opening.Opening.{Opening}
 use Rattle.world_commands.specs.Carrying.{FitsAll}
-use Rattle.world_commands.specs.Counting.{sources_of}
-use Rattle.world_parts.specs.Face.{Face}
+use Rattle.world_commands.specs.Counting.{seen_sources}
+use Rattle.world_parts.specs.Face.{WorldSeen}
 use Rattle.world_commands.specs.Piecing.{piece_passes, part_of}
 use Rattle.world_parts.specs.Progress.{flight_at}
 use Rattle.qblk_core.specs.Completeness.{HasStood}
@@ -58,8 +58,8 @@ pub record CanBeWhole (work : Work) : Type 0 where
   pub traces : All (WaitsForLines (lines_in work.script)) work.traces
 
 -- each of so many guests has a device
-abbrev pub AreAttached : Table → ℕ → Type 0
-AreAttached t n = (g : ℕ) → g < n → IsSome (device_at t g)
+abbrev pub AreAttached : RunTable → ℕ → Type 0
+AreAttached t n = (g : ℕ) → g < n → IsSome (device_by_number t g)
 
 -- ---- runs that meet no fault
 
@@ -82,17 +82,17 @@ pub record MeetsNone (h : List Event) : Type 0 where
 -- No write of the event that was made in this world would pass the capacity of a device: of a piece that writes, of that of the
 -- file which the guest's disk writes; of one that reads, of that of an image's file below the drive into which a copy-on-read puts
 -- what was read; of a command, of one that it calls.
-abbrev pub HasSpaceFor : Face → Event → Type 0
+abbrev pub HasSpaceFor : WorldSeen → Event → Type 0
 HasSpaceFor w (Piece g r k outcome got) = (f : Flight) (drive dev : ℕ)
     → flight_at w.progress.guests g ≡ Some f → drive_of w.table g ≡ Some drive
-    → ReachesDevice w.table (sources_of w) drive dev
+    → ReachesDevice w.table (seen_sources w) drive dev
     → piece_passes w.nodes drive (disk_node w.table drive) f.op (part_of f) dev → ⊥
 HasSpaceFor w (Reply line given command text) =
-    (c : Cmd) → command_in (command_at given) ≡ Some c → FitsAll w c
+    (c : Cmd) → command_read (command_at given) ≡ Some c → FitsAll w c
 HasSpaceFor w e = Unit {0}
 
 -- so it is with each event, in the world before it
-abbrev pub HaveSpace : (o : Opening) (c : Course) (w : Face) (h : List Event) (v : Face)
+abbrev pub HaveSpace : (o : Opening) (c : Course) (w : WorldSeen) (h : List Event) (v : WorldSeen)
     → GoesThrough o c w h v → Type 0
 HaveSpace o c w [] v through = Unit {0}
 HaveSpace o c w (e ∷ h) v through =

@@ -7,7 +7,7 @@ use Rattle.qmp_codec.specs.Lines.{Stop, command_at, id_at}
 use Rattle.qmp_codec.specs.Replies.{returned_data}
 use Rattle.qmp_codec.specs.declared.command.Command.TheVariants as command
 use Rattle.qmp_rules.specs.Edits.{place_from}
-use Rattle.qmp_rules.specs.Table.{Table, device_at}
+use Rattle.qmp_rules.specs.Table.{RunTable, device_by_number}
 use Rattle.blk_history.specs.Fold.{run}
 use Rattle.blk_history.specs.declared.event.Event.{Event}
 use Rattle.blk_history.specs.declared.event.Event.TheVariants.{Reply}
@@ -32,6 +32,6 @@ abbrev pub has_device : List ℕ → List Event → Bool
 has_device name h = run (has_after name) false h
 
 -- so it is in the table, of each guest by its place
-abbrev pub HaveDevices : List (List ℕ) → List Event → Table → Type 0
+abbrev pub HaveDevices : List (List ℕ) → List Event → RunTable → Type 0
 HaveDevices guests h t = (name : List ℕ) (g : ℕ)
-    → place_from 0 name guests ≡ Some g → is_some (device_at t g) ≡ has_device name h
+    → place_from 0 name guests ≡ Some g → is_some (device_by_number t g) ≡ has_device name h

@@ -4,24 +4,24 @@ use Rattle.trace_codec.specs.declared.wish.Wish.{Wish}
 use Rattle.trace_codec.specs.declared.waits.Waits.{Waits}
 use Rattle.trace_codec.specs.Script.{Order}
 use Rattle.flat_machine.specs.Blocked.{ScriptWaits, TraceWaits}
-use Rattle.world_parts.specs.Face.{Face, seen_state}
-use Rattle.qblk_run.specs.Tasks.{Task, Tasks, AreDrainsOf, CanGoOn, Halts, KeepsTo, HaveLines, Rests, ScriptHalts, ScriptRests, steps_of_tasks}
+use Rattle.world_parts.specs.Face.{WorldSeen, seen_state}
+use Rattle.qblk_run.specs.Tasks.{Task, Tasks, AreDrainsOf, CanGoOn, Halts, KeepsTo, CanHaveLines, Rests, ScriptHalts, ScriptRests, steps_of_tasks}
 use Rattle.qblk_run.specs.Turns.{IsTurn}
 use Rattle.qblk_run.specs.Worlds.{ComesOn, IsUndone}
 
 -- The history still keeps the order of script and traces, and what is left of these are the tasks.
-abbrev pub OrderStays : Face → Face → Tasks → Tasks → Type 0
+abbrev pub OrderStays : WorldSeen → WorldSeen → Tasks → Tasks → Type 0
 OrderStays w v before after = (script : List Order) (traces : List (List Wish))
     → KeepsTo script traces w.progress.log.events before
     → KeepsTo script traces v.progress.log.events after
 
 -- Its entries have lines.
-abbrev pub LinesStay : Face → Face → Tasks → Type 0
+abbrev pub LinesStay : WorldSeen → WorldSeen → Tasks → Type 0
 LinesStay w v before = (guests : List (List ℕ)) → length before.guests ≤ length guests
-    → HaveLines guests w.progress.log.events → HaveLines guests v.progress.log.events
+    → CanHaveLines guests w.progress.log.events → CanHaveLines guests v.progress.log.events
 
 -- after some turns the actors can go on
-pub record Continues (w v : Face) (before after : Tasks) : Type 0 where
+pub record Continues (w v : WorldSeen) (before after : Tasks) : Type 0 where
   pub can : CanGoOn v.progress after
   pub order : OrderStays w v before after
   pub lines : LinesStay w v before
@@ -30,34 +30,35 @@ pub record Continues (w v : Face) (before after : Tasks) : Type 0 where
   pub count : length after.guests ≡ length before.guests
 
 -- memory wasn't had for a line of the script, behind some turns
-pub record GivesUp (w v : Face) (before : Tasks) : Type 0 where
-  pub near : Face
+pub record GivesUp (w v : WorldSeen) (before : Tasks) : Type 0 where
+  pub near : WorldSeen
   pub after : Tasks
   pub so : Continues w near before after
   pub comes : ComesOn w near before.script.orders after.script.orders
   pub undone : IsUndone after.script.orders near v
 
 -- each actor is done or waits
-abbrev pub GuestsRest : Face → ℕ → List Task → Type 0
+abbrev pub GuestsRest : WorldSeen → ℕ → List Task → Type 0
 GuestsRest w n tasks =
     (g : ℕ) (task : Task) → g < n → slice_get tasks g ≡ Some task → Rests w g task
 
-pub record AllRest (w : Face) (tasks : Tasks) : Type 0 where
+pub record AllRest (w : WorldSeen) (tasks : Tasks) : Type 0 where
   pub script : ScriptRests w tasks.script
   pub guests : GuestsRest w (length tasks.guests) tasks.guests
 
 -- each of the first n guests makes no entry
-abbrev pub GuestsHalt : Face → ℕ → List Task → Type 0
+abbrev pub GuestsHalt : WorldSeen → ℕ → List Task → Type 0
 GuestsHalt w n tasks =
     (g : ℕ) (task : Task) → g < n → slice_get tasks g ≡ Some task → Halts w g task
 
 -- An entry was made, and less is left to do; or none was by the script and the first n guests, which can make none now.
-abbrev pub Goes : Face → Tasks → Tasks → ℕ → Bool → Type 0
+abbrev pub Goes : WorldSeen → Tasks → Tasks → ℕ → Bool → Type 0
 Goes v before after n true = steps_of_tasks after < steps_of_tasks before
 Goes v before after n false = ScriptHalts v after.script × GuestsHalt v n after.guests
 
 -- a guest of a list had its turn
-pub record HasTurn (w v : Face) (before after : List Task) (g : ℕ) (moved : Bool) : Type 0 where
+pub record HasTurn (w v : WorldSeen) (before after : List Task) (g : ℕ)
+    (moved : Bool) : Type 0 where
   pub task : Task
   pub now : Task
   pub there : slice_get before g ≡ Some task
@@ -75,7 +76,7 @@ pub record AreDone (tasks : Tasks) : Type 0 where
   pub guests : AllAreDone tasks.guests
 
 -- a guest is the first that is not done
-pub record IsFirstGuest (w : Face) (tasks : List Task) (g : ℕ) (what : Waits (List ℕ)) : Type 0
+pub record IsFirstGuest (w : WorldSeen) (tasks : List Task) (g : ℕ) (what : Waits (List ℕ)) : Type 0
   where
     pub task : Task
     pub there : slice_get tasks g ≡ Some task
@@ -85,7 +86,7 @@ pub record IsFirstGuest (w : Face) (tasks : List Task) (g : ℕ) (what : Waits (
         → done.is_done ≡ true
 
 -- the first actor that is not done, and what it waits for
-abbrev pub IsFirstUndone : Face → Tasks → ℕ → Waits (List ℕ) → Type 0
+abbrev pub IsFirstUndone : WorldSeen → Tasks → ℕ → Waits (List ℕ) → Type 0
 IsFirstUndone w tasks actor what =
     ((actor ≡ 0) × (tasks.script.is_done ≡ false)
     × ScriptWaits (seen_state w) tasks.script.orders what)

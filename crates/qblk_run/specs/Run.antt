@@ -12,7 +12,7 @@ use Rattle.blk_base.specs.declared.file.Opened.{Opened}
 use Rattle.blk_base.specs.declared.memory.Room.{Room}
 use Rattle.trace_codec.specs.declared.waits.Waits.{Waits}
 use Rattle.trace_codec.specs.declared.waits.Waits.TheVariants as waits
-use Rattle.qmp_rules.specs.Table.{Table}
+use Rattle.qmp_rules.specs.Table.{RunTable}
 use Rattle.blk_history.specs.Fold.{With}
 use Rattle.blk_history.specs.declared.event.Event.{Event}
 use Rattle.flat_machine.specs.State.{State, filename_of}
@@ -21,15 +21,15 @@ use Rattle.flat_machine.specs.Opening.{start}
 use Rattle.flat_machine.specs.Comes.{IsHistoryOf, IsInOrder, HasEnded, guests_after, transcript_of}
 use Rattle.flat_machine.specs.Courses.{Course, course_of, course_after}
 use Rattle.flat_machine.specs.Blocked.{IsStuck}
-use Rattle.flat_machine.specs.Licence.{Counts, AreLicensed, count_of, fault_at, faults_of}
+use Rattle.flat_machine.specs.Licence.{Counts, AreLicensed, source_count, fault_at, faults_of}
 use Rattle.flat_machine.specs.Final.{AreLeftBy, bytes_named}
 use Rattle.blk_history.specs.Small.{IsSmall}
 use Rattle.flat_machine.specs.Imaging.{ImagesAreSound}
 use Rattle.flat_machine.specs.declared.opening.Opening.{Opening}
-use Rattle.world_commands.specs.Closing.{IsClosed, IsFlushedIn, count_back}
+use Rattle.world_commands.specs.Closing.{EndsWorld, IsFlushedIn, count_back}
 use Rattle.world_commands.specs.Comes.{Comes}
 use Rattle.world_commands.specs.Counting.{HaveNotFallen}
-use Rattle.world_parts.specs.Face.{Face, counts_now}
+use Rattle.world_parts.specs.Face.{WorldSeen, counts_now}
 use Rattle.world_parts.specs.Steps.{StoreSeen, IsOpeningOf, new_world, seen_store}
 use Rattle.world_commands.specs.Tabling.{IsTableAfter}
 use Rattle.qblk_inputs.specs.Inputs.{Work, HasWork, IsRefusedInput, SpeaksOfCast}
@@ -96,13 +96,13 @@ pub record HaveNotSunk (first last : Counts) : Type 0 where
 
 -- no count has risen
 abbrev pub HaveStood : Counts → Counts → Type 0
-HaveStood first last = (from : FaultFrom) (n : ℕ) → count_of first from ≡ Some n
-    → (n < 18446744073709551615) × (count_of last from ≡ Some n)
+HaveStood first last = (from : FaultFrom) (n : ℕ) → source_count first from ≡ Some n
+    → (n < 18446744073709551615) × (source_count last from ≡ Some n)
 
 -- ---- files
 
 -- the file of each `file` node is flushed
-abbrev pub NodesAreFlushed : Table → List File → Type 0
+abbrev pub NodesAreFlushed : RunTable → List File → Type 0
 NodesAreFlushed t files =
     (node : ℕ) (name : List ℕ) → filename_of t node ≡ Some name → IsFlushedIn files name
 
@@ -152,14 +152,14 @@ course_in work a = course_after (course_of work.script work.traces) a.events
 -- but that the script's next line is put off; `had` says whether memory was had for each line.
 pub record IsPlayedBy (work : Work) (had : Bool) (fault : Option FaultAt) (old new : StoreSeen)
     (a : Account) : Type 0 where
-  pub near : Face
+  pub near : WorldSeen
   pub through : GoesThrough a.opening (course_of work.script work.traces)
       (new_world old a.opening.guests (history_room work)) a.events near
-  pub last : Face
+  pub last : WorldSeen
   pub is_last : IsLast had (course_in work a).script near last
   pub comes : Comes a.opening last
   pub counts_are : a.counts ≡ counts_now last
-  pub closed : IsClosed last new fault
+  pub closed : EndsWorld last new fault
 
 -- ---- a run
 

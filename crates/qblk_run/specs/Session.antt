@@ -9,8 +9,8 @@ use Rattle.blk_history.specs.Recorded.{Recorded}
 use Rattle.flat_machine.specs.Agreement.{ReadAsDisks}
 use Rattle.flat_machine.specs.Final.{AreDisks}
 use Rattle.flat_machine.specs.State.{State}
-use Rattle.world_commands.specs.Closing.{IsClosed, AreNodesFlushed}
-use Rattle.world_parts.specs.Face.{Face, held, told_bytes, contents_of}
+use Rattle.world_commands.specs.Closing.{EndsWorld, AreNodesFlushed}
+use Rattle.world_parts.specs.Face.{WorldSeen, held, told_bytes, contents_of}
 use Rattle.world_parts.specs.Steps.{StoreSeen}
 use Rattle.qblk_run.specs.Run.{seen_waits}
 use Rattle.qblk_run.specs.Tasks.{Tasks}
@@ -19,8 +19,8 @@ use Rattle.qblk_run.specs.Worlds.{ComesOn}
 use Rattle.qblk_run.specs.Rounds.{Continues, GivesUp, AllRest, AreDone, IsFirstUndone}
 
 -- the world was closed, and left its store so
-pub record IsEnd (v : Face) (store : StoreSeen) (fault : Option FaultAt) : Type 0 where
-  pub closed : IsClosed v store fault
+pub record IsEnd (v : WorldSeen) (store : StoreSeen) (fault : Option FaultAt) : Type 0 where
+  pub closed : EndsWorld v store fault
   pub faults : store.faults ≡ v.faults
   pub room : store.room ≡ v.room
   pub none_out : (name : List ℕ) → is_out name store.opened ≡ false
@@ -31,10 +31,10 @@ pub record IsEnd (v : Face) (store : StoreSeen) (fault : Option FaultAt) : Type 
 
 -- A world was played until no actor could go on, and closed; told are its history, the first fault of the last flushes, and the
 -- first actor that is not done.
-pub record IsPlayed (w : Face) (before : Tasks) (store : StoreSeen) (log : Recorded)
+pub record IsPlayed (w : WorldSeen) (before : Tasks) (store : StoreSeen) (log : Recorded)
     (fault : Option FaultAt)
     (waiting : Option (ℕ × Waits Written)) : Type 0 where
-  pub now : Face
+  pub now : WorldSeen
   pub after : Tasks
   pub so : Continues w now before after
   pub rest : AllRest now after
@@ -45,8 +45,8 @@ pub record IsPlayed (w : Face) (before : Tasks) (store : StoreSeen) (log : Recor
   pub named : MatchOption waiting (AreDone after) (λ r. IsFirstUndone now after r.0 (seen_waits r.1))
 
 -- Memory wasn't had for a line: the world was closed as that left it.
-pub record IsGivenUp (w : Face) (before : Tasks) (store : StoreSeen) : Type 0 where
-  pub now : Face
+pub record IsGivenUp (w : WorldSeen) (before : Tasks) (store : StoreSeen) : Type 0 where
+  pub now : WorldSeen
   pub gives : GivesUp w now before
   pub stays : StaysIn w now
   pub fault : Option FaultAt

@@ -5,7 +5,7 @@ use Rattle.trace_codec.specs.declared.waits.Waits.{Waits}
 use Rattle.trace_codec.specs.declared.order.Order.TheVariants.{Give}
 use Rattle.trace_codec.specs.Request.{pieces_of}
 use Rattle.trace_codec.specs.Script.{Order}
-use Rattle.qmp_rules.specs.Chains.{has_id}
+use Rattle.qmp_rules.specs.Chains.{is_listed}
 use Rattle.blk_history.specs.Fold.{With}
 use Rattle.blk_history.specs.Legal.{IsOver}
 use Rattle.blk_history.specs.Line.{IsActorNamed, shown_by}
@@ -15,8 +15,8 @@ use Rattle.blk_history.specs.declared.event.Event.{Event}
 use Rattle.flat_machine.specs.State.{Guest}
 use Rattle.flat_machine.specs.Blocked.{ScriptWaits, TraceWaits}
 use Rattle.flat_machine.specs.Courses.{Course, KeepsOrder, course_of, course_after, past_waits, rest_of}
-use Rattle.flat_machine.specs.Marks.{is_held}
-use Rattle.world_parts.specs.Face.{Face, seen_state}
+use Rattle.flat_machine.specs.Marks.{is_guest_held}
+use Rattle.world_parts.specs.Face.{WorldSeen, seen_state}
 use Rattle.world_parts.specs.Progress.{Progress, ended_in, answered_in}
 use Rattle.qblk_inputs.specs.Room.{entries_for, bytes_for, HaveNumbers}
 
@@ -39,19 +39,19 @@ pub record Tasks : Type 0 where
 -- ---- how much that is
 
 -- an actor that is not done has an end
-abbrev pub end_of : Bool → ℕ
-end_of is_done = if is_done then 0 else 1
+abbrev pub end_entries : Bool → ℕ
+end_entries is_done = if is_done then 0 else 1
 
 -- entries for which no room is set aside yet
 abbrev pub entries_of : Task → ℕ
-entries_of task = entries_for task.wishes + end_of task.is_done
+entries_of task = entries_for task.wishes + end_entries task.is_done
 
 abbrev pub entries_of_all : List Task → ℕ
 entries_of_all [] = 0
 entries_of_all (task ∷ tasks) = entries_of task + entries_of_all tasks
 
 abbrev pub entries_of_script : ScriptTask → ℕ
-entries_of_script script = length script.orders + end_of script.is_done
+entries_of_script script = length script.orders + end_entries script.is_done
 
 abbrev pub entries_of_tasks : Tasks → ℕ
 entries_of_tasks tasks = entries_of_script tasks.script + entries_of_all tasks.guests
@@ -87,20 +87,20 @@ IsFlying None None = Unit {0}
 IsFlying (Some left) (Some f) = HasPiecesLeft left f
 IsFlying _ _ = ⊥
 
-abbrev pub in_flight : Option ℕ → ℕ
-in_flight None = 0
-in_flight (Some left) = 1
+abbrev pub flight_entries : Option ℕ → ℕ
+flight_entries None = 0
+flight_entries (Some left) = 1
 
 -- a guest's task is what its row says, its requests can be counted, and where it is done nothing is left
 pub record IsTaskOf (row : Guest) (task : Task) : Type 0 where
   pub flying : IsFlying task.left row.flight
-  pub count : ((row.done + in_flight task.left) + length task.wishes) + 1 < 2 ^ 32
+  pub count : ((row.done + flight_entries task.left) + length task.wishes) + 1 < 2 ^ 32
   pub numbers : HaveNumbers task.wishes
   pub used : task.is_done ≡ true → (task.wishes ≡ []) × (task.left ≡ None)
 
 pub record IsTaskIn (p : Progress) (g : ℕ) (task : Task) : Type 0 where
   pub row : With (slice_get p.guests g) (λ row. IsTaskOf row task)
-  pub ended : task.is_done ≡ has_id (g + 1) (ended_in p.log.events)
+  pub ended : task.is_done ≡ is_listed (g + 1) (ended_in p.log.events)
 
 abbrev pub AreTasksIn : Progress → List Task → Type 0
 AreTasksIn p tasks = (g : ℕ) (task : Task) → slice_get tasks g ≡ Some task → IsTaskIn p g task
@@ -108,7 +108,7 @@ AreTasksIn p tasks = (g : ℕ) (task : Task) → slice_get tasks g ≡ Some task
 -- ---- the script
 
 pub record IsScriptIn (p : Progress) (script : ScriptTask) : Type 0 where
-  pub ended : script.is_done ≡ has_id 0 (ended_in p.log.events)
+  pub ended : script.is_done ≡ is_listed 0 (ended_in p.log.events)
   pub used : script.is_done ≡ true → script.orders ≡ []
 
 -- ---- all of it
@@ -147,28 +147,28 @@ abbrev pub guests_only : List (List ℕ) → RowNames
 guests_only guests = record { guests = guests; jobs = [] }
 
 -- the entry's guest or actor has a name, and it shows at most one block
-pub record HasLine (guests : List (List ℕ)) (e : Event) : Type 0 where
+pub record CanHaveLine (guests : List (List ℕ)) (e : Event) : Type 0 where
   pub named : IsActorNamed (guests_only guests) e
   pub shown : length (shown_by e) ≤ 65536
 
-abbrev pub HaveLines : List (List ℕ) → List Event → Type 0
-HaveLines guests [] = Unit {0}
-HaveLines guests (e ∷ es) = HasLine guests e × HaveLines guests es
+abbrev pub CanHaveLines : List (List ℕ) → List Event → Type 0
+CanHaveLines guests [] = Unit {0}
+CanHaveLines guests (e ∷ es) = CanHaveLine guests e × CanHaveLines guests es
 
 -- ---- actors that can go no further
 
 -- a guest waits for the line or the device that its wishes begin with; a wait that is over is no longer there
-pub record TaskWaits (w : Face) (g : ℕ) (task : Task) : Type 0 where
+pub record TaskWaits (w : WorldSeen) (g : ℕ) (task : Task) : Type 0 where
   pub idle : task.left ≡ None
   pub passed : past_waits (answered_in w.progress.log.events) task.wishes ≡ task.wishes
   pub what : Waits (List ℕ)
   pub waits : TraceWaits (seen_state w) g task.wishes what
 
 -- it is done, or waits
-abbrev pub Rests : Face → ℕ → Task → Type 0
+abbrev pub Rests : WorldSeen → ℕ → Task → Type 0
 Rests w g task = (task.is_done ≡ true) ⊎ TaskWaits w g task
 
-abbrev pub ScriptRests : Face → ScriptTask → Type 0
+abbrev pub ScriptRests : WorldSeen → ScriptTask → Type 0
 ScriptRests w script =
     (script.is_done ≡ true)
     ⊎ ((what : Waits (List ℕ)) × ScriptWaits (seen_state w) script.orders what)
@@ -176,12 +176,12 @@ ScriptRests w script =
 -- ---- drains
 
 -- a drain holds the guest, which asks for a request
-pub record IsHeldBack (w : Face) (g : ℕ) (task : Task) : Type 0 where
+pub record IsHeldBack (w : WorldSeen) (g : ℕ) (task : Task) : Type 0 where
   pub idle : task.left ≡ None
-  pub held : is_held (seen_state w) w.drains g ≡ true
+  pub held : is_guest_held (seen_state w) w.drains g ≡ true
 
 -- a guest makes no entry: it is done, or waits, or a drain holds it
-abbrev pub Halts : Face → ℕ → Task → Type 0
+abbrev pub Halts : WorldSeen → ℕ → Task → Type 0
 Halts w g task = Rests w g task ⊎ IsHeldBack w g task
 
 -- the next line of the script is a command, or one that should be
@@ -196,10 +196,10 @@ pub record IsPutOffFor (p : Progress) (script : ScriptTask) : Type 0 where
   pub flies : With (slice_get p.guests guest) (λ row. IsSome row.flight)
 
 -- the script makes no entry: it is done, or waits, or its line has to come again
-abbrev pub ScriptHalts : Face → ScriptTask → Type 0
+abbrev pub ScriptHalts : WorldSeen → ScriptTask → Type 0
 ScriptHalts w script = ScriptRests w script ⊎ IsPutOffFor w.progress script
 
 -- no drain stands but for the command that the script gives next
-pub record AreDrainsOf (w : Face) (script : ScriptTask) : Type 0 where
+pub record AreDrainsOf (w : WorldSeen) (script : ScriptTask) : Type 0 where
   pub jobs : w.drains.jobs ≡ []
   pub command : (w.drains.command ≡ []) ⊎ IsGiving script.orders

@@ -10,14 +10,14 @@ use Rattle.blk_history.specs.declared.event.Event.TheVariants.{Admit, Refuse, Pi
 use Rattle.flat_machine.specs.Comes.{guest_step}
 use Rattle.flat_machine.specs.Courses.{past_waits, is_answered}
 use Rattle.flat_machine.specs.Marks.{after_reply}
-use Rattle.world_parts.specs.Face.{Face}
+use Rattle.world_parts.specs.Face.{WorldSeen}
 use Rattle.world_parts.specs.Progress.{Progress, answered_in}
 use Rattle.qblk_inputs.specs.Room.{bytes_for}
 use Rattle.qblk_run.specs.Tasks.{Task, ScriptTask, IsTaskOf, entries_of, steps_of, Halts, ScriptRests}
 use Rattle.qblk_run.specs.Worlds.{IsPutOffBy}
 
 -- the world of the same run: its store tells as much, and began with the same count and openings
-pub record StaysIn (w v : Face) : Type 0 where
+pub record StaysIn (w v : WorldSeen) : Type 0 where
   pub told : is_some v.files ≡ is_some w.files
   pub first : v.first_faults ≡ w.first_faults
   pub earlier : v.earlier ≡ w.earlier
@@ -76,19 +76,19 @@ abbrev pub MakesMove : Progress → Progress → ℕ → Task → Task → Type 
 MakesMove p q g before after = (e : Event) × IsMove p q g before after e
 
 -- drains are as they were
-abbrev pub GuestMoves : Face → Face → ℕ → Task → Task → Type 0
+abbrev pub GuestMoves : WorldSeen → WorldSeen → ℕ → Task → Task → Type 0
 GuestMoves w v g before after =
     MakesMove w.progress v.progress g before after × (v.drains ≡ w.drains)
 
 -- it makes none: it is done, waits or is held; waits that are over are passed
-pub record IsStill (w v : Face) (g : ℕ) (before after : Task) : Type 0 where
+pub record IsStill (w v : WorldSeen) (g : ℕ) (before after : Task) : Type 0 where
   pub world : v ≡ w
   pub wishes : after.wishes ≡ past_waits (answered_in w.progress.log.events) before.wishes
   pub left : after.left ≡ before.left
   pub is_done : after.is_done ≡ before.is_done
   pub halts : Halts w g after
 
-abbrev pub IsTurn : Face → Face → ℕ → Task → Task → Bool → Type 0
+abbrev pub IsTurn : WorldSeen → WorldSeen → ℕ → Task → Task → Bool → Type 0
 IsTurn w v g before after true = GuestMoves w v g before after
 IsTurn w v g before after false = IsStill w v g before after
 
@@ -114,25 +114,25 @@ pub record IsScriptMove (p q : Progress) (before after : ScriptTask) (e : Event)
   pub bytes : p.spare.bytes ≤ q.spare.bytes
 
 -- a reply ends the drain for a command that had to come again, and no other entry changes drains
-abbrev pub DrainsAfter : Face → Face → Event → Type 0
+abbrev pub DrainsAfter : WorldSeen → WorldSeen → Event → Type 0
 DrainsAfter w v (Reply line given command text) = v.drains ≡ after_reply w.drains
 DrainsAfter w v e = v.drains ≡ w.drains
 
-abbrev pub ScriptMoves : Face → Face → ScriptTask → ScriptTask → Type 0
+abbrev pub ScriptMoves : WorldSeen → WorldSeen → ScriptTask → ScriptTask → Type 0
 ScriptMoves w v before after =
     (e : Event) × IsScriptMove w.progress v.progress before after e × DrainsAfter w v e
 
-pub record IsScriptStill (w v : Face) (before after : ScriptTask) : Type 0 where
+pub record IsScriptStill (w v : WorldSeen) (before after : ScriptTask) : Type 0 where
   pub world : v ≡ w
   pub task : after ≡ before
   pub rests : ScriptRests w after
 
 -- its line has to come again, and is kept for that
-pub record IsScriptPutOff (w v : Face) (before after : ScriptTask) : Type 0 where
+pub record IsScriptPutOff (w v : WorldSeen) (before after : ScriptTask) : Type 0 where
   pub task : after ≡ before
   pub off : IsPutOffBy before.orders w v
 
-abbrev pub IsScriptTurn : Face → Face → ScriptTask → ScriptTask → Bool → Type 0
+abbrev pub IsScriptTurn : WorldSeen → WorldSeen → ScriptTask → ScriptTask → Bool → Type 0
 IsScriptTurn w v before after true = ScriptMoves w v before after
 IsScriptTurn w v before after false =
     IsScriptStill w v before after ⊎ IsScriptPutOff w v before after

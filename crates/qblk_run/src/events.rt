@@ -9,11 +9,11 @@ ghost use Rattle.flat_machine.specs.Legal.{IsMet, IsNotDone};
 ghost use Rattle.flat_machine.specs.declared.opening.Opening.{Opening};
 ghost use Rattle.world_commands.specs.Carrying.{IsExecuted, IsPutBack, IsPutBackIn};
 ghost use Rattle.world_commands.specs.Comes.{Comes};
-ghost use Rattle.world_parts.specs.Face.{Face, seen_state};
+ghost use Rattle.world_parts.specs.Face.{WorldSeen, seen_state};
 ghost use Rattle.world_commands.specs.Piecing.{IsPieceMade, HasPieceLicence};
 ghost use Rattle.world_parts.specs.Saying.{given_line};
 ghost use Rattle.world_parts.specs.Progress.{IsFree, HasNext, HasRoomFor, flight_at, answered_in, with_retirement};
-ghost use Rattle.world_parts.specs.Steps.{onward, after_admission, IsAnswered, after_wait, after_end, IsActorIdle};
+ghost use Rattle.world_parts.specs.Steps.{with_history, after_admission, IsAnswered, after_wait, after_actor_end, IsActorIdle};
 ghost use Rattle.qblk_run.specs.Turns.{StaysIn};
 
 use blk_base::{NoMemory, Outcome, Store};
@@ -24,7 +24,7 @@ use trace_codec::{Await, Op};
 /// The events of a run, each one call. A world has them.
 pub(crate) trait Events {
     /// What contracts see of the world.
-    ghost face: { Self → Face };
+    ghost face: { Self → WorldSeen };
 
     /// Admits a guest's next request, or refuses it. It is away where the guest has no device, and held where a drain holds the
     /// guest.
@@ -49,7 +49,7 @@ pub(crate) trait Events {
     /// Ends a request.
     fn retire(&mut self, guest: u32)
         requires { With (flight_at (face self.old).progress.guests guest) IsOver }
-        ensures kept { face self.new ≡ onward (face self.old) (with_retirement guest) }
+        ensures kept { face self.new ≡ with_history (face self.old) (with_retirement guest) }
         ensures stays { StaysIn (face self.old) (face self.new) }
         ensures comes { (o : Opening) → Comes o (face self.old) → Comes o (face self.new) };
 
@@ -82,7 +82,7 @@ pub(crate) trait Events {
         requires open { IsNotDone (seen_state (face self.old)) actor }
         requires idle { IsActorIdle (face self.old).progress.guests actor }
         requires room { 0 < (face self.old).progress.spare.entries }
-        ensures kept { face self.new ≡ after_end (face self.old) actor }
+        ensures kept { face self.new ≡ after_actor_end (face self.old) actor }
         ensures stays { StaysIn (face self.old) (face self.new) }
         ensures comes { (o : Opening) → Comes o (face self.old) → Comes o (face self.new) };
 

@@ -3,7 +3,7 @@ ghost use Rattle.std.specs.Prelude.{◌≡◌, ◌≤◌, ◌++◌, ℕ, List};
 ghost use Rattle.blk_base.specs.Written.{Written};
 ghost use Rattle.blk_history.specs.Transcript.{transcript};
 ghost use Rattle.qblk_run.specs.Ending.{EndsAs, ended_as, failed_as};
-ghost use Rattle.qblk_run.specs.Tasks.{HaveLines, guests_only};
+ghost use Rattle.qblk_run.specs.Tasks.{CanHaveLines, guests_only};
 
 use crate::session::Made;
 use crate::transcript::text_for;
@@ -39,7 +39,7 @@ fn failed(fault: Option<FaultAt>, count: u64) -> Status
 
 /// Puts the transcript, and tells how the run ended. Nothing is put where memory isn't had.
 pub(crate) fn write_out<K: Sink>(alloc: Global, made: Made, names: Names1, out: &mut K) -> Status
-    requires lines { HaveLines names made.history.events }
+    requires lines { CanHaveLines names made.history.events }
     ensures { EndsAs made.fault made.waiting (K.sent out.old) (K.sent out.new)
         (transcript (guests_only names) made.history.events) (K.faults out.old) (K.faults out.new)
         result }

@@ -4,7 +4,7 @@ ghost use Rattle.qblk_core.specs.Run.{Answers, TellsFaults};
 ghost use Rattle.qblk_core.specs.Words.{IsIo};
 ghost use Rattle.qblk_core.specs.declared.words.Format.{Format};
 ghost use Rattle.qblk_inputs.specs.Reading.{NoneOut};
-ghost use Rattle.qblk_inputs.specs.Words.{Cast, IsRunOf, texts_of};
+ghost use Rattle.qblk_inputs.specs.Words.{Cast, IsRunOf, texts_in};
 ghost use Rattle.qblk_run.specs.Run.{Answers as RunAnswers, setting, outside};
 
 use crate::run::run_script;
@@ -20,7 +20,7 @@ pub fn qblk<S: Store, K: Sink>(alloc: Global, words: &[Text], store: S, out: &mu
 
     // `io FORMAT IMAGE TRACE`
     ensures io { (format : Format) (image trace : List ℕ)
-        → IsIo (texts_of words.now) format image trace → Answers format image trace
+        → IsIo (texts_in words.now) format image trace → Answers format image trace
         (outside (S.files store) (S.opened store) (S.faults store) (K.sent out.old)
         (K.faults out.old))
         (outside (S.files result.1) (S.opened result.1) (S.faults result.1) (K.sent out.new)
@@ -28,7 +28,7 @@ pub fn qblk<S: Store, K: Sink>(alloc: Global, words: &[Text], store: S, out: &mu
         result.0 }
 
     // `run 1 SCRIPT GUEST=TRACE ..`
-    ensures run { (cast : Cast) → IsRunOf (texts_of words.now) cast → RunAnswers cast
+    ensures run { (cast : Cast) → IsRunOf (texts_in words.now) cast → RunAnswers cast
         (setting (S.files store) (S.opened store) (S.room store) (S.faults store)
         (K.sent out.old) (K.faults out.old))
         (setting (S.files result.1) (S.opened result.1) (S.room result.1) (S.faults result.1)
@@ -37,13 +37,13 @@ pub fn qblk<S: Store, K: Sink>(alloc: Global, words: &[Text], store: S, out: &mu
 
     // all other words: nothing is done
     ensures usage { ((format : Format) (image trace : List ℕ)
-        → IsIo (texts_of words.now) format image trace → ⊥)
-        → ((cast : Cast) → IsRunOf (texts_of words.now) cast → ⊥)
+        → IsIo (texts_in words.now) format image trace → ⊥)
+        → ((cast : Cast) → IsRunOf (texts_in words.now) cast → ⊥)
         → (result.0 ≡ Status.Usage) × (result.1 ≡ store) × (out.new ≡ out.old) }
 
     // of `io`, no fault of the store or the sink goes untold
     ensures faults { (format : Format) (image trace : List ℕ)
-        → IsIo (texts_of words.now) format image trace → TellsFaults
+        → IsIo (texts_in words.now) format image trace → TellsFaults
         (outside (S.files store) (S.opened store) (S.faults store) (K.sent out.old)
         (K.faults out.old))
         (outside (S.files result.1) (S.opened result.1) (S.faults result.1) (K.sent out.new)

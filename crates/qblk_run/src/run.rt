@@ -4,7 +4,7 @@ ghost use Rattle.blk_base.specs.Files.{IfTold, is_out};
 ghost use Rattle.trace_codec.specs.Script.{seen_order};
 ghost use Rattle.qblk_inputs.specs.Inputs.{HasWork};
 ghost use Rattle.qblk_inputs.specs.Reading.{NoneOut};
-ghost use Rattle.qblk_inputs.specs.Words.{Cast, IsRunOf, texts_of, guests_of};
+ghost use Rattle.qblk_inputs.specs.Words.{Cast, IsRunOf, texts_in, guests_of};
 ghost use Rattle.qblk_core.specs.Run.{why_of};
 ghost use Rattle.qblk_run.specs.Run.{Answers, setting, status_of};
 
@@ -102,9 +102,9 @@ pub fn run_script<S: Store, K: Sink>(
     store: S,
     out: &mut K,
 ) -> (Status, S)
-    requires form { (cast : Cast) × IsRunOf (texts_of words.now) cast }
+    requires form { (cast : Cast) × IsRunOf (texts_in words.now) cast }
     requires none_out { NoneOut (S.opened store) }
-    ensures ended { (cast : Cast) → IsRunOf (texts_of words.now) cast → Answers cast
+    ensures ended { (cast : Cast) → IsRunOf (texts_in words.now) cast → Answers cast
         (setting (S.files store) (S.opened store) (S.room store) (S.faults store)
         (K.sent out.old) (K.faults out.old))
         (setting (S.files result.1) (S.opened result.1) (S.room result.1) (S.faults result.1)

@@ -1,7 +1,7 @@
 //! Who is named where no actor can go on.
 ghost use Rattle.std.specs.Prelude.{◌≡◌, ◌+◌, ◌^◌, ◌<◌, ℕ, length, MatchOption, true, false};
 ghost use Rattle.trace_codec.specs.Awaits.{seen_await};
-ghost use Rattle.world_parts.specs.Face.{Face, seen_state};
+ghost use Rattle.world_parts.specs.Face.{WorldSeen, seen_state};
 ghost use Rattle.flat_machine.specs.Blocked.{what_of, ScriptWaits, TraceWaits};
 ghost use Rattle.qblk_run.specs.Run.{seen_waits};
 ghost use Rattle.qblk_run.specs.Tasks.{Rests, ScriptRests};
@@ -23,7 +23,7 @@ fn what_of(what: Await) -> Waits
 
 /// What the script waits for, where it is not done.
 fn script_waits(script: Script) -> Option<Waits>
-    ensures { (w : Face) → ScriptRests w script → MatchOption result (script.is_done ≡ true)
+    ensures { (w : WorldSeen) → ScriptRests w script → MatchOption result (script.is_done ≡ true)
         (λ what. (script.is_done ≡ false)
         × ScriptWaits (seen_state w) script.orders (seen_waits what)) }
 {
@@ -45,7 +45,7 @@ fn script_waits(script: Script) -> Option<Waits>
 
 /// What a guest waits for, where it is not done.
 fn task_waits(task: &Task) -> Option<Waits>
-    ensures { (w : Face) (g : ℕ) → Rests w g task.now
+    ensures { (w : WorldSeen) (g : ℕ) → Rests w g task.now
         → MatchOption result (task.now.is_done ≡ true)
         (λ what. (task.now.is_done ≡ false)
         × TraceWaits (seen_state w) g task.now.wishes (seen_waits what)) }
@@ -66,7 +66,7 @@ fn task_waits(task: &Task) -> Option<Waits>
 /// The first guest that is not done, by its number as an actor, with what it waits for.
 fn first_guest(tasks: &[Task]) -> Option<(u32, Waits)>
     requires few { length tasks.now + 1 < 2 ^ 32 }
-    ensures { (w : Face) → GuestsRest w (length tasks.now) tasks.now
+    ensures { (w : WorldSeen) → GuestsRest w (length tasks.now) tasks.now
         → MatchOption result (AllAreDone tasks.now)
         (λ r. (g : ℕ) × (r.0 ≡ g + 1) × IsFirstGuest w tasks.now g (seen_waits r.1)) }
 {
@@ -81,7 +81,7 @@ fn first_guest(tasks: &[Task]) -> Option<(u32, Waits)>
 /// The first actor that is not done, with what it waits for: the script is actor 0, and guest g is actor g + 1.
 pub(crate) fn first_waiting(actors: Actors) -> Option<(u32, Waits)>
     requires few { length actors.guests + 1 < 2 ^ 32 }
-    ensures { (w : Face) → AllRest w actors
+    ensures { (w : WorldSeen) → AllRest w actors
         → MatchOption result (AreDone actors) (λ r. IsFirstUndone w actors r.0 (seen_waits r.1)) }
 {
     let Actors { script, guests } = actors;

@@ -2,7 +2,7 @@
 ghost use Rattle.std.specs.Prelude.{◌≡◌, ◌+◌, ◌<◌, ◌≤◌, ℕ, List, [], length, slice_get, get_or, IfOk, IfSome, Some};
 ghost use Rattle.blk_base.specs.Written.{memory_of};
 ghost use Rattle.qblk_core.specs.Output.{AllLinesFit};
-ghost use Rattle.qblk_run.specs.Tasks.{HaveLines, guests_only};
+ghost use Rattle.qblk_run.specs.Tasks.{CanHaveLines, guests_only};
 ghost use Rattle.qblk_run.specs.Sending.{RepliesFit, NamesFit};
 
 use blk_base::{Names1, NoMemory, Text};
@@ -46,7 +46,7 @@ fn room_of(text: usize, name: usize) -> Option<usize>
 
 /// A text with room for each line of a history.
 pub(crate) fn text_for(alloc: Global, history: &History, names: &Names1) -> Result<Text, NoMemory>
-    requires lines { HaveLines names.now history.now.events }
+    requires lines { CanHaveLines names.now history.now.events }
     ensures empty { IfOk result (λ text. text.bytes ≡ []) }
     ensures fits { IfOk result (λ text.
         AllLinesFit (guests_only names.now) (memory_of text) history.now.events) }

@@ -6,7 +6,7 @@ use Rattle.qmp_rules.specs.declared.change.Change.{Change}
 use Rattle.qmp_rules.specs.declared.change.Change.TheVariants as change
 use Rattle.qmp_rules.specs.Changes.{changed}
 use Rattle.qmp_rules.specs.Fitting.{ChangeFits, AllChangesFit, fits_always}
-use Rattle.qmp_rules.specs.Table.{Table}
+use Rattle.qmp_rules.specs.Table.{RunTable}
 
 both_left : (a b : Bool) → (a && b) ≡ true → a ≡ true
 both_left true b h = refl
@@ -16,13 +16,13 @@ both_right : (a b : Bool) → (a && b) ≡ true → b ≡ true
 both_right true b h = h
 both_right false b h = cc
 
-fits_one : (t : Table) (c : Change) → fits_always c ≡ true → ChangeFits t c
+fits_one : (t : RunTable) (c : Change) → fits_always c ≡ true → ChangeFits t c
 fits_one t (change.AddDevice device node) h = ltb-true device.number 80 h
 fits_one t (change.UseNode slot what node) h = ltb-true slot 16 h
 fits_one t (change.PutFilter row node) h = cc
 fits_one t _ h = tt
 
-pub all_fit : (t : Table) (changes : List Change) → list_all fits_always changes ≡ true → AllChangesFit t changes
+pub all_fit : (t : RunTable) (changes : List Change) → list_all fits_always changes ≡ true → AllChangesFit t changes
 all_fit t [] h = tt
 all_fit t (c ∷ changes) h = (
   fits_one t c (both_left (fits_always c) (list_all fits_always changes) h),

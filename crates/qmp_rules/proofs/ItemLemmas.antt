@@ -7,15 +7,15 @@ use Rattle.serde_json.specs.Data.{Items, no_items, item}
 use Rattle.serde_json.specs.View.{view, items_view}
 use Rattle.serde_json.specs.declared.value.Value.{Value}
 use Rattle.qmp_rules.specs.declared.rows.BitmapRow.{BitmapRow}
-use Rattle.qmp_rules.specs.Printed.{joined}
+use Rattle.qmp_rules.specs.Printed.{items_joined}
 use Rattle.qmp_rules.specs.Queries.{bitmap_data, bitmap_items}
 
 pub joined_push : (xs : List Value) (v : Value) (rest : Items)
-    → joined (items_view (xs ++ v ∷ [])) rest ≡ joined (items_view xs) (item (view v) rest)
+    → items_joined (items_view (xs ++ v ∷ [])) rest ≡ items_joined (items_view xs) (item (view v) rest)
 joined_push [] v rest = refl
 joined_push (x ∷ xs) v rest = ap (λ ds. item (view x) ds) (joined_push xs v rest)
 
-pub joined_none : (ds : Items) → joined ds no_items ≡ ds
+pub joined_none : (ds : Items) → items_joined ds no_items ≡ ds
 joined_none no_items = refl
 joined_none (item d ds) = ap (λ rest. item d rest) (joined_none ds)
 
@@ -53,5 +53,5 @@ bitmaps_all node rows counts i past = elim (cases_order (length rows) (length co
 ]
 
 -- the values so far are all, where nothing is left
-pub joined_end : (ds rest all : Items) → rest ≡ no_items → joined ds rest ≡ all → ds ≡ all
-joined_end ds rest all none is = sym (joined_none ds) ∙ ap (λ r. joined ds r) (sym none) ∙ is
+pub joined_end : (ds rest all : Items) → rest ≡ no_items → items_joined ds rest ≡ all → ds ≡ all
+joined_end ds rest all none is = sym (joined_none ds) ∙ ap (λ r. items_joined ds r) (sym none) ∙ is

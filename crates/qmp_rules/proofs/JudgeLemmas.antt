@@ -5,19 +5,19 @@ use Rattle.qmp_codec.specs.declared.command.Command.TheVariants as command
 use Rattle.qmp_codec.specs.Commands.{Cmd}
 use Rattle.qmp_rules.specs.declared.refusal.Refusal.{Refusal}
 use Rattle.qmp_rules.specs.declared.told.Told.{Told}
-use Rattle.qmp_rules.specs.Table.{Table}
+use Rattle.qmp_rules.specs.Table.{RunTable}
 use Rattle.qmp_rules.specs.Refusals.{refused, or_else}
 use Rattle.qmp_asks.specs.CommandAsks.{command_name, is_built}
 use Rattle.qmp_rules.specs.Edits.{edits_of}
-use Rattle.qmp_rules.specs.Answers.{untold, rewires, conflict_after, refusal_behind, refusal_of, command_edits, unbuilt}
+use Rattle.qmp_rules.specs.Answers.{told_none, rewires, conflict_after, refusal_behind, refusal_to, command_edits, unbuilt}
 use Rattle.qmp_rules.specs.declared.refusal.Refusal.TheVariants as refusal
 
-pub behind_built : (t : Table) (told : Told) (c : Cmd) → is_built c ≡ true
-    → refusal_behind t told c ≡ conflict_after (rewires c) t (edits_of t untold c)
+pub behind_built : (t : RunTable) (told : Told) (c : Cmd) → is_built c ≡ true
+    → refusal_behind t told c ≡ conflict_after (rewires c) t (edits_of t told_none c)
 behind_built t told (command.Transaction c) h = cc
 behind_built t told _ h = refl
 
-pub edits_built : (t : Table) (told : Told) (c : Cmd) → is_built c ≡ true → command_edits t told c ≡ edits_of t told c
+pub edits_built : (t : RunTable) (told : Told) (c : Cmd) → is_built c ≡ true → command_edits t told c ≡ edits_of t told c
 edits_built t told (command.Transaction c) h = cc
 edits_built t told _ h = refl
 
@@ -39,8 +39,8 @@ pub built_none : (c : Cmd) → None ≡ unbuilt c → is_built c ≡ true
 built_none c h = built_by c (ap is_some (sym h))
 
 -- what is not refused is carried out
-pub built_unless : (t : Table) (told : Told) (c : Cmd) → refusal_of t told c ≡ None → is_built c ≡ true
-unfolding refusal_of
+pub built_unless : (t : RunTable) (told : Told) (c : Cmd) → refusal_to t told c ≡ None → is_built c ≡ true
+unfolding refusal_to
 built_unless t told c h = elim (is_built c)
     as (λ b. (later : Option Refusal) → or_else (refused (not b) (refusal.UnknownCommand (command_name c))) later ≡ None → b ≡ true) [
       | true ↦ λ later e. refl

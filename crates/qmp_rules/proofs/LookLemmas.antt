@@ -17,13 +17,13 @@ use Rattle.qmp_asks.specs.declared.look.Look.{Look}
 use Rattle.qmp_asks.specs.declared.look.Look.TheVariants as look
 use Rattle.qmp_rules.specs.declared.told.Stopped.{Stopped}
 use Rattle.qmp_rules.specs.declared.told.Told.{Told}
-use Rattle.qmp_rules.specs.Table.{Table, node_named}
+use Rattle.qmp_rules.specs.Table.{RunTable, node_named}
 use Rattle.qmp_rules.specs.Refusals.{refused, place_of}
 use Rattle.qmp_asks.specs.Asking.{look_place}
 use Rattle.qmp_rules.specs.Asks.{if_there}
 use Rattle.qmp_asks.specs.NodeAsks.{backing_name}
 use Rattle.qmp_asks.specs.Values.{most_length, begins_within, ends_within, part_fits, amount_or}
-use Rattle.qmp_rules.specs.Looks.{ImageSight, FileSight, stop_at, told_as, file_stop, raw_stop, image_stop, first_stop, is_unopened, told_of_file, told_if_there, file_told, raw_told, qcow2_told, is_free_file, image_told, raw_told_of, qcow2_told_of, add_told, create_told}
+use Rattle.qmp_rules.specs.Looks.{ImageSight, FileSight, stop_at, told_record, file_stop, raw_stop, unfit_image, first_stop, is_unopened, told_of_file, told_if_there, file_told, raw_told, qcow2_told, is_free_file, image_told, raw_told_of, qcow2_told_of, add_told, create_told}
 use Rattle.qmp_rules.specs.Places.{HasLookPlace}
 
 stop_refused : (what : Look) (b : Bool) (cause : Refusal) (later : Option Stopped)
@@ -66,13 +66,13 @@ stop_raw filename raw length =
     (refusal.File filename TooLong) None refl tt))
 
 -- an image of another size than its backing node
-abbrev other_size : Table → List ℕ → AddQcow2 (List ℕ) → ImageSight → Option Stopped
+abbrev other_size : RunTable → List ℕ → AddQcow2 (List ℕ) → ImageSight → Option Stopped
 other_size t name c image =
     stop_at look.Size (if_there (λ row. refused (not (row.size == image.size)) (refusal.SizeDiffers name row.name))
     (option_and_then (node_named t) (backing_name c.backing))) None
 
-stop_qcow2 : (t : Table) (name : List ℕ) (c : AddQcow2 (List ℕ)) (image : ImageSight)
-    → HasLookPlace (image_stop t name c image)
+stop_qcow2 : (t : RunTable) (name : List ℕ) (c : AddQcow2 (List ℕ)) (image : ImageSight)
+    → HasLookPlace (unfit_image t name c image)
 stop_qcow2 t name c image = stop_image image.stop
     (stop_at look.Backing (refused (image.names_backing && is_none c.backing) (refusal.BackingNeeded name))
     (other_size t name c image))
@@ -99,42 +99,42 @@ there_told : (filename : List ℕ) (tell : ℕ → ImageSight → Told) (sight :
 there_told filename tell None h = refl
 there_told filename tell (Some file) h = h file.length file.image
 
-file_place : (t : Table) (filename : List ℕ) (tell : ℕ → ImageSight → Told) (sight : Option FileSight)
+file_place : (t : RunTable) (filename : List ℕ) (tell : ℕ → ImageSight → Told) (sight : Option FileSight)
     → ((n : ℕ) (image : ImageSight) → HasLookPlace (tell n image).stopped)
     → HasLookPlace (told_of_file t filename tell sight).stopped
 file_place t filename tell sight h =
-    if_told (is_unopened t filename) (told_as None None None) (told_if_there filename tell sight) tt
+    if_told (is_unopened t filename) (told_record None None None) (told_if_there filename tell sight) tt
     (there_told filename tell sight h)
 
-image_place : (t : Table) (name file : List ℕ) (c : AddQcow2 (List ℕ)) (sight : Option FileSight)
+image_place : (t : RunTable) (name file : List ℕ) (c : AddQcow2 (List ℕ)) (sight : Option FileSight)
     → HasLookPlace (image_told t name file c sight).stopped
 image_place t name file c None = tt
 image_place t name file c (Some sight) =
-    if_told (is_free_file t file) (told_as None (Some sight.image.size) (image_stop t name c sight.image))
-    (told_as None None None) (stop_qcow2 t name c sight.image) tt
+    if_told (is_free_file t file) (told_record None (Some sight.image.size) (unfit_image t name c sight.image))
+    (told_record None None None) (stop_qcow2 t name c sight.image) tt
 
-raw_place : (t : Table) (raw : AddRaw (List ℕ)) (file : FileRef (List ℕ)) (sight : Option FileSight)
+raw_place : (t : RunTable) (raw : AddRaw (List ℕ)) (file : FileRef (List ℕ)) (sight : Option FileSight)
     → HasLookPlace (raw_told_of t raw file sight).stopped
 raw_place t raw (file_ref.Name file) sight = tt
 raw_place t raw (file_ref.Inline file) sight =
     file_place t file.filename (raw_told file.filename raw) sight (λ n image. stop_raw file.filename raw n)
 
-qcow2_place : (t : Table) (name : List ℕ) (c : AddQcow2 (List ℕ)) (file : FileRef (List ℕ)) (sight : Option FileSight)
+qcow2_place : (t : RunTable) (name : List ℕ) (c : AddQcow2 (List ℕ)) (file : FileRef (List ℕ)) (sight : Option FileSight)
     → HasLookPlace (qcow2_told_of t name c file sight).stopped
 qcow2_place t name c (file_ref.Name file) sight = image_place t name file c sight
 qcow2_place t name c (file_ref.Inline file) sight =
     file_place t file.filename (qcow2_told t name file.filename c) sight
-    (λ n image. first_place (file_stop file.filename n) (image_stop t name c image) (stop_file file.filename n)
+    (λ n image. first_place (file_stop file.filename n) (unfit_image t name c image) (stop_file file.filename n)
     (stop_qcow2 t name c image))
 
-pub add_has_place : (t : Table) (c : BlockdevAdd (List ℕ)) (sight : Option FileSight)
+pub add_has_place : (t : RunTable) (c : BlockdevAdd (List ℕ)) (sight : Option FileSight)
     → HasLookPlace (add_told t c sight).stopped
 unfolding add_told
 add_has_place t c sight = elim c.driver as (λ d. HasLookPlace (elim d as (λ _. Told) [
   | added.File filename ↦ told_of_file t filename (file_told filename) sight
   | added.Raw raw ↦ raw_told_of t raw raw.file sight
   | added.Qcow2 image ↦ qcow2_told_of t c.node_name image image.file sight
-  | _ ↦ told_as None None None
+  | _ ↦ told_record None None None
 ]).stopped) [
   | added.File filename ↦ file_place t filename (file_told filename) sight (λ n image. stop_file filename n)
   | added.Raw raw ↦ raw_place t raw raw.file sight

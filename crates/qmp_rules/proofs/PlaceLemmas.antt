@@ -12,11 +12,11 @@ use Rattle.qmp_rules.specs.declared.rows.NodeRecord.{NodeRecord}
 use Rattle.qmp_rules.specs.declared.rows.JobRecord.{JobRecord}
 use Rattle.qmp_rules.specs.declared.rows.BitmapRow.{BitmapRow}
 use Rattle.qmp_rules.specs.declared.told.Told.{Told}
-use Rattle.qmp_rules.specs.Table.{Table, job_id, node_at, node_named, id_named, job_named, bitmap_named, child, first_into}
-use Rattle.qmp_rules.specs.Chains.{has_id, holder, keeper, is_settled}
+use Rattle.qmp_rules.specs.Table.{RunTable, job_id, node_by_id, node_named, id_named, job_named, bitmap_named, child, first_into}
+use Rattle.qmp_rules.specs.Chains.{is_listed, holder, keeper, is_settled}
 use Rattle.qmp_rules.specs.Refusals.{refused, or_else, place_of}
 use Rattle.qmp_asks.specs.Asking.{Asking, Nodes1, place}
-use Rattle.qmp_rules.specs.Asks.{if_named, if_there, holds, held_by, clash, first_clash, not_below, not_in_chain, differ, sizes, sizes_differ, first_reached, in_the_way, in_use, in_use_at, id_or, mirrored, takes, file_node, name_of_file, lost, busy, part_begins, part_ends, part_too_long, top_of, base_of, held_nodes, read_nodes, looked_at}
+use Rattle.qmp_rules.specs.Asks.{if_named, if_there, holds, held_by, clash, first_clash, not_below, not_in_chain, differ, sizes, sizes_differ, first_reached, in_the_way, in_use, in_use_at, id_or, mirrored, takes, file_node, name_of_file, lost, busy, part_begins, part_ends, part_too_long, top_of, job_base, held_nodes, read_nodes, looked_at}
 use Rattle.qmp_rules.specs.Places.{IsOfTable, HasPlace}
 
 -- a look whose refusals have one place
@@ -47,11 +47,11 @@ at_either : (p : ℕ) (a b : Option Refusal) → At p a → At p b → At p (or_
 at_either p None b ha hb = hb
 at_either p (Some r) b ha hb = ha
 
-at_held : (t : Table) (id : ℕ) (job : Option JobRecord) → At 19 (held_by t id job)
+at_held : (t : RunTable) (id : ℕ) (job : Option JobRecord) → At 19 (held_by t id job)
 at_held t id None = at_none 19
 at_held t id (Some job) = at_some 19 _ refl
 
-at_in_use : (t : Table) (name : List ℕ) (edge : Option Edge) → At 26 (in_use t name edge)
+at_in_use : (t : RunTable) (name : List ℕ) (edge : Option Edge) → At 26 (in_use t name edge)
 at_in_use t name None = at_none 26
 at_in_use t name (Some edge) = at_some 26 _ refl
 
@@ -61,22 +61,22 @@ at_choice : (p : ℕ) (b : Bool) (x y : Option Refusal) → At p x → At p y �
 at_choice p true x y hx hy = hx
 at_choice p false x y hx hy = hy
 
-at_clash : (t : Table) (held read : List ℕ) (id : ℕ) → At 19 (clash t held read id)
-at_clash t held read id = at_choice 19 (has_id id held) _ _ (at_held t id (holder t id))
-    (at_choice 19 (has_id id read) _ _ (at_held t id (keeper t id)) (at_none 19))
+at_clash : (t : RunTable) (held read : List ℕ) (id : ℕ) → At 19 (clash t held read id)
+at_clash t held read id = at_choice 19 (is_listed id held) _ _ (at_held t id (holder t id))
+    (at_choice 19 (is_listed id read) _ _ (at_held t id (keeper t id)) (at_none 19))
 
-at_first_clash : (t : Table) (held read ids : List ℕ) → At 19 (first_clash t held read ids)
+at_first_clash : (t : RunTable) (held read ids : List ℕ) → At 19 (first_clash t held read ids)
 at_first_clash t held read [] = at_none 19
 at_first_clash t held read (id ∷ ids) = at_either 19 _ _ (at_clash t held read id) (at_first_clash t held read ids)
 
-at_not_below : (t : Table) (top base : ℕ) → At 22 (not_below t top base)
+at_not_below : (t : RunTable) (top base : ℕ) → At 22 (not_below t top base)
 at_not_below t top base = at_refused 22 _ _ refl
 
-at_chain : (t : Table) (nodes : Nodes1) → At 22 (not_in_chain t nodes)
+at_chain : (t : RunTable) (nodes : Nodes1) → At 22 (not_in_chain t nodes)
 at_chain t (Stream device base) =
-    at_there 22 _ (base_of t (Stream device base)) (at_not_below t (top_of t (Stream device base)))
+    at_there 22 _ (job_base t (Stream device base)) (at_not_below t (top_of t (Stream device base)))
 at_chain t (Commit device base top) = at_either 22 _ _
-    (at_there 22 _ (base_of t (Commit device base top)) (at_not_below t (top_of t (Commit device base top))))
+    (at_there 22 _ (job_base t (Commit device base top)) (at_not_below t (top_of t (Commit device base top))))
     (at_refused 22 _ _ refl)
 at_chain t (Copy device target) = at_none 22
 
@@ -85,31 +85,31 @@ at_differ None b = at_none 23
 at_differ (Some a) None = at_none 23
 at_differ (Some a) (Some b) = at_refused 23 _ _ refl
 
-at_sizes : (t : Table) (nodes : Nodes1) → At 23 (sizes t nodes)
+at_sizes : (t : RunTable) (nodes : Nodes1) → At 23 (sizes t nodes)
 at_sizes t (Stream device base) = at_none 23
-at_sizes t (Commit device base top) = at_differ (option_and_then (node_at t) (base_of t (Commit device base top)))
-    (node_at t (top_of t (Commit device base top)))
+at_sizes t (Commit device base top) = at_differ (option_and_then (node_by_id t) (job_base t (Commit device base top)))
+    (node_by_id t (top_of t (Commit device base top)))
 at_sizes t (Copy device target) = at_differ (node_named t device) (node_named t target)
 
-at_first_reached : (t : Table) (target : ℕ) (sources : List ℕ) → At 26 (first_reached t target sources)
+at_first_reached : (t : RunTable) (target : ℕ) (sources : List ℕ) → At 26 (first_reached t target sources)
 at_first_reached t target [] = at_none 26
 at_first_reached t target (source ∷ sources) =
     at_either 26 _ _ (at_refused 26 _ _ refl) (at_first_reached t target sources)
 
-at_in_the_way : (t : Table) (nodes : Nodes1) → At 26 (in_the_way t nodes)
+at_in_the_way : (t : RunTable) (nodes : Nodes1) → At 26 (in_the_way t nodes)
 at_in_the_way t (Stream device base) = at_none 26
 at_in_the_way t (Commit device base top) = at_in_use t _ _
 at_in_the_way t (Copy device target) =
     at_first_reached t (id_or 0 t (Some target)) (id_or 0 t (Some device) ∷ mirrored t.jobs)
 
-at_busy_by : (t : Table) (row : BitmapRow) (job : Option ℕ)
+at_busy_by : (t : RunTable) (row : BitmapRow) (job : Option ℕ)
     → At 20 (option_map (λ number. refusal.BitmapBusy row.name (job_id t number)) job)
 at_busy_by t row None = at_none 20
 at_busy_by t row (Some number) = at_some 20 _ refl
 
 -- ---- asks
 
-pub has_place : (t : Table) (told : Told) (asking : Asking) → HasPlace t told asking
+pub has_place : (t : RunTable) (told : Told) (asking : Asking) → HasPlace t told asking
 unfolding holds
 has_place t told (ask.Good member ok) h = at_refused 7 _ _ refl
 has_place t told (ask.Begins file offset) h =

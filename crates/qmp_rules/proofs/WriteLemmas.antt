@@ -6,8 +6,8 @@ use Rattle.std.proofs.lemmas.List.{length-set}
 use Rattle.blk_graph.specs.declared.edge.Role.{Role}
 use Rattle.blk_graph.specs.declared.edge.Role.TheVariants.{Backing}
 use Rattle.qmp_rules.specs.declared.rows.NodeRecord.{NodeRecord}
-use Rattle.qmp_rules.specs.Table.{Table, child}
-use Rattle.qmp_rules.specs.Chains.{filter_role, filtered, disk_from, disk_node, backing, chain_from, chain, below, has_id, is_over, unsettled_over, written_under}
+use Rattle.qmp_rules.specs.Table.{RunTable, child}
+use Rattle.qmp_rules.specs.Chains.{filter_role, filtered, disk_from, disk_node, backing, chain_from, chain, chain_below, is_listed, is_over, unsettled_over, written_under}
 use Rattle.qmp_rules.proofs.ChainLemmas.{below_some}
 
 -- ---- rows of the same nodes, which are of the same kinds
@@ -52,8 +52,8 @@ role_alike (a ∷ old) [] id all = absurd all
 
 -- ---- chains over such rows
 
-module _ (t : Table) (rows : List NodeRecord) (all : AreAlike t.nodes rows) where
-  abbrev now : Table
+module _ (t : RunTable) (rows : List NodeRecord) (all : AreAlike t.nodes rows) where
+  abbrev now : RunTable
   now = record t { nodes = rows }
 
   filtered_alike : (id : ℕ) → filtered now id ≡ filtered t id
@@ -88,19 +88,19 @@ module _ (t : Table) (rows : List NodeRecord) (all : AreAlike t.nodes rows) wher
       by_found None each = refl
       by_found (Some under) each = ap (λ rest. id ∷ rest) (each under)
 
-  below_alike : (id : ℕ) → below now id ≡ below t id
+  below_alike : (id : ℕ) → chain_below now id ≡ chain_below t id
   unfolding chain
   below_alike id = ap (drop 1) (chain_alike 64 id)
 
   over_alike : (node id : ℕ) → is_over now node id ≡ is_over t node id
-  over_alike node id = ap (λ d. has_id node (below now d)) (node_alike id) ∙ ap (has_id node) (below_alike (disk_node t id))
+  over_alike node id = ap (λ d. is_listed node (chain_below now d)) (node_alike id) ∙ ap (is_listed node) (below_alike (disk_node t id))
 
   pub unsettled_alike : (node : ℕ) (row : NodeRecord) → unsettled_over now node row ≡ unsettled_over t node row
   unsettled_alike node row = ap (λ b. cond b (record row { is_settled = false }) row) (over_alike node row.id)
 
 -- ---- row by row
 
-pub like_over : (t : Table) (node : ℕ) (row : NodeRecord) → IsAlike row (unsettled_over t node row)
+pub like_over : (t : RunTable) (node : ℕ) (row : NodeRecord) → IsAlike row (unsettled_over t node row)
 like_over t node row = by_test (is_over t node row.id)
   where
     by_test : (b : Bool) → IsAlike row (cond b (record row { is_settled = false }) row)
@@ -114,15 +114,15 @@ step f (x ∷ rows) zero row is = let same : x ≡ row = same_Some x row is in r
 step f (x ∷ rows) (suc at) row is = ap (λ rest. x ∷ rest) (step f rows at row is)
 
 -- the rows from a place on are still to be written
-pub record AreWrittenTo (t : Table) (node at : ℕ) (rows : List NodeRecord) : Type 0 where
+pub record AreWrittenTo (t : RunTable) (node at : ℕ) (rows : List NodeRecord) : Type 0 where
   pub so_far : take at rows ++ map (unsettled_over t node) (drop at rows) ≡ map (unsettled_over t node) t.nodes
   pub alike : AreAlike t.nodes rows
   pub count : length rows ≡ length t.nodes
 
-pub written_none : (t : Table) (node : ℕ) → AreWrittenTo t node 0 t.nodes
+pub written_none : (t : RunTable) (node : ℕ) → AreWrittenTo t node 0 t.nodes
 written_none t node = record { so_far = refl; alike = alike_itself t.nodes; count = refl }
 
-pub written_one : (t : Table) (node at : ℕ) (rows : List NodeRecord) (row : NodeRecord) → slice_get rows at ≡ Some row → AreWrittenTo t node at rows
+pub written_one : (t : RunTable) (node at : ℕ) (rows : List NodeRecord) (row : NodeRecord) → slice_get rows at ≡ Some row → AreWrittenTo t node at rows
     → AreWrittenTo t node (at + 1) (set rows at (unsettled_over (record t { nodes = rows }) node row))
 written_one t node at rows row is was =
     let same : unsettled_over (record t { nodes = rows }) node row ≡ unsettled_over t node row = unsettled_alike t rows was.alike node row in
@@ -132,7 +132,7 @@ written_one t node at rows row is was =
       count = length-set rows at (unsettled_over t node row) ∙ was.count;
     })
 
-pub written_all : (t : Table) (node at : ℕ) (rows : List NodeRecord) → length rows ≤ at → AreWrittenTo t node at rows → record t { nodes = rows } ≡ written_under node t
+pub written_all : (t : RunTable) (node at : ℕ) (rows : List NodeRecord) → length rows ≤ at → AreWrittenTo t node at rows → record t { nodes = rows } ≡ written_under node t
 unfolding written_under
 written_all t node at rows all was =
     let left : take at rows ++ map (unsettled_over t node) (drop at rows) ≡ rows = rest at rows all in
@@ -149,17 +149,17 @@ there_is [] i less = absurd (omega (arith, less))
 there_is (x ∷ xs) zero less = (x, refl)
 there_is (x ∷ xs) (suc i) less = there_is xs i (omega (arith, less))
 
-pub written_step : (t before after : Table) (node at : ℕ) → before ≡ record t { nodes = before.nodes } → AreWrittenTo t node at before.nodes → at < length t.nodes
+pub written_step : (t before after : RunTable) (node at : ℕ) → before ≡ record t { nodes = before.nodes } → AreWrittenTo t node at before.nodes → at < length t.nodes
     → ((row : NodeRecord) → slice_get before.nodes at ≡ Some row → after ≡ record before { nodes = set before.nodes at (unsettled_over before node row) })
     → AreWrittenTo t node (at + 1) after.nodes × (after ≡ record t { nodes = after.nodes })
 written_step t before after node at rest was less step =
     let row = there_is before.nodes at (omega (arith, less, was.count)) in
     let is = step row.0 row.1 in
     let nodes : after.nodes ≡ set before.nodes at (unsettled_over (record t { nodes = before.nodes }) node row.0) =
-    ap (λ (u : Table). u.nodes) is ∙ ap (λ (u : Table). set before.nodes at (unsettled_over u node row.0)) rest in
+    ap (λ (u : RunTable). u.nodes) is ∙ ap (λ (u : RunTable). set before.nodes at (unsettled_over u node row.0)) rest in
     let one = written_one t node at before.nodes row.0 row.1 was in (
       subst (AreWrittenTo t node (at + 1)) (sym nodes) one,
-      is ∙ ap (λ (u : Table). record u { nodes = set before.nodes at (unsettled_over before node row.0) }) rest ∙ ap (λ (rows : List NodeRecord). record t { nodes = rows }) (sym (ap (λ (u : Table). u.nodes) is)),
+      is ∙ ap (λ (u : RunTable). record u { nodes = set before.nodes at (unsettled_over before node row.0) }) rest ∙ ap (λ (rows : List NodeRecord). record t { nodes = rows }) (sym (ap (λ (u : RunTable). u.nodes) is)),
     )
 
 -- a row that isn't over the node stays
@@ -168,7 +168,7 @@ set_same [] at row is = refl
 set_same (x ∷ rows) zero row is = ap (λ r. r ∷ rows) (sym (same_Some x row is))
 set_same (x ∷ rows) (suc at) row is = ap (λ rest. x ∷ rest) (set_same rows at row is)
 
-pub kept_row : (t : Table) (node at : ℕ) (seen row : NodeRecord) → seen ≡ get_or t.nodes at seen → is_over t node seen.id ≡ false → slice_get t.nodes at ≡ Some row
+pub kept_row : (t : RunTable) (node at : ℕ) (seen row : NodeRecord) → seen ≡ get_or t.nodes at seen → is_over t node seen.id ≡ false → slice_get t.nodes at ≡ Some row
     → t ≡ record t { nodes = set t.nodes at (unsettled_over t node row) }
 kept_row t node at seen row read apart is =
     let same : seen ≡ row = read ∙ get_or_from_slice_get t.nodes at row seen is in
@@ -178,6 +178,6 @@ kept_row t node at seen row read apart is =
 
 -- ---- down a chain
 
-module _ (i : ℕ) (t : Table) (top node : ℕ) (is : Bool) (so : has_id node (drop 1 (chain_from (64 - i) t top)) ≡ is) where
-  pub has_more : (under : ℕ) → i < 64 → backing t top ≡ Some under → ((under == node) || has_id node (drop 1 (chain_from (64 - (i + 1)) t under))) ≡ is
-  has_more under less some = ap (has_id node) (below_some i t top under [] (drop 1 (chain_from (64 - i) t top)) less some refl) ∙ so
+module _ (i : ℕ) (t : RunTable) (top node : ℕ) (is : Bool) (so : is_listed node (drop 1 (chain_from (64 - i) t top)) ≡ is) where
+  pub has_more : (under : ℕ) → i < 64 → backing t top ≡ Some under → ((under == node) || is_listed node (drop 1 (chain_from (64 - (i + 1)) t under))) ≡ is
+  has_more under less some = ap (is_listed node) (below_some i t top under [] (drop 1 (chain_from (64 - i) t top)) less some refl) ∙ so

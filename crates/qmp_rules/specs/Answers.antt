@@ -21,28 +21,28 @@ use Rattle.qmp_rules.specs.declared.change.Change.{Change}
 use Rattle.qmp_rules.specs.declared.refusal.Refusal.{Refusal}
 use Rattle.qmp_rules.specs.declared.refusal.Refusal.TheVariants as refusal
 use Rattle.qmp_rules.specs.declared.told.Told.{Told}
-use Rattle.qmp_rules.specs.Table.{Table, name_at, parent_name}
+use Rattle.qmp_rules.specs.Table.{RunTable, name_at, parent_name}
 use Rattle.qmp_rules.specs.Refusals.{refused, or_else, refusal_text, refusal_class}
-use Rattle.qmp_rules.specs.Asks.{first}
+use Rattle.qmp_rules.specs.Asks.{first_unmet_ask}
 use Rattle.qmp_asks.specs.CommandAsks.{asks_of, action_rest, command_name, is_built, negotiates}
 use Rattle.qmp_rules.specs.Changes.{all_changed}
-use Rattle.qmp_rules.specs.Edits.{edits_of, action_edits, spoiled, ids}
+use Rattle.qmp_rules.specs.Edits.{edits_of, action_edits, spoiled, node_ids}
 use Rattle.qmp_rules.specs.Queries.{jobs_data, nodes_data}
 
 -- nothing is told
-abbrev pub untold : Told
-untold = record { length = None; size = None; stopped = None; mapped = []; dirty = [] }
+abbrev pub told_none : Told
+told_none = record { length = None; size = None; stopped = None; mapped = []; dirty = [] }
 
 -- ---- the rule on permissions
 
-abbrev pub conflict_refusal : Table → Conflict → Refusal
+abbrev pub conflict_refusal : RunTable → Conflict → Refusal
 conflict_refusal t pair =
     refusal.Conflict (name_at t pair.node) (parent_name t pair.asks) (parent_name t pair.denies)
     pair.perm
 
 -- the first pair of edges that breaks it
-unfoldable pub conflict_in : Table → Option Refusal
-conflict_in t = option_map (conflict_refusal t) (first_conflict (ids t) t.edges)
+unfoldable pub conflict_in : RunTable → Option Refusal
+conflict_in t = option_map (conflict_refusal t) (first_conflict (node_ids t) t.edges)
 
 -- what is added beside a file node alone makes no edge
 abbrev pub is_joined : Added (List ℕ) → Bool
@@ -67,7 +67,7 @@ action_rewires (action.Backup c) = true
 action_rewires _ = false
 
 -- the edges as the changes make them break it
-abbrev pub conflict_after : Bool → Table → List Change → Option Refusal
+abbrev pub conflict_after : Bool → RunTable → List Change → Option Refusal
 conflict_after false t changes = None
 conflict_after true t changes = conflict_in (all_changed t changes)
 
@@ -78,21 +78,21 @@ abbrev pub is_grouped : Option CompletionMode → Bool
 is_grouped (Some Grouped) = true
 is_grouped mode = false
 
-abbrev pub group_of : Table → Transaction (List Act) → Option ℕ
+abbrev pub group_of : RunTable → Transaction (List Act) → Option ℕ
 group_of t c = if is_grouped c.completion_mode then Some t.started else None
 
-abbrev pub action_refusal : Table → Told → Option ℕ → Act → Option Refusal
+abbrev pub action_refusal : RunTable → Told → Option ℕ → Act → Option Refusal
 action_refusal t told group a =
-    or_else (first t told (action_rest a))
+    or_else (first_unmet_ask t told (action_rest a))
     (conflict_after (action_rewires a) t (action_edits t group a))
 
-abbrev pub actions_refusal : Table → Told → Option ℕ → List Act → Option Refusal
+abbrev pub actions_refusal : RunTable → Told → Option ℕ → List Act → Option Refusal
 actions_refusal t told group [] = None
 actions_refusal t told group (a ∷ actions) =
     or_else (action_refusal t told group a)
     (actions_refusal (all_changed t (action_edits t group a)) told group actions)
 
-abbrev pub actions_edits : Table → Option ℕ → List Act → List Change
+abbrev pub actions_edits : RunTable → Option ℕ → List Act → List Change
 actions_edits t group [] = []
 actions_edits t group (a ∷ actions) =
     action_edits t group a ++ actions_edits (all_changed t (action_edits t group a)) group actions
@@ -110,29 +110,29 @@ out_of_turn true true = Some (refusal.Negotiation true)
 out_of_turn _ _ = None
 
 -- behind the asks: what the actions ask of the table, or what the edges break
-abbrev pub refusal_behind : Table → Told → Cmd → Option Refusal
+abbrev pub refusal_behind : RunTable → Told → Cmd → Option Refusal
 refusal_behind t told (command.Transaction c) = actions_refusal t told (group_of t c) c.actions
-refusal_behind t told c = conflict_after (rewires c) t (edits_of t untold c)
+refusal_behind t told c = conflict_after (rewires c) t (edits_of t told_none c)
 
 -- the first refusal of a command that holds
-unfoldable pub refusal_of : Table → Told → Cmd → Option Refusal
-refusal_of t told c =
+unfoldable pub refusal_to : RunTable → Told → Cmd → Option Refusal
+refusal_to t told c =
     or_else (unbuilt c)
     (or_else (out_of_turn (negotiates c) t.negotiated)
-    (or_else (first t told (asks_of c)) (refusal_behind t told c)))
+    (or_else (first_unmet_ask t told (asks_of c)) (refusal_behind t told c)))
 
-abbrev pub command_edits : Table → Told → Cmd → List Change
+abbrev pub command_edits : RunTable → Told → Cmd → List Change
 command_edits t told (command.Transaction c) = actions_edits t (group_of t c) c.actions
 command_edits t told c = edits_of t told c
 
 -- what a command gives: of most nothing
-abbrev pub returned : Table → Told → Cmd → Data
+abbrev pub returned : RunTable → Told → Cmd → Data
 returned t told command.QueryBlockJobs = jobs_data t
 returned t told (command.QueryNamedBlockNodes flat) = nodes_data t told.dirty
 returned t told _ = object no_members
 
 -- a failed call leaves what a creation began
-abbrev pub left_by : Table → Cmd → Refusal → List Change
+abbrev pub left_by : RunTable → Cmd → Refusal → List Change
 left_by t (command.BlockdevCreate c) (refusal.Io from count) = spoiled t c.options
 left_by t (command.BlockdevCreate c) (refusal.NoSpace dev) = spoiled t c.options
 left_by t c cause = []
@@ -148,12 +148,12 @@ accepted changes d = record { changes = changes; reply = Ok d }
 abbrev pub refused_so : List Change → Refusal → Answer
 refused_so changes cause = record { changes = changes; reply = Err cause }
 
-abbrev pub answer_by : Table → Told → Cmd → Option Refusal → Answer
+abbrev pub answer_by : RunTable → Told → Cmd → Option Refusal → Answer
 answer_by t told c None = accepted (command_edits t told c) (returned t told c)
 answer_by t told c (Some cause) = refused_so (left_by t c cause) cause
 
-unfoldable pub answer : Table → Told → Cmd → Answer
-answer t told c = answer_by t told c (refusal_of t told c)
+unfoldable pub answer : RunTable → Told → Cmd → Answer
+answer t told c = answer_by t told c (refusal_to t told c)
 
 -- ---- lines
 
@@ -165,18 +165,18 @@ member_refusal (stop.BadType member) = Some (refusal.BadType member)
 member_refusal _ = None
 
 -- why there is no command to look for
-abbrev pub name_refusal : Stop → Option Refusal
-name_refusal stop.BadJson = Some refusal.BadJson
-name_refusal (stop.UnknownCommand name) = Some (refusal.UnknownCommand name)
-name_refusal _ = None
+abbrev pub stop_refusal : Stop → Option Refusal
+stop_refusal stop.BadJson = Some refusal.BadJson
+stop_refusal (stop.UnknownCommand name) = Some (refusal.UnknownCommand name)
+stop_refusal _ = None
 
 -- a line that is no command: negotiation is looked at before its members
-unfoldable pub line_refusal : Table → List ℕ → Stop → Option Refusal
+unfoldable pub line_refusal : RunTable → List ℕ → Stop → Option Refusal
 line_refusal t line why =
-    or_else (name_refusal why)
+    or_else (stop_refusal why)
     (or_else (out_of_turn (asks_for_capabilities line) t.negotiated) (member_refusal why))
 
-abbrev pub answer_for : Table → Told → List ℕ → Result Cmd Stop → Answer
+abbrev pub answer_for : RunTable → Told → List ℕ → Result Cmd Stop → Answer
 answer_for t told line (Ok c) = answer t told c
 answer_for t told line (Err why) = elim (line_refusal t line why) as (λ _. Answer) [
   | None ↦ accepted [] (object no_members)
@@ -184,13 +184,13 @@ answer_for t told line (Err why) = elim (line_refusal t line why) as (λ _. Answ
 ]
 
 -- the answer to a line
-unfoldable pub line_answer : Table → Told → List ℕ → Answer
+unfoldable pub line_answer : RunTable → Told → List ℕ → Answer
 line_answer t told line = answer_for t told line (command_at line)
 
 -- its text, with the id that the line has
-abbrev pub reply_data : Option Data → Result Data Refusal → Data
-reply_data id (Ok d) = returned_data id d
-reply_data id (Err cause) = refused_data id (refusal_class cause) (refusal_text cause)
+abbrev pub answer_data : Option Data → Result Data Refusal → Data
+answer_data id (Ok d) = returned_data id d
+answer_data id (Err cause) = refused_data id (refusal_class cause) (refusal_text cause)
 
-unfoldable pub line_text : Table → Told → List ℕ → List ℕ
-line_text t told line = compact_text (reply_data (id_at line) (line_answer t told line).reply)
+unfoldable pub line_text : RunTable → Told → List ℕ → List ℕ
+line_text t told line = compact_text (answer_data (id_at line) (line_answer t told line).reply)

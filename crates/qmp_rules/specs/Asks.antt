@@ -28,8 +28,8 @@ use Rattle.qmp_rules.specs.declared.told.Stopped.{Stopped}
 use Rattle.qmp_rules.specs.declared.told.Told.{Told}
 use Rattle.qmp_asks.specs.Asking.{Asking, Nodes1, same_look}
 use Rattle.qmp_asks.specs.Naming.{is_name, is_file_name, inline_name}
-use Rattle.qmp_rules.specs.Table.{Table, node_named, id_named, device_named, job_named, bitmap_named, has_name, file_state, name_at, job_id, parent_name, child, node_at, first_into}
-use Rattle.qmp_rules.specs.Chains.{has_id, is_settled, below, chain, down_to, lowest, overlay_edge, overlays, reaches, holder, keeper}
+use Rattle.qmp_rules.specs.Table.{RunTable, node_named, id_named, device_named, job_named, bitmap_named, has_name, file_state, name_at, job_id, parent_name, child, node_by_id, first_into}
+use Rattle.qmp_rules.specs.Chains.{is_listed, is_settled, chain_below, chain, down_to, lowest_in_chain, overlay_edge, overlays, reaches, holder, keeper}
 use Rattle.qmp_rules.specs.Refusals.{refused, or_else}
 use Rattle.qmp_asks.specs.Values.{begins_within, ends_within, part_fits}
 
@@ -61,7 +61,7 @@ takes _ _ = false
 abbrev pub is_file : NodeRecord → Bool
 is_file row = takes drivers.File row.kind
 
-abbrev pub file_node : Table → List ℕ → Option NodeRecord
+abbrev pub file_node : RunTable → List ℕ → Option NodeRecord
 file_node t name =
     option_and_then (λ row. if is_file row then Some row else None) (node_named t name)
 
@@ -80,17 +80,17 @@ is_lost is_raw (Some Used) = true
 is_lost is_raw (Some Formatted) = is_raw
 is_lost is_raw _ = false
 
-abbrev pub lost : Table → Bool → List ℕ → Option Refusal
+abbrev pub lost : RunTable → Bool → List ℕ → Option Refusal
 lost t is_raw name = refused (is_lost is_raw (file_state t name)) (refusal.FileUsed name)
 
 -- the node has a parent, whose name is told
-abbrev pub in_use : Table → List ℕ → Option Edge → Option Refusal
+abbrev pub in_use : RunTable → List ℕ → Option Edge → Option Refusal
 in_use t name edge = option_map (λ e. refusal.InUse name (parent_name t e.parent)) edge
 
-abbrev pub in_use_at : Table → List ℕ → ℕ → Option Refusal
+abbrev pub in_use_at : RunTable → List ℕ → ℕ → Option Refusal
 in_use_at t name id = in_use t name (first_into id t.edges)
 
-abbrev pub held_by : Table → ℕ → Option JobRecord → Option Refusal
+abbrev pub held_by : RunTable → ℕ → Option JobRecord → Option Refusal
 held_by t id job = option_map (λ row. refusal.JobHolds (name_at t id) row.id) job
 
 abbrev pub sizes_differ : NodeRecord → NodeRecord → Option Refusal
@@ -98,53 +98,53 @@ sizes_differ a b = refused (not (a.size == b.size)) (refusal.SizeDiffers a.name 
 
 -- ---- bitmaps
 
-abbrev pub busy : Table → BitmapRow → Option Refusal
+abbrev pub busy : RunTable → BitmapRow → Option Refusal
 busy t row = option_map (λ job. refusal.BitmapBusy row.name (job_id t job)) row.busy
 
 -- ---- the nodes of a job
 
 -- the node of a name; where none has it, the command was refused before
-abbrev pub id_or : ℕ → Table → Option (List ℕ) → ℕ
+abbrev pub id_or : ℕ → RunTable → Option (List ℕ) → ℕ
 id_or id t None = id
 id_or id t (Some name) = unwrap_or (id_named t name) id
 
 -- the source, or the top: of a commit the device, where no top is named
-abbrev pub top_of : Table → Nodes1 → ℕ
+abbrev pub top_of : RunTable → Nodes1 → ℕ
 top_of t (Stream device base) = id_or 0 t (Some device)
 top_of t (Commit device base top) = id_or (id_or 0 t (Some device)) t top
 top_of t (Copy device target) = id_or 0 t (Some device)
 
 -- the target, or the base: of a commit the lowest node of the chain, where no base is named, and of such a stream none
-abbrev pub base_of : Table → Nodes1 → Option ℕ
-base_of t (Stream device base) = option_and_then (id_named t) base
-base_of t (Commit device base top) =
-    Some (id_or (lowest t (top_of t (Commit device base top))) t base)
-base_of t (Copy device target) = id_named t target
+abbrev pub job_base : RunTable → Nodes1 → Option ℕ
+job_base t (Stream device base) = option_and_then (id_named t) base
+job_base t (Commit device base top) =
+    Some (id_or (lowest_in_chain t (top_of t (Commit device base top))) t base)
+job_base t (Copy device target) = id_named t target
 
 -- a commit is active exactly where its top is the device
-abbrev pub is_active : Table → List ℕ → Option (List ℕ) → Bool
+abbrev pub is_active : RunTable → List ℕ → Option (List ℕ) → Bool
 is_active t device top = id_or (id_or 0 t (Some device)) t top == id_or 0 t (Some device)
 
 -- the nodes that the job holds
-abbrev pub held_nodes : Table → Nodes1 → List ℕ
+abbrev pub held_nodes : RunTable → Nodes1 → List ℕ
 held_nodes t (Stream device base) = top_of t (Stream device base) ∷ []
 held_nodes t (Commit device base top) =
-    down_to (base_of t (Commit device base top)) (chain t (top_of t (Commit device base top)))
+    down_to (job_base t (Commit device base top)) (chain t (top_of t (Commit device base top)))
 held_nodes t (Copy device target) = top_of t (Copy device target) ∷ id_or 0 t (Some target) ∷ []
 
 -- and those that it holds for reading
-abbrev pub read_nodes : Table → Nodes1 → List ℕ
+abbrev pub read_nodes : RunTable → Nodes1 → List ℕ
 read_nodes t (Stream device base) =
-    down_to (base_of t (Stream device base)) (below t (top_of t (Stream device base)))
+    down_to (job_base t (Stream device base)) (chain_below t (top_of t (Stream device base)))
 read_nodes t (Commit device base top) = overlays t (top_of t (Commit device base top))
 read_nodes t (Copy device target) = []
 
 -- in the order in which they are looked at: as the command names them, then from the top down
-abbrev pub named_ids : Table → Option (List ℕ) → List ℕ
+abbrev pub named_ids : RunTable → Option (List ℕ) → List ℕ
 named_ids t None = []
 named_ids t (Some name) = id_or 0 t (Some name) ∷ []
 
-abbrev pub looked_at : Table → Nodes1 → List ℕ
+abbrev pub looked_at : RunTable → Nodes1 → List ℕ
 looked_at t (Stream device base) =
     named_ids t (Some device) ++ named_ids t base ++ read_nodes t (Stream device base)
 looked_at t (Commit device base top) =
@@ -154,28 +154,29 @@ looked_at t (Commit device base top) =
 looked_at t (Copy device target) = held_nodes t (Copy device target)
 
 -- a node that the job would hold is held, or one that it would read is held by a job for itself
-abbrev pub clash : Table → List ℕ → List ℕ → ℕ → Option Refusal
+abbrev pub clash : RunTable → List ℕ → List ℕ → ℕ → Option Refusal
 clash t held read id =
-    if has_id id held then held_by t id (holder t id)
-    else if has_id id read then held_by t id (keeper t id)
+    if is_listed id held then held_by t id (holder t id)
+    else if is_listed id read then held_by t id (keeper t id)
     else None
 
-abbrev pub first_clash : Table → List ℕ → List ℕ → List ℕ → Option Refusal
+abbrev pub first_clash : RunTable → List ℕ → List ℕ → List ℕ → Option Refusal
 first_clash t held read [] = None
 first_clash t held read (id ∷ ids) = or_else (clash t held read id) (first_clash t held read ids)
 
 -- the base lies strictly below the top, and the top is the device or below it
-abbrev pub not_below : Table → ℕ → ℕ → Option Refusal
+abbrev pub not_below : RunTable → ℕ → ℕ → Option Refusal
 not_below t top base =
-    refused (not (has_id base (below t top))) (refusal.NotInChain (name_at t base))
+    refused (not (is_listed base (chain_below t top))) (refusal.NotInChain (name_at t base))
 
-abbrev pub not_in_chain : Table → Nodes1 → Option Refusal
+abbrev pub not_in_chain : RunTable → Nodes1 → Option Refusal
 not_in_chain t (Stream device base) =
-    if_there (not_below t (top_of t (Stream device base))) (base_of t (Stream device base))
+    if_there (not_below t (top_of t (Stream device base))) (job_base t (Stream device base))
 not_in_chain t (Commit device base top) = or_else
     (if_there (not_below t (top_of t (Commit device base top)))
-    (base_of t (Commit device base top)))
-    (refused (not (has_id (top_of t (Commit device base top)) (chain t (id_or 0 t (Some device)))))
+    (job_base t (Commit device base top)))
+    (refused (not (is_listed (top_of t (Commit device base top))
+    (chain t (id_or 0 t (Some device)))))
     (refusal.NotInChain (name_at t (top_of t (Commit device base top)))))
 not_in_chain t (Copy device target) = None
 
@@ -183,11 +184,11 @@ abbrev pub differ : Option NodeRecord → Option NodeRecord → Option Refusal
 differ (Some a) (Some b) = sizes_differ a b
 differ _ _ = None
 
-abbrev pub sizes : Table → Nodes1 → Option Refusal
+abbrev pub sizes : RunTable → Nodes1 → Option Refusal
 sizes t (Stream device base) = None
 sizes t (Commit device base top) = differ
-    (option_and_then (node_at t) (base_of t (Commit device base top)))
-    (node_at t (top_of t (Commit device base top)))
+    (option_and_then (node_by_id t) (job_base t (Commit device base top)))
+    (node_by_id t (top_of t (Commit device base top)))
 sizes t (Copy device target) = differ (node_named t device) (node_named t target)
 
 -- the sources that a target may not reach: its own, then those of mirrors
@@ -198,7 +199,7 @@ abbrev pub mirrored : List JobRecord → List ℕ
 mirrored [] = []
 mirrored (job ∷ jobs) = if is_mirror job then job.source ∷ mirrored jobs else mirrored jobs
 
-abbrev pub first_reached : Table → ℕ → List ℕ → Option Refusal
+abbrev pub first_reached : RunTable → ℕ → List ℕ → Option Refusal
 first_reached t target [] = None
 first_reached t target (source ∷ sources) = or_else
     (refused (reaches t target source) (refusal.InUse (name_at t source) (name_at t target)))
@@ -212,7 +213,7 @@ second_into id (edge ∷ edges) =
 
 -- an active commit has no overlay on its top, the top of every other one no parent but one, and the target of a copy
 -- reaches no source
-abbrev pub in_the_way : Table → Nodes1 → Option Refusal
+abbrev pub in_the_way : RunTable → Nodes1 → Option Refusal
 in_the_way t (Stream device base) = None
 in_the_way t (Commit device base top) =
     let id = top_of t (Commit device base top) in
@@ -233,7 +234,7 @@ part_ends offset size row =
     refused (not (ends_within offset size row.size)) (refusal.BadValue (codes "size"))
 
 -- it is too long; of a file that was used this isn't said
-abbrev pub part_too_long : Table → Option Amount → Option Amount → NodeRecord → Option Refusal
+abbrev pub part_too_long : RunTable → Option Amount → Option Amount → NodeRecord → Option Refusal
 part_too_long t offset size row = refused
     (not (part_fits offset size row.size || is_lost false (file_state t (name_of_file row))))
     (refusal.File (name_of_file row) TooLong)
@@ -246,7 +247,7 @@ told_at what (Some stopped) = refused (same_look what stopped.look) stopped.refu
 -- ---- the asks
 
 -- the refusal of an ask that is not met
-unfoldable pub holds : Table → Told → Asking → Option Refusal
+unfoldable pub holds : RunTable → Told → Asking → Option Refusal
 holds t told (ask.Good member ok) = refused (not ok) (refusal.BadValue member)
 holds t told (ask.Begins file offset) = if_there (part_begins offset) (file_node t file)
 holds t told (ask.Ends file offset size) = if_there (part_ends offset size) (file_node t file)
@@ -317,6 +318,6 @@ holds t told (ask.JobReady id) =
 holds t told ask.Abort = Some refusal.Aborted
 
 -- the refusal of the first ask that is not met
-abbrev pub first : Table → Told → List Asking → Option Refusal
-first t told [] = None
-first t told (asking ∷ asks) = or_else (holds t told asking) (first t told asks)
+abbrev pub first_unmet_ask : RunTable → Told → List Asking → Option Refusal
+first_unmet_ask t told [] = None
+first_unmet_ask t told (asking ∷ asks) = or_else (holds t told asking) (first_unmet_ask t told asks)

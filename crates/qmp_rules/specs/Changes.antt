@@ -16,10 +16,10 @@ use Rattle.qmp_rules.specs.declared.rows.JobRecord.{JobRecord}
 use Rattle.qmp_rules.specs.declared.rows.UsedBitmap.{UsedBitmap}
 use Rattle.qmp_rules.specs.declared.rows.BitmapRow.{BitmapRow}
 use Rattle.qmp_rules.specs.declared.rows.FileState.TheVariants.{Made, Formatted, Used}
-use Rattle.qmp_rules.specs.Table.{Table, with_file, kinds_of, is_bitmap}
+use Rattle.qmp_rules.specs.Table.{RunTable, with_file, kinds_of, is_bitmap}
 
 -- the table with these nodes and edges, of which each asks and shares what the edges into its parent say
-abbrev pub rewired : List NodeRecord → List Edge → Table → Table
+abbrev pub rewired : List NodeRecord → List Edge → RunTable → RunTable
 rewired nodes edges t = record t { nodes = nodes; edges = refreshed (kinds_of nodes) edges }
 
 -- ---- nodes
@@ -47,27 +47,28 @@ stands_over name (Some filename) = bytes_eq filename name
 abbrev pub lost_with : List ℕ → NodeRecord → NodeRecord
 lost_with name row = if stands_over name row.filename then unsettled row else row
 
-abbrev pub without_row : ℕ → List NodeRecord → List NodeRecord
-without_row id nodes = filter (λ row. not (row.id == id)) nodes
+abbrev pub without_record : ℕ → List NodeRecord → List NodeRecord
+without_record id nodes = filter (λ row. not (row.id == id)) nodes
 
 -- a format node's edges, the one to its file first
-abbrev pub backed : ℕ → Option ℕ → List Edge → List Edge
-backed id None edges = edges
-backed id (Some backing) edges = with_edge (node_edge id Backing backing) edges
+abbrev pub with_backing_edge : ℕ → Option ℕ → List Edge → List Edge
+with_backing_edge id None edges = edges
+with_backing_edge id (Some backing) edges = with_edge (node_edge id Backing backing) edges
 
-abbrev pub format_edges : ℕ → ℕ → Option ℕ → List Edge → List Edge
-format_edges id file backing edges = backed id backing (with_edge (node_edge id File file) edges)
+abbrev pub with_format_edges : ℕ → ℕ → Option ℕ → List Edge → List Edge
+with_format_edges id file backing edges =
+    with_backing_edge id backing (with_edge (node_edge id File file) edges)
 
 -- ---- bitmaps
 
 abbrev pub bitmap_changed : ℕ → List ℕ → (BitmapRow → BitmapRow) → BitmapRow → BitmapRow
 bitmap_changed node name change row = if is_bitmap node name row then change row else row
 
-abbrev pub turned : Bool → BitmapRow → BitmapRow
-turned on row = record row { enabled = on }
+abbrev pub with_recording : Bool → BitmapRow → BitmapRow
+with_recording on row = record row { enabled = on }
 
 abbrev pub with_turned : ℕ → List ℕ → Bool → List BitmapRow → List BitmapRow
-with_turned node name on rows = map (bitmap_changed node name (turned on)) rows
+with_turned node name on rows = map (bitmap_changed node name (with_recording on)) rows
 
 abbrev pub without_bitmap : ℕ → List ℕ → List BitmapRow → List BitmapRow
 without_bitmap node name rows = filter (λ row. not (is_bitmap node name row)) rows
@@ -109,7 +110,7 @@ without_name name names = filter (λ other. not (bytes_eq other name)) names
 
 -- ---- changes
 
-unfoldable pub changed : Table → Change → Table
+unfoldable pub changed : RunTable → Change → RunTable
 changed t change.Negotiate = record t { negotiated = true }
 changed t (change.KeepId id) = record t { kept = t.kept ++ id ∷ [] }
 changed t (change.DropId id) = record t { kept = without_name id t.kept }
@@ -121,11 +122,12 @@ changed t (change.SpoilFile name) =
 changed t (change.UseFile name) = record t { files = with_file name Used t.files }
 changed t (change.AddFile row) = rewired (t.nodes ++ row ∷ []) t.edges t
 changed t (change.AddFormat row file backing) =
-    rewired (with_unsettled file t.nodes ++ row ∷ []) (format_edges row.id file backing t.edges) t
+    rewired (with_unsettled file t.nodes ++ row ∷ [])
+    (with_format_edges row.id file backing t.edges) t
 changed t (change.AddFilter row child) =
     rewired (t.nodes ++ row ∷ []) (with_edge (node_edge row.id File child) t.edges) t
 changed t (change.RemoveNode id) =
-    record (rewired (without_row id t.nodes) (without_parent (Node id) t.edges) t) {
+    record (rewired (without_record id t.nodes) (without_parent (Node id) t.edges) t) {
       bitmaps = bitmaps_but_of id t.bitmaps;
     }
 changed t (change.Unsettle id) = record t { nodes = with_unsettled id t.nodes }
@@ -163,6 +165,6 @@ changed t (change.ClearBitmap node name) = t
 changed t (change.MergeBitmap node name source_node source) = t
 
 -- the table after changes, one after another
-abbrev pub all_changed : Table → List Change → Table
+abbrev pub all_changed : RunTable → List Change → RunTable
 all_changed t [] = t
 all_changed t (c ∷ changes) = all_changed (changed t c) changes

@@ -50,10 +50,10 @@ use Rattle.qmp_rules.specs.declared.rows.UsedBitmap.{UsedBitmap}
 use Rattle.qmp_asks.specs.declared.ask.JobNodes.TheVariants.{Stream, Commit, Copy}
 use Rattle.qmp_rules.specs.declared.told.Told.{Told}
 use Rattle.qmp_asks.specs.Naming.{inline_name}
-use Rattle.qmp_rules.specs.Table.{Table, node_named, node_at, id_named, device_named, job_named, child}
-use Rattle.qmp_rules.specs.Chains.{disk_node, is_settled, has_id, chain}
+use Rattle.qmp_rules.specs.Table.{RunTable, node_named, node_by_id, id_named, device_named, job_named, child}
+use Rattle.qmp_rules.specs.Chains.{disk_node, is_settled, is_listed, chain}
 use Rattle.qmp_asks.specs.Asking.{Nodes1}
-use Rattle.qmp_rules.specs.Asks.{id_or, name_of_file, is_file, top_of, base_of, held_nodes, read_nodes}
+use Rattle.qmp_rules.specs.Asks.{id_or, name_of_file, is_file, top_of, job_base, held_nodes, read_nodes}
 use Rattle.qmp_asks.specs.JobAsks.{stream_nodes, commit_nodes}
 use Rattle.qmp_asks.specs.NodeAsks.{is_read_only, backing_name}
 use Rattle.qmp_asks.specs.BitmapAsks.{source_node, source_name}
@@ -61,15 +61,15 @@ use Rattle.qmp_asks.specs.Values.{amount_or, part_offset, part_size, flag_or_fal
 
 -- ---- numbers
 
-abbrev pub ids : Table → List ℕ
-ids t = map (λ row. row.id) t.nodes
+abbrev pub node_ids : RunTable → List ℕ
+node_ids t = map (λ row. row.id) t.nodes
 
-abbrev pub free_id : Table → ℕ
-free_id t = lowest_free (ids t)
+abbrev pub free_id : RunTable → ℕ
+free_id t = lowest_free (node_ids t)
 
 -- the one of the node that is added after that
-abbrev pub next_free_id : Table → ℕ
-next_free_id t = lowest_free (ids t ++ free_id t ∷ [])
+abbrev pub next_free_id : RunTable → ℕ
+next_free_id t = lowest_free (node_ids t ++ free_id t ∷ [])
 
 -- the first place of a name
 abbrev pub place_from : ℕ → List ℕ → List (List ℕ) → Option ℕ
@@ -84,16 +84,16 @@ unused_from (suc more) k devices =
     if list_any (λ device. device.number == k) devices then unused_from more (k + 1) devices else k
 
 -- a device's number: the guest's of its name, or else the lowest above those of guests that no device has
-abbrev pub device_number : Table → List ℕ → ℕ
+abbrev pub device_number : RunTable → List ℕ → ℕ
 device_number t id =
     unwrap_or (place_from 0 id t.guests) (unused_from 64 (length t.guests) t.devices)
 
 -- ---- blockdev-create
 
-abbrev pub file_of_node : Table → List ℕ → List ℕ
+abbrev pub file_of_node : RunTable → List ℕ → List ℕ
 file_of_node t name = unwrap_or (option_map name_of_file (node_named t name)) []
 
-abbrev pub created_change : Table → Created (List ℕ) → List Change
+abbrev pub created_change : RunTable → Created (List ℕ) → List Change
 created_change t (created.File c) = MakeFile c.filename (amount_or 0 (Some c.size)) ∷ []
 created_change t (created.Qcow2 c) =
     FormatFile (id_or 0 t (Some c.file)) (file_of_node t c.file) (amount_or 0 (Some c.size))
@@ -101,11 +101,11 @@ created_change t (created.Qcow2 c) =
     ∷ []
 created_change t created.Unknown = []
 
-abbrev pub create_edits : Table → BlockdevCreate (List ℕ) → List Change
+abbrev pub create_edits : RunTable → BlockdevCreate (List ℕ) → List Change
 create_edits t c = KeepId c.job_id ∷ created_change t c.options
 
 -- what one leaves of which a call failed: its file used, and a file node over it unsettled
-abbrev pub spoiled : Table → Created (List ℕ) → List Change
+abbrev pub spoiled : RunTable → Created (List ℕ) → List Change
 spoiled t (created.File c) = SpoilFile c.filename ∷ []
 spoiled t (created.Qcow2 c) = SpoilFile (file_of_node t c.file) ∷ []
 spoiled t created.Unknown = []
@@ -147,33 +147,34 @@ goes_with id None = Some id
 goes_with id (Some own) = None
 
 -- the file node that is made with the node over it, which comes next
-abbrev pub inline_row : Table → Told → List ℕ → InlineFile (List ℕ) → NodeRecord
+abbrev pub inline_row : RunTable → Told → List ℕ → InlineFile (List ℕ) → NodeRecord
 inline_row t told name file =
     file_row (free_id t) (inline_name name file.node_name) (length_told told)
     (is_read_only file.options) file.filename (goes_with (next_free_id t) file.node_name)
 
-abbrev pub size_of : Table → List ℕ → ℕ
-size_of t name = unwrap_or (option_map (λ row. row.size) (node_named t name)) 0
+abbrev pub size_by_name : RunTable → List ℕ → ℕ
+size_by_name t name = unwrap_or (option_map (λ row. row.size) (node_named t name)) 0
 
-abbrev pub raw_row : ℕ → List ℕ → ℕ → Bool → AddRaw (List ℕ) → NodeRecord
-raw_row id name length read_only raw =
+abbrev pub raw_record : ℕ → List ℕ → ℕ → Bool → AddRaw (List ℕ) → NodeRecord
+raw_record id name length read_only raw =
     format_row kind.Raw id name (part_size raw.offset raw.size length) (part_offset raw.offset)
     read_only
 
-abbrev pub raw_edits : Table → Told → List ℕ → Bool → AddRaw (List ℕ) → FileRef (List ℕ)
+abbrev pub raw_edits : RunTable → Told → List ℕ → Bool → AddRaw (List ℕ) → FileRef (List ℕ)
     → List Change
 raw_edits t told name read_only raw (file_ref.Name file) =
-    AddFormat (raw_row (free_id t) name (size_of t file) read_only raw) (id_or 0 t (Some file)) None
+    AddFormat (raw_record (free_id t) name (size_by_name t file) read_only raw)
+    (id_or 0 t (Some file)) None
     ∷ []
 raw_edits t told name read_only raw (file_ref.Inline file) =
     AddFile (inline_row t told name file)
-    ∷ AddFormat (raw_row (next_free_id t) name (length_told told) read_only raw) (free_id t) None
+    ∷ AddFormat (raw_record (next_free_id t) name (length_told told) read_only raw) (free_id t) None
     ∷ []
 
 abbrev pub image_row : ℕ → Told → List ℕ → Bool → NodeRecord
 image_row id told name read_only = format_row kind.Qcow2 id name (unwrap_or told.size 0) 0 read_only
 
-abbrev pub qcow2_edits : Table → Told → List ℕ → Bool → Option (List ℕ) → FileRef (List ℕ)
+abbrev pub qcow2_edits : RunTable → Told → List ℕ → Bool → Option (List ℕ) → FileRef (List ℕ)
     → List Change
 qcow2_edits t told name read_only back (file_ref.Name file) =
     AddFormat (image_row (free_id t) told name read_only) (id_or 0 t (Some file))
@@ -184,27 +185,27 @@ qcow2_edits t told name read_only back (file_ref.Inline file) =
     (option_and_then (id_named t) back)
     ∷ []
 
-abbrev pub added_edits : Table → Told → List ℕ → Bool → Added (List ℕ) → List Change
+abbrev pub added_edits : RunTable → Told → List ℕ → Bool → Added (List ℕ) → List Change
 added_edits t told name read_only (added.File filename) =
     AddFile (file_row (free_id t) name (length_told told) read_only filename None) ∷ []
 added_edits t told name read_only (added.Raw raw) = raw_edits t told name read_only raw raw.file
 added_edits t told name read_only (added.Qcow2 image) =
     qcow2_edits t told name read_only (backing_name image.backing) image.file
 added_edits t told name read_only (added.CopyOnRead file) =
-    AddFilter (format_row kind.CopyOnRead (free_id t) name (size_of t file) 0 read_only)
+    AddFilter (format_row kind.CopyOnRead (free_id t) name (size_by_name t file) 0 read_only)
     (id_or 0 t (Some file)) ∷ []
 added_edits t told name read_only added.Unknown = []
 
-abbrev pub add_edits : Table → Told → BlockdevAdd (List ℕ) → List Change
+abbrev pub add_edits : RunTable → Told → BlockdevAdd (List ℕ) → List Change
 add_edits t told c = added_edits t told c.node_name (is_read_only c.options) c.driver
 
 -- ---- blockdev-del
 
 -- the file over which a node stands: its own, or that of the file node under it
-abbrev pub name_of_file_at : Table → Option ℕ → Option (List ℕ)
-name_of_file_at t id = option_and_then (λ row. row.filename) (option_and_then (node_at t) id)
+abbrev pub name_of_file_at : RunTable → Option ℕ → Option (List ℕ)
+name_of_file_at t id = option_and_then (λ row. row.filename) (option_and_then (node_by_id t) id)
 
-abbrev pub file_under : Table → NodeRecord → Option (List ℕ)
+abbrev pub file_under : RunTable → NodeRecord → Option (List ℕ)
 file_under t row = elim row.kind as (λ _. Option (List ℕ)) [
   | kind.Protocol ↦ row.filename
   | kind.Raw ↦ name_of_file_at t (child t row.id File)
@@ -212,14 +213,14 @@ file_under t row = elim row.kind as (λ _. Option (List ℕ)) [
   | _ ↦ None
 ]
 
-abbrev pub uses : Option (List ℕ) → List Change
-uses None = []
-uses (Some name) = UseFile name ∷ []
+abbrev pub file_uses : Option (List ℕ) → List Change
+file_uses None = []
+file_uses (Some name) = UseFile name ∷ []
 
 abbrev pub goes_with_node : ℕ → NodeRecord → Bool
 goes_with_node id row = unwrap_or (option_map (λ other. other == id) row.made_with) false
 
-abbrev pub with_inline : Table → ℕ → List Change
+abbrev pub with_inline : RunTable → ℕ → List Change
 with_inline t id =
     elim (find (goes_with_node id) t.nodes) as (λ _. List Change) [
       | None ↦ []
@@ -228,19 +229,19 @@ with_inline t id =
     ]
 
 -- the file is used before its node goes
-abbrev pub row_gone : Table → NodeRecord → List Change
-row_gone t row = uses (file_under t row) ++ RemoveNode row.id ∷ with_inline t row.id
+abbrev pub row_gone : RunTable → NodeRecord → List Change
+row_gone t row = file_uses (file_under t row) ++ RemoveNode row.id ∷ with_inline t row.id
 
 abbrev pub of_row : (NodeRecord → List Change) → Option NodeRecord → List Change
 of_row edits None = []
 of_row edits (Some row) = edits row
 
-abbrev pub del_edits : Table → List ℕ → List Change
+abbrev pub del_edits : RunTable → List ℕ → List Change
 del_edits t name = of_row (row_gone t) (node_named t name)
 
 -- ---- devices
 
-abbrev pub new_device : Table → DeviceAdd (List ℕ) → NodeRecord → Device
+abbrev pub new_device : RunTable → DeviceAdd (List ℕ) → NodeRecord → Device
 new_device t c row = record {
   id = c.id;
   number = device_number t c.id;
@@ -250,14 +251,14 @@ new_device t c row = record {
 
 -- a guest on a file node uses its file
 abbrev pub device_uses : NodeRecord → List Change
-device_uses row = if is_file row then uses row.filename else []
+device_uses row = if is_file row then file_uses row.filename else []
 
-abbrev pub device_add_edits : Table → DeviceAdd (List ℕ) → List Change
+abbrev pub device_add_edits : RunTable → DeviceAdd (List ℕ) → List Change
 device_add_edits t c =
     of_row (λ row. device_uses row ++ AddDevice (new_device t c row) row.id ∷ [])
     (node_named t c.drive)
 
-abbrev pub device_del_edits : Table → List ℕ → List Change
+abbrev pub device_del_edits : RunTable → List ℕ → List Change
 device_del_edits t id = elim (device_named t id) as (λ _. List Change) [
   | None ↦ []
   | Some device ↦ RemoveDevice device.number ∷ []
@@ -265,7 +266,7 @@ device_del_edits t id = elim (device_named t id) as (λ _. List Change) [
 
 -- ---- blockdev-snapshot
 
-abbrev pub snapshot_edits : Table → Snapshot (List ℕ) → List Change
+abbrev pub snapshot_edits : RunTable → Snapshot (List ℕ) → List Change
 snapshot_edits t c =
     let node : ℕ = id_or 0 t (Some c.node) in
     let overlay : ℕ = id_or 0 t (Some c.overlay) in
@@ -282,36 +283,36 @@ bitmap_row node c = record {
   busy = None;
 }
 
-abbrev pub bitmap_add_edits : Table → BitmapAdd (List ℕ) → List Change
+abbrev pub bitmap_add_edits : RunTable → BitmapAdd (List ℕ) → List Change
 bitmap_add_edits t c = AddBitmap (bitmap_row (id_or 0 t (Some c.node)) c) ∷ []
 
-abbrev pub bitmap_remove_edits : Table → BitmapName (List ℕ) → List Change
+abbrev pub bitmap_remove_edits : RunTable → BitmapName (List ℕ) → List Change
 bitmap_remove_edits t c = RemoveBitmap (id_or 0 t (Some c.node)) c.name ∷ []
 
-abbrev pub bitmap_turn_edits : Table → Bool → BitmapName (List ℕ) → List Change
+abbrev pub bitmap_turn_edits : RunTable → Bool → BitmapName (List ℕ) → List Change
 bitmap_turn_edits t on c = TurnBitmap (id_or 0 t (Some c.node)) c.name on ∷ []
 
-abbrev pub bitmap_clear_edits : Table → BitmapName (List ℕ) → List Change
+abbrev pub bitmap_clear_edits : RunTable → BitmapName (List ℕ) → List Change
 bitmap_clear_edits t c = ClearBitmap (id_or 0 t (Some c.node)) c.name ∷ []
 
 -- one source after another
-abbrev pub merges : Table → List ℕ → List ℕ → SeenSources → List Change
+abbrev pub merges : RunTable → List ℕ → List ℕ → SeenSources → List Change
 merges t node target [] = []
 merges t node target (s ∷ sources) =
     MergeBitmap (id_or 0 t (Some node)) target (id_or 0 t (Some (source_node node s)))
     (source_name s)
     ∷ merges t node target sources
 
-abbrev pub merge_edits : Table → BitmapMerge (List ℕ) SeenSources → List Change
+abbrev pub merge_edits : RunTable → BitmapMerge (List ℕ) SeenSources → List Change
 merge_edits t c = merges t c.node c.target c.bitmaps
 
 -- ---- jobs that begin
 
-abbrev pub next_slot : Table → ℕ
+abbrev pub next_slot : RunTable → ℕ
 next_slot t = lowest_free (map (λ job. job.slot) t.jobs)
 
 -- the row of a job, without what some kinds alone have
-abbrev pub new_job : Table → Option ℕ → List ℕ → JobKind → Nodes1 → JobRecord
+abbrev pub new_job : RunTable → Option ℕ → List ℕ → JobKind → Nodes1 → JobRecord
 new_job t group id what nodes = record {
   id = id;
   number = t.started;
@@ -321,7 +322,7 @@ new_job t group id what nodes = record {
   group = group;
   asked = asked.Nothing;
   source = top_of t nodes;
-  target = base_of t nodes;
+  target = job_base t nodes;
   filter = None;
   held = held_nodes t nodes;
   read = read_nodes t nodes;
@@ -331,7 +332,7 @@ new_job t group id what nodes = record {
 }
 
 -- its filter is the node that is added next
-abbrev pub filtered_job : Table → JobRecord → JobRecord
+abbrev pub filtered_job : RunTable → JobRecord → JobRecord
 filtered_job t job = record job { filter = Some (free_id t) }
 
 abbrev pub filter_name : Kind → List ℕ → List ℕ
@@ -340,30 +341,30 @@ filter_name kind.Commit id = codes "#commit:" ++ id
 filter_name driver id = codes "#cbw:" ++ id
 
 -- as large as the node under it, and read-only where that is
-abbrev pub filter_row : Table → Kind → List ℕ → NodeRecord → NodeRecord
+abbrev pub filter_row : RunTable → Kind → List ℕ → NodeRecord → NodeRecord
 filter_row t driver id row =
     format_row driver (free_id t) (filter_name driver id) row.size 0 row.read_only
 
-abbrev pub filter_edits : Table → Kind → JobRecord → List Change
+abbrev pub filter_edits : RunTable → Kind → JobRecord → List Change
 filter_edits t driver job =
-    of_row (λ row. PutFilter (filter_row t driver job.id row) row.id ∷ []) (node_at t job.source)
+    of_row (λ row. PutFilter (filter_row t driver job.id row) row.id ∷ []) (node_by_id t job.source)
 
 -- a job on a file node uses its file
-abbrev pub file_used : Table → Option ℕ → List Change
-file_used t node = of_row device_uses (option_and_then (node_at t) node)
+abbrev pub file_used : RunTable → Option ℕ → List Change
+file_used t node = of_row device_uses (option_and_then (node_by_id t) node)
 
 -- ---- block-stream: the top, and the nodes below it down to the base
 
 abbrev pub uses_as : ℕ → JobUse → List ℕ → List Change
 uses_as slot what nodes = map (UseNode slot what) nodes
 
-abbrev pub stream_job : Table → StreamCommand (List ℕ) → JobRecord
+abbrev pub stream_job : RunTable → StreamCommand (List ℕ) → JobRecord
 stream_job t c =
     record (new_job t None c.job_id job_kind.Stream (stream_nodes c)) {
       backing_file = c.backing_file;
     }
 
-abbrev pub stream_edits : Table → StreamCommand (List ℕ) → List Change
+abbrev pub stream_edits : RunTable → StreamCommand (List ℕ) → List Change
 stream_edits t c =
     let job : JobRecord = stream_job t c in
     file_used t job.target ++ StartJob job ∷ UseNode job.slot StreamTop job.source
@@ -372,21 +373,21 @@ stream_edits t c =
 -- ---- block-commit
 
 -- A base that is read-only may be written while the job runs, with the `file` node under it.
-abbrev pub reads_only : Table → Option ℕ → Bool
+abbrev pub reads_only : RunTable → Option ℕ → Bool
 reads_only t node =
-    unwrap_or (option_map (λ row. row.read_only) (option_and_then (node_at t) node)) false
+    unwrap_or (option_map (λ row. row.read_only) (option_and_then (node_by_id t) node)) false
 
-abbrev pub file_below : Table → Option ℕ → Option ℕ
+abbrev pub file_below : RunTable → Option ℕ → Option ℕ
 file_below t base = option_and_then (λ id. child t id File) base
 
-abbrev pub to_be_written : Table → Option ℕ → MadeWritable
+abbrev pub to_be_written : RunTable → Option ℕ → MadeWritable
 to_be_written t base = record { base = reads_only t base; file = reads_only t (file_below t base) }
 
 abbrev pub writable_if : Bool → Option ℕ → List Change
 writable_if true (Some id) = MakeWritable id ∷ []
 writable_if _ _ = []
 
-abbrev pub base_edits : Table → JobRecord → List Change
+abbrev pub base_edits : RunTable → JobRecord → List Change
 base_edits t job =
     writable_if job.made_writable.file (file_below t job.target)
     ++ writable_if job.made_writable.base job.target
@@ -397,16 +398,16 @@ up_to top [] = []
 up_to top (id ∷ ids) = if id == top then [] else id ∷ up_to top ids
 
 -- It reads one of the nodes that the commit writes, or may leave without their disks, and not through the top.
-abbrev pub reads_one_of : Table → ℕ → List ℕ → NodeRecord → Bool
+abbrev pub reads_one_of : RunTable → ℕ → List ℕ → NodeRecord → Bool
 reads_one_of t top nodes row =
-    list_any (λ id. has_id id nodes) (up_to top (chain t (disk_node t row.id)))
+    list_any (λ id. is_listed id nodes) (up_to top (chain t (disk_node t row.id)))
 
 -- the base, and the nodes strictly between it and the top
 abbrev pub under_top : JobRecord → List ℕ
 under_top job = drop 1 job.held
 
 -- what has no flat disk from then on
-abbrev pub commit_unsettles : Table → JobRecord → List Change
+abbrev pub commit_unsettles : RunTable → JobRecord → List Change
 commit_unsettles t job =
     map (λ row. Unsettle row.id) (filter (reads_one_of t job.source (under_top job)) t.nodes)
 
@@ -419,13 +420,13 @@ commit_uses job =
     map (λ id. UseNode job.slot (if is_base job.target id then CommitBase else CommitBetween) id)
     (under_top job)
 
-abbrev pub commit_job : Table → CommitCommand (List ℕ) → JobRecord
+abbrev pub commit_job : RunTable → CommitCommand (List ℕ) → JobRecord
 commit_job t c =
     let job : JobRecord = new_job t None c.job_id job_kind.Commit (commit_nodes c) in
     filtered_job t
     (record job { made_writable = to_be_written t job.target; backing_file = c.backing_file })
 
-abbrev pub commit_edits : Table → CommitCommand (List ℕ) → List Change
+abbrev pub commit_edits : RunTable → CommitCommand (List ℕ) → List Change
 commit_edits t c =
     let job : JobRecord = commit_job t c in
     file_used t job.target ++ commit_unsettles t job ++ base_edits t job
@@ -434,7 +435,7 @@ commit_edits t c =
 
 -- ---- blockdev-mirror and blockdev-backup: the target has no flat disk from then on
 
-abbrev pub target_edits : Table → Option ℕ → List Change
+abbrev pub target_edits : RunTable → Option ℕ → List Change
 target_edits t None = []
 target_edits t (Some target) = file_used t (Some target) ++ Unsettle target ∷ []
 
@@ -442,31 +443,31 @@ abbrev pub uses_target : JobRecord → Option ℕ → List Change
 uses_target job None = []
 uses_target job (Some target) = UseNode job.slot CopyTarget target ∷ []
 
-abbrev pub copy_edits : Table → Kind → JobRecord → List Change
+abbrev pub copy_edits : RunTable → Kind → JobRecord → List Change
 copy_edits t driver job =
     target_edits t job.target ++ filter_edits t driver job ++ StartJob job
     ∷ uses_target job job.target
 
-abbrev pub mirror_job : Table → Mirror (List ℕ) → JobRecord
+abbrev pub mirror_job : RunTable → Mirror (List ℕ) → JobRecord
 mirror_job t c = filtered_job t (new_job t None c.job_id job_kind.Mirror (Copy c.device c.target))
 
-abbrev pub mirror_edits : Table → Mirror (List ℕ) → List Change
+abbrev pub mirror_edits : RunTable → Mirror (List ℕ) → List Change
 mirror_edits t c = copy_edits t kind.Mirror (mirror_job t c)
 
-abbrev pub used_bitmap : Table → Backup (List ℕ) → List ℕ → UsedBitmap
+abbrev pub used_bitmap : RunTable → Backup (List ℕ) → List ℕ → UsedBitmap
 used_bitmap t c name = record {
   name = name;
   mode = unwrap_or c.bitmap_mode OnSuccess;
   onto_settled = is_settled t (id_or 0 t (Some c.target));
 }
 
-abbrev pub backup_job : Table → Option ℕ → Backup (List ℕ) → JobRecord
+abbrev pub backup_job : RunTable → Option ℕ → Backup (List ℕ) → JobRecord
 backup_job t group c =
     record (filtered_job t (new_job t group c.job_id job_kind.Backup (Copy c.device c.target))) {
       bitmap = option_map (used_bitmap t c) c.bitmap;
     }
 
-abbrev pub backup_edits : Table → Option ℕ → Backup (List ℕ) → List Change
+abbrev pub backup_edits : RunTable → Option ℕ → Backup (List ℕ) → List Change
 backup_edits t group c = copy_edits t kind.BeforeWrite (backup_job t group c)
 
 -- ---- block-job-cancel and block-job-complete
@@ -480,7 +481,7 @@ abbrev pub asked_by_cancel : Bool → JobRecord → Asked
 asked_by_cancel force job =
     if leaves_copy force job.is_ready job.kind then asked.Leave else asked.Stop
 
-abbrev pub ask_edits : Table → List ℕ → (JobRecord → Asked) → List Change
+abbrev pub ask_edits : RunTable → List ℕ → (JobRecord → Asked) → List Change
 ask_edits t id ask =
     elim (job_named t id) as (λ _. List Change) [
       | None ↦ []
@@ -488,17 +489,17 @@ ask_edits t id ask =
           ∷ []
     ]
 
-abbrev pub cancel_edits : Table → List ℕ → Option Bool → List Change
+abbrev pub cancel_edits : RunTable → List ℕ → Option Bool → List Change
 cancel_edits t id force = ask_edits t id (asked_by_cancel (flag_or_false force))
 
-abbrev pub complete_edits : Table → List ℕ → List Change
+abbrev pub complete_edits : RunTable → List ℕ → List Change
 complete_edits t id = ask_edits t id (λ job. asked.Complete)
 
 -- ---- commands and actions
 
 -- What a command makes of the table once it is accepted. A transaction's actions are judged one by one and have their
 -- changes there.
-unfoldable pub edits_of : Table → Told → Cmd → List Change
+unfoldable pub edits_of : RunTable → Told → Cmd → List Change
 edits_of t told (command.Capabilities enable) = Negotiate ∷ []
 edits_of t told (command.BlockdevCreate c) = create_edits t c
 edits_of t told (command.JobDismiss id) = DropId id ∷ []
@@ -522,7 +523,7 @@ edits_of t told (command.BitmapMerge c) = merge_edits t c
 edits_of t told _ = []
 
 -- an action's, of a transaction whose jobs have this group
-unfoldable pub action_edits : Table → Option ℕ → Act → List Change
+unfoldable pub action_edits : RunTable → Option ℕ → Act → List Change
 action_edits t group (action.Snapshot c) = snapshot_edits t c
 action_edits t group (action.Backup c) = backup_edits t group c
 action_edits t group (action.BitmapAdd c) = bitmap_add_edits t c

@@ -4,16 +4,16 @@ use Rattle.blk_graph.specs.Edits.{IsLone}
 use Rattle.qmp_rules.specs.declared.change.Change.{Change}
 use Rattle.qmp_rules.specs.declared.change.Change.TheVariants.{AddDevice, UseNode, PutFilter}
 use Rattle.qmp_rules.specs.Changes.{changed}
-use Rattle.qmp_rules.specs.Table.{Table}
+use Rattle.qmp_rules.specs.Table.{RunTable}
 
-abbrev pub ChangeFits : Table → Change → Type 0
+abbrev pub ChangeFits : RunTable → Change → Type 0
 ChangeFits t (AddDevice device node) = device.number < 80
 ChangeFits t (UseNode slot what node) = slot < 16
 ChangeFits t (PutFilter row node) = IsLone t.edges row.id
 ChangeFits t _ = Unit {0}
 
 -- each in the table as the ones before it leave it
-abbrev pub AllChangesFit : Table → List Change → Type 0
+abbrev pub AllChangesFit : RunTable → List Change → Type 0
 AllChangesFit t [] = Unit {0}
 AllChangesFit t (change ∷ changes) = ChangeFits t change × AllChangesFit (changed t change) changes
 

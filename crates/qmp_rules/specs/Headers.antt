@@ -8,7 +8,7 @@ use Rattle.qmp_codec.specs.declared.words.ImageFormat.{ImageFormat}
 use Rattle.qmp_codec.specs.declared.words.ImageFormat.TheVariants as format
 use Rattle.qmp_rules.specs.declared.rows.JobRecord.{JobRecord}
 use Rattle.qmp_rules.specs.declared.rows.NodeRecord.{NodeRecord}
-use Rattle.qmp_rules.specs.Table.{Table, node_at}
+use Rattle.qmp_rules.specs.Table.{RunTable, node_by_id}
 use Rattle.qmp_rules.specs.Edits.{file_under}
 
 -- a backing name, and the format of what it names
@@ -22,7 +22,7 @@ format_of kind.Qcow2 = format.Qcow2
 format_of driver = format.Raw
 
 -- the name that the command gave, or else the base's file
-abbrev pub named_for : Table → JobRecord → NodeRecord → BackingName
+abbrev pub named_for : RunTable → JobRecord → NodeRecord → BackingName
 named_for t row base = record {
   name = unwrap_or row.backing_file (unwrap_or (file_under t base) []);
   fmt = format_of base.kind;
@@ -34,12 +34,12 @@ abbrev pub first_of : List ℕ → Option ℕ
 first_of [] = None
 first_of (id ∷ ids) = Some id
 
-abbrev pub renamed : JobRecord → JobKind → Option ℕ
-renamed row job_kind.Stream = Some row.source
-renamed row job_kind.Commit = first_of row.read
-renamed row what = None
+abbrev pub renamed_node : JobRecord → JobKind → Option ℕ
+renamed_node row job_kind.Stream = Some row.source
+renamed_node row job_kind.Commit = first_of row.read
+renamed_node row what = None
 
 -- What that header says after an end without error: the base, or no backing file where there is no base. No other event
 -- changes the backing name of a node.
-abbrev pub new_backing : Table → JobRecord → Option BackingName
-new_backing t row = option_map (named_for t row) (option_and_then (node_at t) row.target)
+abbrev pub new_backing : RunTable → JobRecord → Option BackingName
+new_backing t row = option_map (named_for t row) (option_and_then (node_by_id t) row.target)

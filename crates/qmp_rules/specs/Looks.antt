@@ -21,7 +21,7 @@ use Rattle.qmp_asks.specs.declared.look.Look.{Look}
 use Rattle.qmp_asks.specs.declared.look.Look.TheVariants as look
 use Rattle.qmp_rules.specs.declared.told.Stopped.{Stopped}
 use Rattle.qmp_rules.specs.declared.told.Told.{Told}
-use Rattle.qmp_rules.specs.Table.{Table, node_named, file_state, first_into}
+use Rattle.qmp_rules.specs.Table.{RunTable, node_named, file_state, first_into}
 use Rattle.qmp_rules.specs.Refusals.{refused}
 use Rattle.qmp_rules.specs.Asks.{if_there, file_node, stands_for, is_lost}
 use Rattle.qmp_asks.specs.NodeAsks.{backing_name}
@@ -44,8 +44,8 @@ abbrev pub stop_at : Look → Option Refusal → Option Stopped → Option Stopp
 stop_at what None later = later
 stop_at what (Some cause) later = Some (record { look = what; refusal = cause })
 
-abbrev pub told_as : Option ℕ → Option ℕ → Option Stopped → Told
-told_as length size stopped = record {
+abbrev pub told_record : Option ℕ → Option ℕ → Option Stopped → Told
+told_record length size stopped = record {
   length = length;
   size = size;
   stopped = stopped;
@@ -58,11 +58,11 @@ told_as length size stopped = record {
 abbrev pub too_long : List ℕ → Bool → Option Refusal
 too_long filename is_long = refused is_long (refusal.File filename TooLong)
 
-abbrev pub absent : List ℕ → Option Stopped
-absent filename = stop_at look.File (Some (refusal.File filename Absent)) None
+abbrev pub absent_file : List ℕ → Option Stopped
+absent_file filename = stop_at look.File (Some (refusal.File filename Absent)) None
 
 -- the file is not opened: a node stands for it, or its bytes are not known any more
-abbrev pub is_unopened : Table → List ℕ → Bool
+abbrev pub is_unopened : RunTable → List ℕ → Bool
 is_unopened t filename =
     list_any (stands_for filename) t.nodes || is_lost false (file_state t filename)
 
@@ -83,8 +83,8 @@ raw_stop filename raw length =
 
 -- the image is refused, names a backing file and no member says what to do with that, or has another size than its
 -- backing node
-abbrev pub image_stop : Table → List ℕ → AddQcow2 (List ℕ) → ImageSight → Option Stopped
-image_stop t name c image =
+abbrev pub unfit_image : RunTable → List ℕ → AddQcow2 (List ℕ) → ImageSight → Option Stopped
+unfit_image t name c image =
     stop_at look.Image (option_map refusal.Image image.stop)
     (stop_at look.Backing
     (refused (image.names_backing && is_none c.backing) (refusal.BackingNeeded name))
@@ -101,63 +101,64 @@ first_stop (Some stopped) later = Some stopped
 -- ---- what a command is told of the file that it opens
 
 abbrev pub told_if_there : List ℕ → (ℕ → ImageSight → Told) → Option FileSight → Told
-told_if_there filename tell None = told_as None None (absent filename)
+told_if_there filename tell None = told_record None None (absent_file filename)
 told_if_there filename tell (Some file) = tell file.length file.image
 
 -- a file that is not opened tells nothing
-abbrev pub told_of_file : Table → List ℕ → (ℕ → ImageSight → Told) → Option FileSight → Told
+abbrev pub told_of_file : RunTable → List ℕ → (ℕ → ImageSight → Told) → Option FileSight → Told
 told_of_file t filename tell sight =
-    if is_unopened t filename then told_as None None None else told_if_there filename tell sight
+    if is_unopened t filename then told_record None None None else told_if_there filename tell sight
 
 abbrev pub file_told : List ℕ → ℕ → ImageSight → Told
-file_told filename length image = told_as (Some length) None (file_stop filename length)
+file_told filename length image = told_record (Some length) None (file_stop filename length)
 
 abbrev pub raw_told : List ℕ → AddRaw (List ℕ) → ℕ → ImageSight → Told
-raw_told filename raw length image = told_as (Some length) None (raw_stop filename raw length)
+raw_told filename raw length image = told_record (Some length) None (raw_stop filename raw length)
 
-abbrev pub qcow2_told : Table → List ℕ → List ℕ → AddQcow2 (List ℕ) → ℕ → ImageSight → Told
+abbrev pub qcow2_told : RunTable → List ℕ → List ℕ → AddQcow2 (List ℕ) → ℕ → ImageSight → Told
 qcow2_told t name filename c length image =
-    told_as (Some length) (Some image.size)
-    (first_stop (file_stop filename length) (image_stop t name c image))
+    told_record (Some length) (Some image.size)
+    (first_stop (file_stop filename length) (unfit_image t name c image))
 
 -- where the file node has a parent, its image is not opened
-abbrev pub is_free_file : Table → List ℕ → Bool
+abbrev pub is_free_file : RunTable → List ℕ → Bool
 is_free_file t file = elim (file_node t file) as (λ _. Bool) [
   | None ↦ false
   | Some row ↦ is_none (first_into row.id t.edges)
 ]
 
-abbrev pub image_told : Table → List ℕ → List ℕ → AddQcow2 (List ℕ) → Option FileSight → Told
-image_told t name file c None = told_as None None None
+abbrev pub image_told : RunTable → List ℕ → List ℕ → AddQcow2 (List ℕ) → Option FileSight → Told
+image_told t name file c None = told_record None None None
 image_told t name file c (Some sight) =
     if is_free_file t file
-    then told_as None (Some sight.image.size) (image_stop t name c sight.image)
-    else told_as None None None
+    then told_record None (Some sight.image.size) (unfit_image t name c sight.image)
+    else told_record None None None
 
 -- of the file that a `blockdev-add` opens, or under the file node that it names
-abbrev pub raw_told_of : Table → AddRaw (List ℕ) → FileRef (List ℕ) → Option FileSight → Told
-raw_told_of t raw (file_ref.Name file) sight = told_as None None None
+abbrev pub raw_told_of : RunTable → AddRaw (List ℕ) → FileRef (List ℕ) → Option FileSight → Told
+raw_told_of t raw (file_ref.Name file) sight = told_record None None None
 raw_told_of t raw (file_ref.Inline file) sight =
     told_of_file t file.filename (raw_told file.filename raw) sight
 
-abbrev pub qcow2_told_of : Table → List ℕ → AddQcow2 (List ℕ) → FileRef (List ℕ) → Option FileSight
+abbrev pub qcow2_told_of : RunTable → List ℕ → AddQcow2 (List ℕ) → FileRef (List ℕ)
+    → Option FileSight
     → Told
 qcow2_told_of t name c (file_ref.Name file) sight = image_told t name file c sight
 qcow2_told_of t name c (file_ref.Inline file) sight =
     told_of_file t file.filename (qcow2_told t name file.filename c) sight
 
-unfoldable pub add_told : Table → BlockdevAdd (List ℕ) → Option FileSight → Told
+unfoldable pub add_told : RunTable → BlockdevAdd (List ℕ) → Option FileSight → Told
 add_told t c sight = elim c.driver as (λ _. Told) [
   | added.File filename ↦ told_of_file t filename (file_told filename) sight
   | added.Raw raw ↦ raw_told_of t raw raw.file sight
   | added.Qcow2 image ↦ qcow2_told_of t c.node_name image image.file sight
-  | _ ↦ told_as None None None
+  | _ ↦ told_record None None None
 ]
 
 -- ---- what a creation is told of the store's room
 
 unfoldable pub create_told : Created (List ℕ) → ℕ → Told
 create_told (created.File c) room =
-    told_as None None
+    told_record None None
     (stop_at look.File (too_long c.filename (nat_lt room (amount_or 0 (Some c.size)))) None)
-create_told _ room = told_as None None None
+create_told _ room = told_record None None None

@@ -6,7 +6,7 @@ use Rattle.qmp_asks.specs.Asking.{Asking, look_place, place}
 use Rattle.qmp_rules.specs.declared.refusal.Refusal.{Refusal}
 use Rattle.qmp_rules.specs.declared.told.Stopped.{Stopped}
 use Rattle.qmp_rules.specs.declared.told.Told.{Told}
-use Rattle.qmp_rules.specs.Table.{Table}
+use Rattle.qmp_rules.specs.Table.{RunTable}
 use Rattle.qmp_rules.specs.Refusals.{place_of}
 use Rattle.qmp_rules.specs.Asks.{holds}
 
@@ -15,7 +15,7 @@ abbrev pub IsOfTable : Asking → Type 0
 IsOfTable (ask.Files what) = ⊥
 IsOfTable asking = Unit {0}
 
-abbrev pub HasPlace : Table → Told → Asking → Type 0
+abbrev pub HasPlace : RunTable → Told → Asking → Type 0
 HasPlace t told asking =
     IsOfTable asking → (cause : Refusal) → holds t told asking ≡ Some cause
     → place_of cause ≡ Some (place asking)

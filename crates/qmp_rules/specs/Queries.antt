@@ -7,7 +7,7 @@ use Rattle.qmp_codec.specs.Events.{kind_text}
 use Rattle.qmp_rules.specs.declared.rows.NodeRecord.{NodeRecord}
 use Rattle.qmp_rules.specs.declared.rows.JobRecord.{JobRecord}
 use Rattle.qmp_rules.specs.declared.rows.BitmapRow.{BitmapRow}
-use Rattle.qmp_rules.specs.Table.{Table, node_at}
+use Rattle.qmp_rules.specs.Table.{RunTable, node_by_id}
 use Rattle.qmp_rules.specs.Chains.{disk_node}
 
 abbrev pub amount_data : ℕ → Data
@@ -15,15 +15,15 @@ amount_data n = number (unsigned n)
 
 -- ---- query-block-jobs, in order of start
 
-abbrev pub bytes_of_node : Table → ℕ → ℕ
-bytes_of_node t id = unwrap_or (option_map (λ row. row.size) (node_at t id)) 0
+abbrev pub bytes_of_node : RunTable → ℕ → ℕ
+bytes_of_node t id = unwrap_or (option_map (λ row. row.size) (node_by_id t id)) 0
 
-abbrev pub status_text : Bool → List ℕ
-status_text false = codes "running"
-status_text true = codes "ready"
+abbrev pub job_status_text : Bool → List ℕ
+job_status_text false = codes "running"
+job_status_text true = codes "ready"
 
-abbrev pub job_data : Table → JobRecord → Data
-job_data t job =
+abbrev pub block_job_data : RunTable → JobRecord → Data
+block_job_data t job =
     object (member (codes "auto-dismiss") (boolean true)
     (member (codes "auto-finalize") (boolean true)
     (member (codes "busy") (boolean false)
@@ -34,15 +34,15 @@ job_data t job =
     (member (codes "paused") (boolean false)
     (member (codes "ready") (boolean job.is_ready)
     (member (codes "speed") (amount_data 0)
-    (member (codes "status") (string (status_text job.is_ready))
+    (member (codes "status") (string (job_status_text job.is_ready))
     (member (codes "type") (string (kind_text job.kind))
     no_members))))))))))))
 
-abbrev pub jobs_items : Table → List JobRecord → Items
+abbrev pub jobs_items : RunTable → List JobRecord → Items
 jobs_items t [] = no_items
-jobs_items t (job ∷ jobs) = item (job_data t job) (jobs_items t jobs)
+jobs_items t (job ∷ jobs) = item (block_job_data t job) (jobs_items t jobs)
 
-unfoldable pub jobs_data : Table → Data
+unfoldable pub jobs_data : RunTable → Data
 jobs_data t = array (jobs_items t t.jobs)
 
 -- ---- query-named-block-nodes, in order of addition
@@ -80,14 +80,14 @@ is_job_filter kind.Mirror = true
 is_job_filter kind.Commit = true
 is_job_filter _ = false
 
-abbrev pub shown_read_only : Table → NodeRecord → Bool
+abbrev pub shown_read_only : RunTable → NodeRecord → Bool
 shown_read_only t row =
     if is_job_filter row.kind
-    then unwrap_or (option_map (λ below. below.read_only) (node_at t (disk_node t row.id)))
+    then unwrap_or (option_map (λ below. below.read_only) (node_by_id t (disk_node t row.id)))
     row.read_only
     else row.read_only
 
-abbrev pub node_data : Table → List ℕ → NodeRecord → Data
+abbrev pub node_data : RunTable → List ℕ → NodeRecord → Data
 node_data t counts row =
     object (member (codes "dirty-bitmaps") (array (bitmap_items row.id t.bitmaps counts))
     (member (codes "drv") (string (driver_text row.kind))
@@ -96,9 +96,9 @@ node_data t counts row =
     (member (codes "size") (amount_data row.size)
     no_members)))))
 
-abbrev pub nodes_items : Table → List ℕ → List NodeRecord → Items
+abbrev pub nodes_items : RunTable → List ℕ → List NodeRecord → Items
 nodes_items t counts [] = no_items
 nodes_items t counts (row ∷ rows) = item (node_data t counts row) (nodes_items t counts rows)
 
-unfoldable pub nodes_data : Table → List ℕ → Data
+unfoldable pub nodes_data : RunTable → List ℕ → Data
 nodes_data t counts = array (nodes_items t counts t.nodes)

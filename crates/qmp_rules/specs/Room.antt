@@ -1,6 +1,6 @@
 -- A table with the room that it has for more.
 use Rattle.std.specs.Prelude.{ℕ, ◌+◌, ◌^◌, ◌<◌, ◌≤◌}
-use Rattle.qmp_rules.specs.Table.{Table}
+use Rattle.qmp_rules.specs.Table.{RunTable}
 
 -- how many rows more there is memory for, of each kind
 pub record Spare : Type 0 where
@@ -12,7 +12,7 @@ pub record Spare : Type 0 where
   pub kept : ℕ
 
 pub record Roomy : Type 0 where
-  pub table : Table
+  pub table : RunTable
   pub spare : Spare
 
 -- So many changes can be made without taking memory: each adds a row of a kind at most. Numbers of jobs have 32 bits, and

@@ -2,8 +2,8 @@
 ghost use Rattle.std.specs.Prelude.{◌≡◌, ◌++◌, ◌∷◌, [], IfOk, OnOk, option_and_then, option_map, string_bytes, unwrap_or};
 ghost use Rattle.qmp_rules.specs.Table.{id_named};
 ghost use Rattle.qmp_codec.specs.Nodes.{seen_add_qcow2, seen_add_raw, seen_blockdev_add, seen_inline_file};
-ghost use Rattle.qmp_rules.specs.Answers.{untold};
-ghost use Rattle.qmp_rules.specs.Edits.{add_edits, added_edits, free_id, goes_with, image_row, inline_row, next_free_id, qcow2_edits, raw_edits, raw_row};
+ghost use Rattle.qmp_rules.specs.Answers.{told_none};
+ghost use Rattle.qmp_rules.specs.Edits.{add_edits, added_edits, free_id, goes_with, image_row, inline_row, next_free_id, qcow2_edits, raw_edits, raw_record};
 ghost use Rattle.qmp_asks.specs.NodeAsks.{backing_name};
 ghost use Rattle.qmp_asks.specs.Seen.{seen_text};
 
@@ -64,7 +64,7 @@ fn raw_row(
     raw: &AddRaw,
 ) -> Result<NodeRecord, NoMemory>
     ensures { IfOk result
-        (λ row. row ≡ raw_row id name.now length read_only (seen_add_raw raw.now)) }
+        (λ row. row ≡ raw_record id name.now length read_only (seen_add_raw raw.now)) }
 {
     let size = part_size(raw.offset, raw.size, length);
     let name = Name::copied(alloc, name)?;
@@ -170,7 +170,7 @@ impl Names {
         file: &str,
     ) -> Result<(), NoMemory>
         ensures { OnOk result (edits.new.items ≡ edits.old.items
-            ++ raw_edits self.now.table untold name.now read_only (seen_add_raw raw.now)
+            ++ raw_edits self.now.table told_none name.now read_only (seen_add_raw raw.now)
             (FileRef.Name file.now)) }
     {
         let id = self.free_id(alloc)?;
@@ -311,7 +311,8 @@ impl Names {
         file: &str,
     ) -> Result<(), NoMemory>
         ensures { OnOk result (edits.new.items ≡ edits.old.items
-            ++ added_edits self.now.table untold name.now read_only (Added.CopyOnRead file.now)) }
+            ++ added_edits self.now.table told_none name.now read_only
+            (Added.CopyOnRead file.now)) }
     {
         let (id, size) = (self.free_id(alloc)?, self.size_of(file));
         let name = Name::copied(alloc, name)?;

@@ -1,7 +1,7 @@
 //! What each kind of change makes of the table. No memory is taken.
 ghost use Rattle.std.specs.Prelude.{◌≡◌, ◌<◌, ℕ, List, Option, length};
 ghost use Rattle.qmp_codec.specs.declared.words.ImageFormat.{ImageFormat};
-ghost use Rattle.qmp_rules.specs.Changes.{all_changed, backed, changed};
+ghost use Rattle.qmp_rules.specs.Changes.{all_changed, with_backing_edge, changed};
 ghost use Rattle.blk_graph.specs.Edits.{IsLone};
 ghost use Rattle.qmp_rules.specs.Fitting.{AllChangesFit, ChangeFits};
 ghost use Rattle.qmp_rules.specs.Room.{HasRoomForChanges, TakesLittle};
@@ -27,7 +27,7 @@ impl Names {
     /// Puts the edge to a backing node, where there is one.
     fn put_backing(&mut self, id: NodeId, backing: Option<NodeId>)
         ensures table { self.new.table
-            ≡ record self.old.table { edges = backed id backing self.old.table.edges } }
+            ≡ record self.old.table { edges = with_backing_edge id backing self.old.table.edges } }
         ensures spare { self.new.spare ≡ self.old.spare }
     {
         prove!(id.index() < MOST_NODES);

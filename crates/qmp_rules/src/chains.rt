@@ -1,7 +1,7 @@
 //! What a node reads through, and the chain of backing nodes below it.
 ghost use Rattle.std.specs.Prelude.{◌≡◌, ◌++◌, IfOk, OnOk, option_map};
 ghost use Rattle.std.specs.Option.{option_copied};
-ghost use Rattle.qmp_rules.specs.Chains.{backing, below, chain, disk_node, filter_role, filtered, is_settled};
+ghost use Rattle.qmp_rules.specs.Chains.{backing, chain_below, chain, disk_node, filter_role, filtered, is_settled};
 
 use crate::table::Names;
 use blk_base::NoMemory;
@@ -67,7 +67,7 @@ impl Names {
     /// Puts the backing nodes below a node behind the ids that are there, from the top down.
     #[tactic(auto, using(crate::proofs::ChainLemmas::below_none, crate::proofs::ChainLemmas::below_end))]
     pub(crate) fn put_below(&self, ids: &mut Vec<NodeId>, id: NodeId) -> Result<(), NoMemory>
-        ensures { OnOk result (ids.new.items ≡ ids.old.items ++ below self.now.table id) }
+        ensures { OnOk result (ids.new.items ≡ ids.old.items ++ chain_below self.now.table id) }
     {
         let mut node = id;
         for _ in 0..64u32 {
@@ -83,7 +83,7 @@ impl Names {
     }
 
     pub(crate) fn below(&self, alloc: Global, id: NodeId) -> Result<Vec<NodeId>, NoMemory>
-        ensures { IfOk result (λ ids. ids.items ≡ below self.now.table id) }
+        ensures { IfOk result (λ ids. ids.items ≡ chain_below self.now.table id) }
     {
         let mut ids = Vec::new(alloc);
         self.put_below(&mut ids, id)?;

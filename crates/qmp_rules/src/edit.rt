@@ -1,7 +1,7 @@
 //! The edits of lists of rows, each made in place.
 ghost use Rattle.std.specs.Prelude.{◌≡◌, ◌<◌, ◌≤◌, ◌+◌, [], Some, map, length, vec_capacity, vec_len};
-ghost use Rattle.qmp_rules.specs.Changes.{asked_for, bitmap_changed, bitmaps_but_of, followed, lost_with, node_changed, stands_over, turned, unsettled, with_turned, with_unsettled, with_writable, without_bitmap, without_device, without_name, without_row, writable};
-ghost use Rattle.qmp_rules.specs.Table.{has_file, in_state, kind_in, kinds_of, with_file};
+ghost use Rattle.qmp_rules.specs.Changes.{asked_for, bitmap_changed, bitmaps_but_of, followed, lost_with, node_changed, stands_over, with_recording, unsettled, with_turned, with_unsettled, with_writable, without_bitmap, without_device, without_name, without_record, writable};
+ghost use Rattle.qmp_rules.specs.Table.{has_file, row_in_state, kind_of_record, kinds_of, with_file};
 
 use crate::find;
 use crate::rows::{Asked, BitmapRow, Device, FileRow, FileState, JobRecord, NodeRecord};
@@ -73,7 +73,7 @@ pub(crate) fn make_writable(rows: &mut Vec<NodeRecord>, id: NodeId)
 }
 
 pub(crate) fn drop_node(rows: &mut Vec<NodeRecord>, id: NodeId)
-    ensures items { rows.new.items ≡ without_row id rows.old.items }
+    ensures items { rows.new.items ≡ without_record id rows.old.items }
     ensures count { vec_len rows.new ≤ vec_len rows.old }
     ensures capacity { vec_capacity rows.new ≡ vec_capacity rows.old }
 {
@@ -81,7 +81,7 @@ pub(crate) fn drop_node(rows: &mut Vec<NodeRecord>, id: NodeId)
 }
 
 fn kind_in(row: &NodeRecord) -> NodeKind
-    ensures { result ≡ kind_in row.now }
+    ensures { result ≡ kind_of_record row.now }
 {
     NodeKind {
         kind: row.kind,
@@ -116,7 +116,7 @@ pub(crate) fn drop_device(rows: &mut Vec<Device>, number: u32)
 }
 
 fn turn_one(row: &mut BitmapRow, node: NodeId, name: &str, on: bool)
-    ensures { row.new ≡ bitmap_changed node name.now (turned on) row.old }
+    ensures { row.new ≡ bitmap_changed node name.now (with_recording on) row.old }
 {
     if find::is_bitmap(row, node, name) {
         row.enabled = on;
@@ -207,7 +207,7 @@ pub(crate) fn ask_job(rows: &mut Vec<JobRecord>, number: u32, asked: Asked)
 }
 
 fn set_one(row: &mut FileRow, name: &str, state: FileState)
-    ensures { row.new ≡ in_state name.now state row.old }
+    ensures { row.new ≡ row_in_state name.now state row.old }
 {
     if row.name.as_str() == name {
         row.state = state;
@@ -215,7 +215,7 @@ fn set_one(row: &mut FileRow, name: &str, state: FileState)
 }
 
 fn set_there(rows: &mut Vec<FileRow>, name: &str, state: FileState)
-    ensures items { rows.new.items ≡ map (in_state name.now state) rows.old.items }
+    ensures items { rows.new.items ≡ map (row_in_state name.now state) rows.old.items }
     ensures count { vec_len rows.new ≡ vec_len rows.old }
     ensures capacity { vec_capacity rows.new ≡ vec_capacity rows.old }
 {

@@ -6,7 +6,7 @@ ghost use Rattle.std.specs.Option.{option_copied};
 ghost use Rattle.qmp_codec.specs.Commands.{seen_command};
 ghost use Rattle.qmp_codec.specs.Nodes.{seen_blockdev_create, seen_created, seen_device_add, seen_snapshot};
 ghost use Rattle.qmp_asks.specs.CommandAsks.{is_built};
-ghost use Rattle.qmp_rules.specs.Edits.{create_edits, created_change, del_edits, device_add_edits, device_del_edits, device_number, device_uses, edits_of, file_of_node, file_row, file_under, format_row, free_id, goes_with_node, ids, length_told, name_of_file_at, new_device, place_from, row_gone, size_of, snapshot_edits, spoiled, unused_from, uses, with_inline};
+ghost use Rattle.qmp_rules.specs.Edits.{create_edits, created_change, del_edits, device_add_edits, device_del_edits, device_number, device_uses, edits_of, file_of_node, file_row, file_under, format_row, free_id, goes_with_node, node_ids, length_told, name_of_file_at, new_device, place_from, row_gone, size_by_name, snapshot_edits, spoiled, unused_from, file_uses, with_inline};
 ghost use Rattle.qmp_asks.specs.Seen.{seen_text};
 
 use crate::change::Change;
@@ -158,7 +158,8 @@ pub(crate) fn put(edits: &mut Vec<Change>, edit: Change) -> Result<(), NoMemory>
 
 /// That a file is used, where one is named.
 fn put_uses(alloc: Global, edits: &mut Vec<Change>, filename: Option<&str>) -> Result<(), NoMemory>
-    ensures { OnOk result (edits.new.items ≡ edits.old.items ++ uses (seen_text filename.entry)) }
+    ensures { OnOk result (edits.new.items ≡ edits.old.items
+        ++ file_uses (seen_text filename.entry)) }
 {
     match filename {
         Some(filename) => put(edits, Change::UseFile(Name::copied(alloc, filename)?)),
@@ -189,7 +190,7 @@ fn put_device_uses(alloc: Global, edits: &mut Vec<Change>, row: &NodeRecord) -> 
 impl Names {
     /// The ids of the nodes, in the order of their making.
     pub(crate) fn ids(&self, alloc: Global) -> Result<Vec<NodeId>, NoMemory>
-        ensures { IfOk result (λ v. v.items ≡ ids self.now.table) }
+        ensures { IfOk result (λ v. v.items ≡ node_ids self.now.table) }
     {
         let mut v = Vec::with_capacity(alloc, self.nodes().len())?;
         for row in self.nodes() {
@@ -225,7 +226,7 @@ impl Names {
     }
 
     pub(crate) fn size_of(&self, name: &str) -> u64
-        ensures { result ≡ size_of self.now.table name.now }
+        ensures { result ≡ size_by_name self.now.table name.now }
     {
         match self.node_named(name) {
             Some(row) => row.size,

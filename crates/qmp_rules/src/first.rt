@@ -1,6 +1,6 @@
 //! The first ask of a list that is not met.
 ghost use Rattle.std.specs.Prelude.{◌≡◌, IfOk};
-ghost use Rattle.qmp_rules.specs.Asks.{first, holds};
+ghost use Rattle.qmp_rules.specs.Asks.{first_unmet_ask, holds};
 ghost use Rattle.qmp_asks.specs.Seen.{seen_ask, seen_asks};
 
 use crate::refusal::{FileFault, Refusal};
@@ -73,7 +73,7 @@ impl Names {
     #[tactic(auto, using(crate::proofs::FirstLemmas::first_met, crate::proofs::FirstLemmas::first_unmet, crate::proofs::FirstLemmas::first_end))]
     pub(crate) fn first_unmet(&self, alloc: Global, told: &Told, asks: &[Ask<&str>]) -> Found
         ensures { IfOk result
-            (λ found. found ≡ first self.now.table told.now (seen_asks asks.now)) }
+            (λ found. found ≡ first_unmet_ask self.now.table told.now (seen_asks asks.now)) }
     {
         for ask in asks {
             match self.unmet(alloc, told, ask)? {

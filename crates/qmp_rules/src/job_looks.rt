@@ -2,11 +2,11 @@
 ghost use Rattle.std.specs.Prelude.{◌≡◌, ◌==◌, ◌&&◌, ℕ, List, Option, ◌++◌, ◌∷◌, [], not, if◌then◌else◌, IfOk, OnOk, option_and_then};
 ghost use Rattle.blk_graph.specs.Edges.{same_role};
 ghost use Rattle.std.specs.Option.{option_copied};
-ghost use Rattle.qmp_rules.specs.Asks.{base_of, clash, first_clash, first_reached, held_nodes, id_or, if_there, in_the_way, is_mirror, looked_at, mirrored, named_ids, not_below, not_in_chain, read_nodes, second_into, sizes, top_of};
-ghost use Rattle.qmp_rules.specs.Chains.{below, chain, down_to, has_id, is_overlay, lowest, overlay_edge, overlays, reaches};
+ghost use Rattle.qmp_rules.specs.Asks.{job_base, clash, first_clash, first_reached, held_nodes, id_or, if_there, in_the_way, is_mirror, looked_at, mirrored, named_ids, not_below, not_in_chain, read_nodes, second_into, sizes, top_of};
+ghost use Rattle.qmp_rules.specs.Chains.{chain_below, chain, down_to, is_listed, is_overlay, lowest_in_chain, overlay_edge, overlays, reaches};
 ghost use Rattle.qmp_rules.specs.Refusals.{refused};
 ghost use Rattle.qmp_asks.specs.Seen.{seen_nodes, seen_text};
-ghost use Rattle.qmp_rules.specs.Table.{name_at, node_at};
+ghost use Rattle.qmp_rules.specs.Table.{name_at, node_by_id};
 
 use crate::refusal::Refusal;
 use crate::refuse::{self, Found};
@@ -31,7 +31,7 @@ fn first_id() -> NodeId
 }
 
 pub(crate) fn has_id(ids: &[NodeId], id: NodeId) -> bool
-    ensures { result ≡ has_id id ids.now }
+    ensures { result ≡ is_listed id ids.now }
 {
     ids.iter().any(|other| *other == id)
 }
@@ -110,7 +110,7 @@ impl Names {
     /// The lowest node of a chain.
     #[tactic(auto, using(crate::proofs::ChainLemmas::lowest_none, crate::proofs::ChainLemmas::lowest_end))]
     fn lowest(&self, id: NodeId) -> NodeId
-        ensures { result ≡ lowest self.now.table id }
+        ensures { result ≡ lowest_in_chain self.now.table id }
     {
         let mut node = id;
         for _ in 0..64u32 {
@@ -134,7 +134,7 @@ impl Names {
 
     /// The target of a job, or its base.
     pub(crate) fn base_of(&self, nodes: &JobNodes<&str>) -> Option<NodeId>
-        ensures { result ≡ base_of self.now.table (seen_nodes nodes.now) }
+        ensures { result ≡ job_base self.now.table (seen_nodes nodes.now) }
     {
         match nodes {
             JobNodes::Stream { base: None, .. } => None,
@@ -187,7 +187,7 @@ impl Names {
     /// Puts those of a commit: from the top down to the base.
     fn put_committed(&self, ids: &mut Vec<NodeId>, nodes: &JobNodes<&str>) -> Result<(), NoMemory>
         ensures { OnOk result (ids.new.items ≡ ids.old.items
-            ++ down_to (base_of self.now.table (seen_nodes nodes.now))
+            ++ down_to (job_base self.now.table (seen_nodes nodes.now))
             (chain self.now.table (top_of self.now.table (seen_nodes nodes.now)))) }
     {
         let mut chain = self.chain(*ids.allocator(), self.top_of(nodes))?;
@@ -198,8 +198,8 @@ impl Names {
     /// Puts those below the top of a stream, down to its base.
     fn put_streamed(&self, ids: &mut Vec<NodeId>, nodes: &JobNodes<&str>) -> Result<(), NoMemory>
         ensures { OnOk result (ids.new.items ≡ ids.old.items
-            ++ down_to (base_of self.now.table (seen_nodes nodes.now))
-            (below self.now.table (top_of self.now.table (seen_nodes nodes.now)))) }
+            ++ down_to (job_base self.now.table (seen_nodes nodes.now))
+            (chain_below self.now.table (top_of self.now.table (seen_nodes nodes.now)))) }
     {
         let mut below = self.below(*ids.allocator(), self.top_of(nodes))?;
         cut_below(self.base_of(nodes), &mut below);
@@ -308,7 +308,7 @@ impl Names {
     /// Refuses a top that isn't the device of a commit, and not below it.
     fn not_under(&self, alloc: Global, device: NodeId, top: NodeId) -> Found
         ensures { IfOk result (λ found. found ≡ refused
-            (not (has_id top (chain self.now.table device)))
+            (not (is_listed top (chain self.now.table device)))
             (Refusal.NotInChain (name_at self.now.table top))) }
     {
         let chain = self.chain(alloc, device)?;
@@ -354,7 +354,7 @@ impl Names {
     }
 
     fn maybe_at(&self, id: Option<NodeId>) -> Option<&NodeRecord>
-        ensures { option_copied result ≡ option_and_then (node_at self.now.table) id }
+        ensures { option_copied result ≡ option_and_then (node_by_id self.now.table) id }
     {
         match id {
             Some(id) => self.node_at(id),

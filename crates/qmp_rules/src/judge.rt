@@ -3,8 +3,8 @@ ghost use Rattle.std.specs.Prelude.{◌≡◌, IfErr, IfOk, None, length, true};
 ghost use Rattle.std.specs.List.{list_all};
 ghost use Rattle.qmp_codec.specs.Commands.{seen_command};
 ghost use Rattle.qmp_codec.specs.Nodes.{seen_added, seen_created};
-ghost use Rattle.qmp_rules.specs.Answers.{conflict_after, conflict_in, conflict_refusal, is_joined, out_of_turn, refusal_behind, refusal_of, rewires, unbuilt, untold, command_edits};
-ghost use Rattle.qmp_rules.specs.Asks.{first};
+ghost use Rattle.qmp_rules.specs.Answers.{conflict_after, conflict_in, conflict_refusal, is_joined, out_of_turn, refusal_behind, refusal_to, rewires, unbuilt, told_none, command_edits};
+ghost use Rattle.qmp_rules.specs.Asks.{first_unmet_ask};
 ghost use Rattle.qmp_rules.specs.Changes.{all_changed};
 ghost use Rattle.qmp_asks.specs.CommandAsks.{asks_of, command_name, is_built, negotiates};
 ghost use Rattle.qmp_rules.specs.Edits.{edits_of, spoiled};
@@ -210,7 +210,7 @@ impl Names {
     fn edits_untold(&self, alloc: Global, command: &Command) -> Result<Vec<Change>, NoMemory>
         requires { is_built (seen_command command.now) ≡ true }
         ensures { IfOk result
-            (λ edits. edits.items ≡ edits_of self.now.table untold (seen_command command.now)) }
+            (λ edits. edits.items ≡ edits_of self.now.table told_none (seen_command command.now)) }
     {
         self.edits_of(alloc, &Told::nothing(alloc), command)
     }
@@ -219,7 +219,7 @@ impl Names {
         requires { is_built (seen_command command.now) ≡ true }
         ensures { IfOk result
             (λ found. found ≡ conflict_after (rewires (seen_command command.now)) self.now.table
-            (edits_of self.now.table untold (seen_command command.now))) }
+            (edits_of self.now.table told_none (seen_command command.now))) }
     {
         if rewires(command) {
             self.conflict_by(alloc, self.edits_untold(alloc, command)?)
@@ -231,7 +231,7 @@ impl Names {
     /// The first refusal of what a command asks.
     fn first_asked(&self, alloc: Global, told: &Told, command: &Command) -> Found
         ensures { IfOk result (λ found. found
-            ≡ first self.now.table told.now (asks_of (seen_command command.now))) }
+            ≡ first_unmet_ask self.now.table told.now (asks_of (seen_command command.now))) }
     {
         let asks = asks_of(alloc, command)?;
         self.first_unmet(alloc, told, asks.as_slice())
@@ -242,7 +242,7 @@ impl Names {
     fn unmet_or_broken(&self, alloc: Global, told: &Told, command: &Command) -> Found
         requires { is_built (seen_command command.now) ≡ true }
         ensures { IfOk result (λ found. found ≡ or_else
-            (first self.now.table told.now (asks_of (seen_command command.now)))
+            (first_unmet_ask self.now.table told.now (asks_of (seen_command command.now)))
             (refusal_behind self.now.table told.now (seen_command command.now))) }
     {
         match self.first_asked(alloc, told, command)? {
@@ -255,7 +255,7 @@ impl Names {
         requires { is_built (seen_command command.now) ≡ true }
         ensures { IfOk result (λ found. found ≡ or_else
             (out_of_turn (negotiates (seen_command command.now)) self.now.table.negotiated)
-            (or_else (first self.now.table told.now (asks_of (seen_command command.now)))
+            (or_else (first_unmet_ask self.now.table told.now (asks_of (seen_command command.now)))
             (refusal_behind self.now.table told.now (seen_command command.now)))) }
     {
         match out_of_turn(negotiates(command), self.is_negotiated()) {
@@ -265,7 +265,7 @@ impl Names {
     }
 
     /// The first refusal of a command that holds, where the files tell this.
-    #[tactic(auto, using(crate::proofs::JudgeLemmas::built_none), unfolding(crate::specs::Answers::refusal_of))]
+    #[tactic(auto, using(crate::proofs::JudgeLemmas::built_none), unfolding(crate::specs::Answers::refusal_to))]
     pub fn refusal(
         &self,
         alloc: Global,
@@ -273,7 +273,7 @@ impl Names {
         command: &Command,
     ) -> Result<Option<Refusal>, NoMemory>
         ensures { IfOk result
-            (λ found. found ≡ refusal_of self.now.table told.now (seen_command command.now)) }
+            (λ found. found ≡ refusal_to self.now.table told.now (seen_command command.now)) }
     {
         match unbuilt(alloc, command)? {
             None => self.refusal_in_turn(alloc, told, command),
@@ -288,7 +288,7 @@ impl Names {
         command: &Command,
     ) -> Result<Option<Refusal>, NoMemory>
         ensures { IfOk result
-            (λ found. found ≡ refusal_of self.now.table untold (seen_command command.now)) }
+            (λ found. found ≡ refusal_to self.now.table told_none (seen_command command.now)) }
     {
         self.refusal(alloc, &Told::nothing(alloc), command)
     }
@@ -302,11 +302,11 @@ impl Names {
         command: &Command,
     ) -> Result<Vec<Change>, PrepareStop>
         ensures accepted { IfOk result
-            (λ _. refusal_of self.now.table told.now (seen_command command.now) ≡ None) }
+            (λ _. refusal_to self.now.table told.now (seen_command command.now) ≡ None) }
         ensures edits { IfOk result (λ edits. edits.items
             ≡ command_edits self.now.table told.now (seen_command command.now)) }
         ensures refused { IfErr result
-            (IsStoppedFor (refusal_of self.now.table told.now (seen_command command.now))) }
+            (IsStoppedFor (refusal_to self.now.table told.now (seen_command command.now))) }
     {
         match self.refusal(alloc, told, command)? {
             Some(refusal) => Err(PrepareStop::Refused(refusal)),
@@ -337,13 +337,13 @@ impl Names {
         told: &Told,
     ) -> Result<Edits, PrepareStop>
         ensures accepted { IfOk result
-            (λ _. refusal_of self.old.table told.now (seen_command command.now) ≡ None) }
+            (λ _. refusal_to self.old.table told.now (seen_command command.now) ≡ None) }
         ensures edits { IfOk result
             (λ edits. edits ≡ command_edits self.old.table told.now (seen_command command.now)) }
         ensures room { IfOk result (λ edits. HasRoomForChanges (length edits) self.new) }
         ensures fit { IfOk result (λ edits. AllChangesFit self.new.table edits) }
         ensures refused { IfErr result
-            (IsStoppedFor (refusal_of self.old.table told.now (seen_command command.now))) }
+            (IsStoppedFor (refusal_to self.old.table told.now (seen_command command.now))) }
         ensures table { self.new.table ≡ self.old.table }
     {
         match self.accepted_edits(alloc, told, command) {

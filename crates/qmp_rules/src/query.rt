@@ -4,8 +4,8 @@ ghost use Rattle.serde_json.specs.Data.{Items, item};
 ghost use Rattle.serde_json.specs.View.{view, items_view};
 ghost use Rattle.qmp_codec.specs.Commands.{seen_command};
 ghost use Rattle.qmp_rules.specs.Answers.{returned};
-ghost use Rattle.qmp_rules.specs.Printed.{joined};
-ghost use Rattle.qmp_rules.specs.Queries.{bitmap_data, bitmap_items, bytes_of_node, driver_text, is_job_filter, job_data, jobs_data, jobs_items, node_data, nodes_data, nodes_items, shown_read_only, status_text};
+ghost use Rattle.qmp_rules.specs.Printed.{items_joined};
+ghost use Rattle.qmp_rules.specs.Queries.{bitmap_data, bitmap_items, bytes_of_node, driver_text, is_job_filter, block_job_data, jobs_data, jobs_items, node_data, nodes_data, nodes_items, shown_read_only, job_status_text};
 
 use crate::rows::{BitmapRow, JobRecord, NodeRecord};
 use crate::table::Names;
@@ -17,7 +17,7 @@ use serde_json::{Value, json};
 use std::alloc::{AllocError, Global};
 
 fn status_text(is_ready: bool) -> &'static str
-    ensures { result.now ≡ status_text is_ready }
+    ensures { result.now ≡ job_status_text is_ready }
 {
     if is_ready { "ready" } else { "running" }
 }
@@ -55,8 +55,8 @@ fn bitmap_value(alloc: Global, row: &BitmapRow, dirty: u64) -> Result<Value, All
 /// Puts a value behind the others.
 #[tactic(auto, using(crate::proofs::ItemLemmas::joined_push))]
 fn put_value(values: &mut Vec<Value>, value: Value) -> Result<(), AllocError>
-    ensures { OnOk result ((rest : Items) → joined (items_view values.new.items) rest
-        ≡ joined (items_view values.old.items) (item (view value) rest)) }
+    ensures { OnOk result ((rest : Items) → items_joined (items_view values.new.items) rest
+        ≡ items_joined (items_view values.old.items) (item (view value) rest)) }
 {
     values.push(value)?;
     Ok(())
@@ -70,8 +70,8 @@ fn put_bitmap(
     row: &BitmapRow,
     dirty: u64,
 ) -> Result<(), AllocError>
-    ensures { OnOk result ((rest : Items) → joined (items_view values.new.items) rest
-        ≡ joined (items_view values.old.items)
+    ensures { OnOk result ((rest : Items) → items_joined (items_view values.new.items) rest
+        ≡ items_joined (items_view values.old.items)
         (if row.now.node == node then item (bitmap_data row.now dirty) rest else rest)) }
 {
     if row.node != node {
@@ -107,7 +107,7 @@ impl Names {
     }
 
     fn job_value(&self, alloc: Global, job: &JobRecord) -> Result<Value, AllocError>
-        ensures { IfOk result (λ v. view v ≡ job_data self.now.table job.now) }
+        ensures { IfOk result (λ v. view v ≡ block_job_data self.now.table job.now) }
     {
         let id = job.id.as_str();
         let len = self.bytes_of(job.source);

@@ -119,7 +119,7 @@ impl Clone for NodeList {
 
 impl NodeList {
     ghost use Rattle.std.specs.Prelude.{◌≡◌};
-    ghost use Rattle.qmp_rules.specs.Chains.{has_id};
+    ghost use Rattle.qmp_rules.specs.Chains.{is_listed};
 
     /// The list of a vector, which is taken over with its memory.
     pub fn new(ids: Vec<NodeId>) -> Self
@@ -129,7 +129,7 @@ impl NodeList {
     }
 
     pub fn has(&self, id: NodeId) -> bool
-        ensures { result ≡ has_id id self.now }
+        ensures { result ≡ is_listed id self.now }
     {
         self.ids.iter().any(|other| *other == id)
     }

@@ -6,7 +6,7 @@ ghost use Rattle.blk_graph.specs.Edits.{child_of};
 ghost use Rattle.blk_graph.specs.Rule.{first_conflict};
 ghost use Rattle.qmp_rules.specs.Asks.{stands_for};
 ghost use Rattle.qmp_rules.specs.Chains.{holder, keeper};
-ghost use Rattle.qmp_rules.specs.Table.{opening_table, node_named, node_at, id_named, device_named, device_at, job_named, job_at, job_in, bitmap_at, bitmap_named, has_name, file_state, name_at, device_id, job_id, parent_name, child, first_into};
+ghost use Rattle.qmp_rules.specs.Table.{opening_table, node_named, node_by_id, id_named, device_named, device_by_number, job_named, job_at, job_in, bitmap_at, bitmap_named, has_name, file_state, name_at, device_id, job_id, parent_name, child, first_into};
 
 mod changing;
 mod room;
@@ -146,7 +146,7 @@ impl Names {
     }
 
     pub fn node_at(&self, id: NodeId) -> Option<&NodeRecord>
-        ensures { option_copied result ≡ node_at self.now.table id }
+        ensures { option_copied result ≡ node_by_id self.now.table id }
     {
         find::node_at(self.nodes.as_slice(), id)
     }
@@ -158,7 +158,7 @@ impl Names {
     }
 
     pub fn device_at(&self, number: u32) -> Option<&Device>
-        ensures { option_copied result ≡ device_at self.now.table number }
+        ensures { option_copied result ≡ device_by_number self.now.table number }
     {
         find::device_at(self.devices.as_slice(), number)
     }

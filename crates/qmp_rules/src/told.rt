@@ -64,11 +64,11 @@ impl Amounts {
 
 impl Told {
     ghost use Rattle.std.specs.Prelude.{◌≡◌};
-    ghost use Rattle.qmp_rules.specs.Answers.{untold};
+    ghost use Rattle.qmp_rules.specs.Answers.{told_none};
 
     /// That nothing is told.
     pub fn nothing(alloc: Global) -> Self
-        ensures { result ≡ untold }
+        ensures { result ≡ told_none }
     {
         Told {
             length: None,

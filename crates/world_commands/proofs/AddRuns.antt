@@ -8,17 +8,17 @@ use Rattle.blk_base.specs.declared.file.File.{File}
 use Rattle.blk_base.specs.declared.file.Opened.{Opened}
 use Rattle.blk_base.proofs.Openings.{back-opened, put-same}
 use Rattle.blk_history.specs.Fold.{With}
-use Rattle.blk_nodes.specs.Nodes.{DeviceState}
+use Rattle.blk_nodes.specs.Nodes.{DeviceSeen}
 use Rattle.world_parts.specs.Adding.{IsTakenOut, Taken, opening_of, put_back}
 use Rattle.world_commands.specs.Counting.{HaveNotFallen, IsLater, RunsOn}
-use Rattle.world_parts.specs.Face.{Face, count_of_opening, counts_from, counts_now, device_numbered}
+use Rattle.world_parts.specs.Face.{WorldSeen, count_of_opening, counts_from, counts_now, device_numbered}
 use Rattle.world_parts.specs.Stores.{StoreInRun}
 use Rattle.world_commands.proofs.AddOut.{get-before}
 use Rattle.world_commands.proofs.CountLemmas.{goes-on, there, with-of}
 
 -- ---- counts
 
-pub counts-append : (ds : List DeviceState) (k : ℕ) (xs : List Opened) (y : Opened)
+pub counts-append : (ds : List DeviceSeen) (k : ℕ) (xs : List Opened) (y : Opened)
     → counts_from ds k (xs ++ y ∷ []) ≡ counts_from ds k xs ++ count_of_opening ds (k + length xs) y ∷ []
 counts-append ds k [] y = let same : k + 0 ≡ k = omega arith in rw same refl
 counts-append ds k (x ∷ xs) y =
@@ -33,7 +33,7 @@ not-fallen-longer a b last not n count is =
 pub not-fallen-itself : (a : List ℕ) → HaveNotFallen a a
 not-fallen-itself a n count is = with-of (slice_get a n) count (λ now. count ≤ now) is (omega arith)
 
-numbered-behind : (ds : List DeviceState) (d : DeviceState) (n : ℕ) → d.number.0 ≢ n → device_numbered (ds ++ d ∷ []) n ≡ device_numbered ds n
+numbered-behind : (ds : List DeviceSeen) (d : DeviceSeen) (n : ℕ) → d.number.0 ≢ n → device_numbered (ds ++ d ∷ []) n ≡ device_numbered ds n
 numbered-behind [] d n other = rw (ne_eqb d.number.0 n other) refl
 numbered-behind (x ∷ ds) d n other = by_test (x.number.0 == n) (numbered-behind ds d n other)
   where
@@ -43,7 +43,7 @@ numbered-behind (x ∷ ds) d n other = by_test (x.number.0 == n) (numbered-behin
     by_test false rest = rest
 
 -- a device of a later opening says nothing of those before it
-pub counts-more : (ds : List DeviceState) (d : DeviceState) (k : ℕ) (xs : List Opened) → k + length xs ≤ d.number.0
+pub counts-more : (ds : List DeviceSeen) (d : DeviceSeen) (k : ℕ) (xs : List Opened) → k + length xs ≤ d.number.0
     → counts_from (ds ++ d ∷ []) k xs ≡ counts_from ds k xs
 counts-more ds d k [] later = refl
 counts-more ds d k (x ∷ xs) later =
@@ -53,7 +53,7 @@ counts-more ds d k (x ∷ xs) later =
 
 -- ---- one more opening
 
-module _ (w v : Face) (told : is_some v.files ≡ is_some w.files) (room : v.room ≡ w.room) (first : v.first_faults ≡ w.first_faults)
+module _ (w v : WorldSeen) (told : is_some v.files ≡ is_some w.files) (room : v.room ≡ w.room) (first : v.first_faults ≡ w.first_faults)
     (earlier : v.earlier ≡ w.earlier) (store : w.faults ≤ v.faults) where
   pub runs-opened : (o : Opened) → v.opened ≡ w.opened ++ o ∷ []
       → HaveNotFallen (counts_from w.nodes.devices 0 w.opened) (counts_from v.nodes.devices 0 w.opened) → RunsOn w v

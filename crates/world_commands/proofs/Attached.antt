@@ -13,14 +13,14 @@ use Rattle.blk_graph.specs.Rule.{first_conflict}
 use Rattle.qmp_codec.specs.Commands.{Cmd}
 use Rattle.qmp_codec.specs.declared.command.Command.TheVariants as command
 use Rattle.qmp_codec.specs.declared.nodes.DeviceAdd.{DeviceAdd}
-use Rattle.qmp_rules.specs.Answers.{command_edits, conflict_in, conflict_refusal, out_of_turn, refusal_behind, refusal_of, unbuilt, untold}
-use Rattle.qmp_rules.specs.Asks.{first, holds, is_file}
+use Rattle.qmp_rules.specs.Answers.{command_edits, conflict_in, conflict_refusal, out_of_turn, refusal_behind, refusal_to, unbuilt, told_none}
+use Rattle.qmp_rules.specs.Asks.{first_unmet_ask, holds, is_file}
 use Rattle.qmp_rules.specs.Changes.{changed, all_changed, device_edge}
 use Rattle.qmp_asks.specs.CommandAsks.{asks_of, negotiates}
-use Rattle.qmp_rules.specs.Edits.{device_uses, edits_of, new_device, of_row, uses}
+use Rattle.qmp_rules.specs.Edits.{device_uses, edits_of, new_device, of_row, file_uses}
 use Rattle.qmp_rules.specs.Fitting.{AllChangesFit}
 use Rattle.qmp_asks.specs.NodeAsks.{device_add_asks}
-use Rattle.qmp_rules.specs.Table.{Table, device_at, device_named, id_named, kinds_of, node_at}
+use Rattle.qmp_rules.specs.Table.{RunTable, device_by_number, device_named, id_named, kinds_of, node_by_id}
 use Rattle.qmp_rules.specs.declared.change.Change.{Change}
 use Rattle.qmp_rules.specs.declared.change.Change.TheVariants.{AddDevice}
 use Rattle.qmp_rules.specs.declared.rows.Device.{Device}
@@ -43,14 +43,14 @@ use Rattle.world_parts.proofs.TableKinds.{kinds_alike}
 
 -- ---- one device more
 
-pub record IsWithDevice (t u : Table) (device : Device) (node : ℕ) : Type 0 where
+pub record IsWithDevice (t u : RunTable) (device : Device) (node : ℕ) : Type 0 where
   pub rows : u.nodes ≡ t.nodes
   pub edges : u.edges ≡ refreshed (kinds_of t.nodes) (with_edge (device_edge device node) t.edges)
   pub devices : u.devices ≡ t.devices ++ device ∷ []
   pub guests : u.guests ≡ t.guests
   pub jobs : u.jobs ≡ t.jobs
 
-with_device : (t : Table) (file : Option (List ℕ)) (device : Device) (node : ℕ) → IsWithDevice t (changed (used t file) (AddDevice device node)) device node
+with_device : (t : RunTable) (file : Option (List ℕ)) (device : Device) (node : ℕ) → IsWithDevice t (changed (used t file) (AddDevice device node)) device node
 unfolding changed
 with_device t file device node =
     let shape = shape_by t file in
@@ -72,13 +72,13 @@ ids-listed : (rows : List NodeRecord) → map (λ (r : NodeRow). r.id) (map node
 ids-listed [] = refl
 ids-listed (row ∷ rows) = ap (λ (ids : List ℕ). row.id ∷ ids) (ids-listed rows)
 
-module _ (t : Table) (h : TableStands t) (c : DeviceAdd (List ℕ)) (none : refusal_of t untold (command.DeviceAdd c) ≡ None) where
-  asks : NoneHolds t untold (device_add_asks c)
+module _ (t : RunTable) (h : TableStands t) (c : DeviceAdd (List ℕ)) (none : refusal_to t told_none (command.DeviceAdd c) ≡ None) where
+  asks : NoneHolds t told_none (device_add_asks c)
   unfolding asks_of
-  asks = asked t untold (command.DeviceAdd c) none
+  asks = asked t told_none (command.DeviceAdd c) none
 
-  pub of : NamedDrive t untold h c.drive
-  of = named-drive t untold h c.drive asks.1.1.1.1.0 asks.1.1.1.1.1.1.1.0
+  pub of : NamedDrive t told_none h c.drive
+  of = named-drive t told_none h c.drive asks.1.1.1.1.0 asks.1.1.1.1.1.1.1.0
 
   abbrev pub row : NodeRecord
   row = of.row
@@ -90,23 +90,23 @@ module _ (t : Table) (h : TableStands t) (c : DeviceAdd (List ℕ)) (none : refu
   abbrev pub file : Option (List ℕ)
   file = cond (is_file of.row) of.row.filename None
 
-  uses_is : device_uses of.row ≡ uses file
+  uses_is : device_uses of.row ≡ file_uses file
   uses_is = by_test (is_file of.row) of.row.filename
     where
-      by_test : (b : Bool) (name : Option (List ℕ)) → (if b then uses name else []) ≡ uses (cond b name None)
+      by_test : (b : Bool) (name : Option (List ℕ)) → (if b then file_uses name else []) ≡ file_uses (cond b name None)
       by_test true name = refl
       by_test false name = refl
 
-  pub edits : command_edits t untold (command.DeviceAdd c) ≡ uses file ++ AddDevice device of.row.id ∷ []
+  pub edits : command_edits t told_none (command.DeviceAdd c) ≡ file_uses file ++ AddDevice device of.row.id ∷ []
   unfolding edits_of
   edits =
       ap (of_row (λ (r : NodeRecord). device_uses r ++ AddDevice (new_device t c r) r.id ∷ [])) of.found
       ∙ ap (λ (more : List Change). more ++ AddDevice device of.row.id ∷ []) uses_is
 
-  abbrev pub table_then : Table
+  abbrev pub table_then : RunTable
   table_then = changed (used t file) (AddDevice device of.row.id)
 
-  pub table_is : all_changed t (command_edits t untold (command.DeviceAdd c)) ≡ table_then
+  pub table_is : all_changed t (command_edits t told_none (command.DeviceAdd c)) ≡ table_then
   table_is = ap (all_changed t) edits ∙ changed_used t file (AddDevice device of.row.id ∷ [])
 
   pub is_with : IsWithDevice t table_then device of.row.id
@@ -114,14 +114,14 @@ module _ (t : Table) (h : TableStands t) (c : DeviceAdd (List ℕ)) (none : refu
 
   -- ---- its edge may be drawn
 
-  behind : refusal_behind t untold (command.DeviceAdd c) ≡ None
-  unfolding refusal_of
+  behind : refusal_behind t told_none (command.DeviceAdd c) ≡ None
+  unfolding refusal_to
   behind =
       let built = none-both (unbuilt (command.DeviceAdd c)) _ none in
       let turn = none-both (out_of_turn (negotiates (command.DeviceAdd c)) t.negotiated) _ built.1 in
-      (none-both (first t untold (asks_of (command.DeviceAdd c))) (refusal_behind t untold (command.DeviceAdd c)) turn.1).1
+      (none-both (first_unmet_ask t told_none (asks_of (command.DeviceAdd c))) (refusal_behind t told_none (command.DeviceAdd c)) turn.1).1
 
-  no-pair : (u : Table) (pair : Option Conflict) → option_map (conflict_refusal u) pair ≡ None → pair ≡ None
+  no-pair : (u : RunTable) (pair : Option Conflict) → option_map (conflict_refusal u) pair ≡ None → pair ≡ None
   no-pair u None is = refl
   no-pair u (Some pair) is = absurd (let bad : ⊥ = cc is in bad)
 
@@ -129,12 +129,12 @@ module _ (t : Table) (h : TableStands t) (c : DeviceAdd (List ℕ)) (none : refu
   unfolding conflict_in
   no_conflict =
       no-pair table_then (first_conflict (map (λ (r : NodeRecord). r.id) table_then.nodes) table_then.edges)
-      (subst (λ (u : Table). conflict_in u ≡ None) table_is behind)
+      (subst (λ (u : RunTable). conflict_in u ≡ None) table_is behind)
 
   -- ---- it is found
 
-  pub fresh : device_at t device.number ≡ None
-  fresh = fresh_number t untold c.id h asks.1.1.1.1.1.0 asks.1.1.1.1.1.1.0
+  pub fresh : device_by_number t device.number ≡ None
+  fresh = fresh_number t told_none c.id h asks.1.1.1.1.1.0 asks.1.1.1.1.1.1.0
 
   unnamed : device_named t c.id ≡ None
   unfolding holds
@@ -150,12 +150,12 @@ module _ (t : Table) (h : TableStands t) (c : DeviceAdd (List ℕ)) (none : refu
       ap (λ (rows : List NodeRecord). option_map (λ (r : NodeRecord). r.id) (find (λ (r : NodeRecord). bytes_eq r.name c.drive) rows)) is_with.rows
       ∙ ap (option_map (λ (r : NodeRecord). r.id)) of.found
 
-  pub own_device : device_at table_then device.number ≡ Some device
+  pub own_device : device_by_number table_then device.number ≡ Some device
   own_device =
       ap (find (λ (d : Device). d.number == device.number)) is_with.devices
       ∙ found-new (λ (d : Device). d.number == device.number) t.devices device fresh (eq-eqb device.number device.number refl)
 
-  pub at_row : node_at t of.row.id ≡ Some of.row
+  pub at_row : node_by_id t of.row.id ≡ Some of.row
   at_row = h.apart of.row of.there
 
   -- ---- in the nodes
@@ -202,17 +202,17 @@ module _ (t : Table) (h : TableStands t) (c : DeviceAdd (List ℕ)) (none : refu
           ∙ no_conflict;
     }
 
-  pub small_of : AllChangesFit t (command_edits t untold (command.DeviceAdd c)) → device.number < 80
+  pub small_of : AllChangesFit t (command_edits t told_none (command.DeviceAdd c)) → device.number < 80
   small_of fit = by_file file (subst (AllChangesFit t) edits fit)
     where
-      by_file : (name : Option (List ℕ)) → AllChangesFit t (uses name ++ AddDevice device of.row.id ∷ []) → device.number < 80
+      by_file : (name : Option (List ℕ)) → AllChangesFit t (file_uses name ++ AddDevice device of.row.id ∷ []) → device.number < 80
       by_file None all = all.0
       by_file (Some name) all = all.1.0
 
 -- whatever the command is called
-pub attachment_can : (t u : Table) (c : Cmd) (nodes : Nodes) → is_attachment c ≡ true → TableStands t → AreNodesOf t nodes → IsJoined nodes
-    → refusal_of t untold c ≡ None → AllChangesFit t (command_edits t untold c) → u ≡ all_changed t (command_edits t untold c) → CanAttachBy u c nodes
+pub attachment_can : (t u : RunTable) (c : Cmd) (nodes : Nodes) → is_attachment c ≡ true → TableStands t → AreNodesOf t nodes → IsJoined nodes
+    → refusal_to t told_none c ≡ None → AllChangesFit t (command_edits t told_none c) → u ≡ all_changed t (command_edits t told_none c) → CanAttachBy u c nodes
 attachment_can t u (command.DeviceAdd c) nodes is h alike joined none fit changed_is =
-    subst (λ (x : Table). CanAttach x c nodes) (sym (changed_is ∙ table_is t h c none))
+    subst (λ (x : RunTable). CanAttach x c nodes) (sym (changed_is ∙ table_is t h c none))
     (can_attach t h c none nodes alike joined (small_of t h c none fit))
 attachment_can t u c nodes is h alike joined none fit changed_is = absurd (let bad : ⊥ = cc is in bad)

@@ -22,12 +22,12 @@ use Rattle.blk_history.specs.Fold.{With}
 use Rattle.blk_history.specs.Machine.{Flight}
 use Rattle.qmp_codec.specs.declared.command.Command.TheVariants as command
 use Rattle.qmp_codec.specs.declared.nodes.DeviceAdd.{DeviceAdd}
-use Rattle.qmp_rules.specs.Answers.{Answer, answer, refusal_of, untold}
+use Rattle.qmp_rules.specs.Answers.{Answer, answer, refusal_to, told_none}
 use Rattle.qmp_rules.specs.Asks.{stands_for}
 use Rattle.qmp_rules.specs.Chains.{disk_node}
 use Rattle.qmp_rules.specs.Changes.{all_changed, device_edge}
-use Rattle.qmp_rules.specs.Edits.{uses}
-use Rattle.qmp_rules.specs.Table.{Table, device_at, device_named, id_named, kinds_of, node_at}
+use Rattle.qmp_rules.specs.Edits.{file_uses}
+use Rattle.qmp_rules.specs.Table.{RunTable, device_by_number, device_named, id_named, kinds_of, node_by_id}
 use Rattle.qmp_rules.specs.declared.change.Change.{Change}
 use Rattle.qmp_rules.specs.declared.change.Change.TheVariants.{AddDevice}
 use Rattle.qmp_rules.specs.declared.rows.Device.{Device}
@@ -35,7 +35,7 @@ use Rattle.qmp_rules.specs.declared.rows.NodeRecord.{NodeRecord}
 use Rattle.flat_machine.specs.Agreement.{HasDisk}
 use Rattle.flat_machine.specs.Legal.{IsForbidden}
 use Rattle.flat_machine.specs.Performing.{AllPerformed, IsQuiet}
-use Rattle.flat_machine.specs.State.{disk_of_guest, drive_of, filename_of, size_of}
+use Rattle.flat_machine.specs.State.{disk_of_guest, drive_of, filename_of, size_by_id}
 use Rattle.flat_machine.specs.Suiting.{IsThere}
 use Rattle.flat_machine.specs.Wiring.{TableStands, IsDiskOf}
 use Rattle.flat_machine.proofs.TableSuited.{device-suits}
@@ -46,7 +46,7 @@ use Rattle.blk_nodes.specs.Contents.{disk_of}
 use Rattle.blk_nodes.specs.Joined.{IsJoined}
 use Rattle.blk_nodes.specs.Nodes.{Nodes, row_at}
 use Rattle.world_parts.specs.Coherent.{AreAlike, AreAllowed, AreHeld, AreNodesOf, AreOnDisks, AreOnWritable, AreWithin, AskToWrite, HaveDrives, IsCoherent, IsWholeWorld, node_row}
-use Rattle.world_parts.specs.Face.{Face, contents_of, held_by, node_over}
+use Rattle.world_parts.specs.Face.{WorldSeen, contents_of, held_in_file, node_over}
 use Rattle.world_parts.specs.Handling.{IsAttached}
 use Rattle.world_parts.specs.Progress.{flight_at}
 use Rattle.world_commands.proofs.Attached.{IsWithDevice, device as device_of_table, file as file_used, of, edits, table_then, table_is, is_with, fresh, named_is, found_is, own_device, at_row, nodes_then, drawn_same}
@@ -66,9 +66,9 @@ find-past p (x ∷ xs) y fails = by_test (p x) (find-past p xs y fails)
     by_test true rest = refl
     by_test false rest = rest
 
-module _ (w : Face) (whole : IsWholeWorld w) (joined : IsJoined w.nodes)
-    (c : DeviceAdd (List ℕ)) (none : refusal_of w.table untold (command.DeviceAdd c) ≡ None) where
-  abbrev t : Table
+module _ (w : WorldSeen) (whole : IsWholeWorld w) (joined : IsJoined w.nodes)
+    (c : DeviceAdd (List ℕ)) (none : refusal_to w.table told_none (command.DeviceAdd c) ≡ None) where
+  abbrev t : RunTable
   t = w.table
 
   was : IsCoherent w.table w.nodes w.opened w.progress
@@ -77,7 +77,7 @@ module _ (w : Face) (whole : IsWholeWorld w) (joined : IsJoined w.nodes)
   abbrev h : TableStands w.table
   h = whole.coherent.table.stands
 
-  abbrev u : Table
+  abbrev u : RunTable
   u = table_then w.table h c none
 
   abbrev node : ℕ
@@ -100,21 +100,21 @@ module _ (w : Face) (whole : IsWholeWorld w) (joined : IsJoined w.nodes)
 
   -- ---- devices and nodes
 
-  other_device : (g : ℕ) → g ≢ device.number → device_at u g ≡ device_at w.table g
+  other_device : (g : ℕ) → g ≢ device.number → device_by_number u g ≡ device_by_number w.table g
   other_device g apart =
       ap (find (λ (d : Device). d.number == g)) is.devices
       ∙ find-past (λ (d : Device). d.number == g) w.table.devices device (ne_eqb device.number g (λ same. apart (sym same)))
 
-  its_device : (d : Device) → device_at u device.number ≡ Some d → d ≡ device
+  its_device : (d : Device) → device_by_number u device.number ≡ Some d → d ≡ device
   its_device d there = same_Some d device (sym there ∙ own_device w.table h c none)
 
-  same_at : (id : ℕ) → node_at u id ≡ node_at w.table id
+  same_at : (id : ℕ) → node_by_id u id ≡ node_by_id w.table id
   same_at id = ap (find (λ (r : NodeRecord). r.id == id)) is.rows
 
   same_filename : (id : ℕ) → filename_of u id ≡ filename_of w.table id
   same_filename id = ap (option_and_then (λ (r : NodeRecord). r.filename)) (same_at id)
 
-  same_size : (id : ℕ) → size_of u id ≡ size_of w.table id
+  same_size : (id : ℕ) → size_by_id u id ≡ size_by_id w.table id
   same_size id = ap (λ (found : Option NodeRecord). unwrap_or (option_map (λ (r : NodeRecord). r.size) found) 0) (same_at id)
 
   -- ---- drives
@@ -129,8 +129,8 @@ module _ (w : Face) (whole : IsWholeWorld w) (joined : IsJoined w.nodes)
   disk_is : (other : ℕ) → IsThere w.table other → disk_node u other ≡ disk_node w.table other
   disk_is other there =
       same_disk w.table u (IsThere w.table) NoRow
-      (IsDriveEdge w.table u device node (device-suits w.table untold h c (of w.table h c none)) is.rows (kinds_of w.table.nodes) is.edges h)
-      (device_grow w.table u device node (device-suits w.table untold h c (of w.table h c none)) is.rows (kinds_of w.table.nodes) is.edges h)
+      (IsDriveEdge w.table u device node (device-suits w.table told_none h c (of w.table h c none)) is.rows (kinds_of w.table.nodes) is.edges h)
+      (device_grow w.table u device node (device-suits w.table told_none h c (of w.table h c none)) is.rows (kinds_of w.table.nodes) is.edges h)
       other there
 
   drive_there : (g other : ℕ) → drive_of w.table g ≡ Some other → IsThere w.table other
@@ -142,8 +142,8 @@ module _ (w : Face) (whole : IsWholeWorld w) (joined : IsJoined w.nodes)
   own_there = subst IsSome (sym (at_row w.table h c none)) refl
 
   -- the new node has a disk
-  own_disk : With (node_at w.table (disk_node w.table node)) HasDisk
-  own_disk = by_row (node_at w.table (disk_node w.table node)) (h.reads node row (at_row w.table h c none)) (of w.table h c none).settled
+  own_disk : With (node_by_id w.table (disk_node w.table node)) HasDisk
+  own_disk = by_row (node_by_id w.table (disk_node w.table node)) (h.reads node row (at_row w.table h c none)) (of w.table h c none).settled
     where
       by_row : (found : Option NodeRecord) → With found (IsDiskOf w.table row) → unwrap_or (option_map (λ (r : NodeRecord). r.is_settled) found) false ≡ true → With found HasDisk
       by_row None reads settled = absurd reads
@@ -206,21 +206,21 @@ module _ (w : Face) (whole : IsWholeWorld w) (joined : IsJoined w.nodes)
     on_disks g other on = elim (cases_eq g device.number) [
       | inl same ↦
           let its : other ≡ node = its_drive other (subst (λ (n : ℕ). drive_of u n ≡ Some other) same on) in
-          subst (λ (n : ℕ). With (node_at u (disk_node u n)) HasDisk) (sym its)
-          (subst (λ (row' : Option NodeRecord). With row' HasDisk) (sym (ap (node_at u) (disk_is node own_there) ∙ same_at (disk_node w.table node))) own_disk)
+          subst (λ (n : ℕ). With (node_by_id u (disk_node u n)) HasDisk) (sym its)
+          (subst (λ (row' : Option NodeRecord). With row' HasDisk) (sym (ap (node_by_id u) (disk_is node own_there) ∙ same_at (disk_node w.table node))) own_disk)
       | inr apart ↦
           let before : drive_of w.table g ≡ Some other = sym (other_drive g apart) ∙ on in
           subst (λ (row' : Option NodeRecord). With row' HasDisk)
-          (sym (ap (node_at u) (disk_is other (drive_there g other before)) ∙ same_at (disk_node w.table other))) (was.disks g other before)
+          (sym (ap (node_by_id u) (disk_is other (drive_there g other before)) ∙ same_at (disk_node w.table other))) (was.disks g other before)
     ]
 
     on_writable : AreOnWritable u
     on_writable g other d there writes on = elim (cases_eq g device.number) [
       | inl same ↦
           let its : other ≡ node = its_drive other (subst (λ (n : ℕ). drive_of u n ≡ Some other) same on) in
-          let one : d ≡ device = its_device d (subst (λ (n : ℕ). device_at u n ≡ Some d) same there) in
+          let one : d ≡ device = its_device d (subst (λ (n : ℕ). device_by_number u n ≡ Some d) same there) in
           let may : row.read_only ≡ false = ap (λ (x : Device). x.read_only) (sym one) ∙ writes in
-          subst (λ (row' : Option NodeRecord). With row' (λ r. r.read_only ≡ false)) (sym (ap (node_at u) its ∙ same_at node ∙ at_row w.table h c none)) may
+          subst (λ (row' : Option NodeRecord). With row' (λ r. r.read_only ≡ false)) (sym (ap (node_by_id u) its ∙ same_at node ∙ at_row w.table h c none)) may
       | inr apart ↦
           subst (λ (row' : Option NodeRecord). With row' (λ r. r.read_only ≡ false)) (sym (same_at other))
           (was.writable g other d (sym (other_device g apart) ∙ there) writes (sym (other_drive g apart) ∙ on))
@@ -230,7 +230,7 @@ module _ (w : Face) (whole : IsWholeWorld w) (joined : IsJoined w.nodes)
     ask_to_write g d e there writes at from = elim (cases_eq g device.number) [
       | inl same ↦
           let its : e ≡ drive = sole e at (from ∙ ap GuestOf same) in
-          let one : d ≡ device = its_device d (subst (λ (n : ℕ). device_at u n ≡ Some d) same there) in
+          let one : d ≡ device = its_device d (subst (λ (n : ℕ). device_by_number u n ≡ Some d) same there) in
           ap (λ (x : Edge). x.perm.write) its ∙ ap (λ (x : Device). not x.read_only) (sym one) ∙ ap not writes
       | inr apart ↦
           let old = guest_edge (kinds_of w.table.nodes) (with_edge drive w.table.edges) e g (subst (λ (edges : List Edge). Contains edges e) is.edges at) from in
@@ -243,7 +243,7 @@ module _ (w : Face) (whole : IsWholeWorld w) (joined : IsJoined w.nodes)
     -- the guest had no request in flight
     another : (g : ℕ) (f : Flight) → flight_at w.progress.guests g ≡ Some f → g ≢ device.number
     another g f flies same =
-        let none' : device_at w.table g ≡ None = ap (device_at w.table) same ∙ fresh w.table h c none in
+        let none' : device_by_number w.table g ≡ None = ap (device_by_number w.table) same ∙ fresh w.table h c none in
         subst (λ (d : Option Device). With d (λ x. IsForbidden f.op x.read_only → ⊥)) none' (was.allowed g f flies)
 
     are_within : AreWithin u w.progress.guests
@@ -251,12 +251,12 @@ module _ (w : Face) (whole : IsWholeWorld w) (joined : IsJoined w.nodes)
         let apart = another g f flies in
         by_drive (drive_of w.table g) refl apart (was.within g f flies)
       where
-        by_drive : (found : Option ℕ) → drive_of w.table g ≡ found → g ≢ device.number → With (option_map (disk_node w.table) found) (λ other. end_of (span_of f.op) ≤ size_of w.table other)
-            → With (disk_of_guest u g) (λ other. end_of (span_of f.op) ≤ size_of u other)
+        by_drive : (found : Option ℕ) → drive_of w.table g ≡ found → g ≢ device.number → With (option_map (disk_node w.table) found) (λ other. end_of (span_of f.op) ≤ size_by_id w.table other)
+            → With (disk_of_guest u g) (λ other. end_of (span_of f.op) ≤ size_by_id u other)
         by_drive None on apart bad = absurd bad
         by_drive (Some other) on apart fits =
-            subst (λ (found : Option ℕ). With (option_map (disk_node u) found) (λ n. end_of (span_of f.op) ≤ size_of u n)) (sym (other_drive g apart ∙ on))
-            (subst (λ (n : ℕ). end_of (span_of f.op) ≤ size_of u n) (sym (disk_is other (drive_there g other on)))
+            subst (λ (found : Option ℕ). With (option_map (disk_node u) found) (λ n. end_of (span_of f.op) ≤ size_by_id u n)) (sym (other_drive g apart ∙ on))
+            (subst (λ (n : ℕ). end_of (span_of f.op) ≤ size_by_id u n) (sym (disk_is other (drive_there g other on)))
             (subst (λ (n : ℕ). end_of (span_of f.op) ≤ n) (sym (same_size (disk_node w.table other))) fits))
 
     are_allowed : AreAllowed u w.progress.guests
@@ -281,10 +281,10 @@ module _ (w : Face) (whole : IsWholeWorld w) (joined : IsJoined w.nodes)
       names = was.out.names;
     }
 
-    table_so : u ≡ all_changed w.table (answer w.table untold (command.DeviceAdd c)).changes
+    table_so : u ≡ all_changed w.table (answer w.table told_none (command.DeviceAdd c)).changes
     table_so =
         sym (table_is w.table h c none)
-        ∙ ap (λ (a : Answer). all_changed w.table a.changes) (sym (answer-is w.table untold (command.DeviceAdd c) None none))
+        ∙ ap (λ (a : Answer). all_changed w.table a.changes) (sym (answer-is w.table told_none (command.DeviceAdd c) None none))
 
     attached_coherent : IsCoherent u nodes w.opened w.progress
     attached_coherent = record {
@@ -303,7 +303,7 @@ module _ (w : Face) (whole : IsWholeWorld w) (joined : IsJoined w.nodes)
 
     -- ---- the world
 
-    abbrev v : Face
+    abbrev v : WorldSeen
     v = record w { nodes = nodes; table = u }
 
     module _ (disks : (other : ℕ) → disk_of nodes other ≡ disk_of w.nodes other) where
@@ -311,18 +311,18 @@ module _ (w : Face) (whole : IsWholeWorld w) (joined : IsJoined w.nodes)
       quiet_then = record {
         nodes = λ other but. disks other;
         files = λ name but.
-            ap (held_by v name)
+            ap (held_in_file v name)
             (ap (λ (rows : List NodeRecord). option_map (λ (r : NodeRecord). r.id) (find (stands_for name) rows))
             (is.rows ∙ sym (shape_by w.table (file_used w.table h c none)).nodes))
             ∙ by_over name (node_over (used w.table (file_used w.table h c none)) name);
       }
         where
-          by_over : (name : List ℕ) (over : Option ℕ) → held_by v name over ≡ held_by w name over
+          by_over : (name : List ℕ) (over : Option ℕ) → held_in_file v name over ≡ held_in_file w name over
           by_over name None = refl
           by_over name (Some other) = refl
 
-      changes_so : (answer w.table untold (command.DeviceAdd c)).changes ≡ uses (file_used w.table h c none) ++ AddDevice device node ∷ []
-      changes_so = ap (λ (a : Answer). a.changes) (answer-is w.table untold (command.DeviceAdd c) None none) ∙ edits w.table h c none
+      changes_so : (answer w.table told_none (command.DeviceAdd c)).changes ≡ file_uses (file_used w.table h c none) ++ AddDevice device node ∷ []
+      changes_so = ap (λ (a : Answer). a.changes) (answer-is w.table told_none (command.DeviceAdd c) None none) ∙ edits w.table h c none
 
       attached_carried : CarriedUntold w v (command.DeviceAdd c) None
       attached_carried =
@@ -335,28 +335,28 @@ module _ (w : Face) (whole : IsWholeWorld w) (joined : IsJoined w.nodes)
           (contents_of v, quiet_then, quiet-self (contents_of v))))
 
   -- as it was said to be put there
-  pub attachment_done : (now : Nodes) (x : Table) → x ≡ all_changed w.table (answer w.table untold (command.DeviceAdd c)).changes → IsAttached x c w.nodes now → IsJoined now
+  pub attachment_done : (now : Nodes) (x : RunTable) → x ≡ all_changed w.table (answer w.table told_none (command.DeviceAdd c)).changes → IsAttached x c w.nodes now → IsJoined now
       → CarriedUntold w (record w { nodes = now; table = x }) (command.DeviceAdd c) None × IsWholeWorld (record w { nodes = now; table = x })
   attachment_done now x table put after =
       let same_table : x ≡ u =
-      table ∙ ap (λ (a : Answer). all_changed w.table a.changes) (answer-is w.table untold (command.DeviceAdd c) None none) ∙ table_is w.table h c none in
-      let one : put.device ≡ device = same_Some put.device device (sym put.named ∙ ap (λ (y : Table). device_named y c.id) same_table ∙ named_is w.table h c none) in
-      let other : put.node ≡ node = same_Some put.node node (sym put.found ∙ ap (λ (y : Table). id_named y c.drive) same_table ∙ found_is w.table h c none) in
+      table ∙ ap (λ (a : Answer). all_changed w.table a.changes) (answer-is w.table told_none (command.DeviceAdd c) None none) ∙ table_is w.table h c none in
+      let one : put.device ≡ device = same_Some put.device device (sym put.named ∙ ap (λ (y : RunTable). device_named y c.id) same_table ∙ named_is w.table h c none) in
+      let other : put.node ≡ node = same_Some put.node node (sym put.found ∙ ap (λ (y : RunTable). id_named y c.drive) same_table ∙ found_is w.table h c none) in
       let same_nodes : now ≡ nodes =
       put.drawn
       ∙ ap (λ (d : Device). with_below w.nodes (guest_edge_of w.nodes d.number put.node d.share_rw)) one
       ∙ ap (λ (n : ℕ). with_below w.nodes (guest_edge_of w.nodes device.number n device.share_rw)) other in
       let joined_then : IsJoined nodes = subst IsJoined same_nodes after in
       let same : v joined_then ≡ record w { nodes = now; table = x } =
-      ap (λ (n : Nodes). let f : Face = record w { nodes = n; table = u } in f) (sym same_nodes)
-      ∙ ap (λ (y : Table). let f : Face = record w { nodes = now; table = y } in f) (sym same_table) in (
-        subst (λ (f : Face). CarriedUntold w f (command.DeviceAdd c) None) same
+      ap (λ (n : Nodes). let f : WorldSeen = record w { nodes = n; table = u } in f) (sym same_nodes)
+      ∙ ap (λ (y : RunTable). let f : WorldSeen = record w { nodes = now; table = y } in f) (sym same_table) in (
+        subst (λ (f : WorldSeen). CarriedUntold w f (command.DeviceAdd c) None) same
             (attached_carried joined_then (λ n. subst (λ (ns : Nodes). disk_of ns n ≡ disk_of w.nodes n) same_nodes (put.disks n))),
         subst IsWholeWorld same
             (record {
               coherent = attached_coherent joined_then;
               tell = whole.tell;
               counted = whole.counted;
-              bitmaps = left-listed w.table untold (command.DeviceAdd c) w.bitmaps u refl (sym same_table ∙ table) whole.bitmaps;
+              bitmaps = left-listed w.table told_none (command.DeviceAdd c) w.bitmaps u refl (sym same_table ∙ table) whole.bitmaps;
             }),
       )

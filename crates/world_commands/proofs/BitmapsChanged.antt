@@ -19,13 +19,13 @@ use Rattle.qmp_codec.specs.declared.fields.Amount.TheVariants.{Negative, Number}
 use Rattle.qmp_rules.specs.declared.change.Change.TheVariants as change
 use Rattle.qmp_rules.specs.declared.rows.BitmapRow.{BitmapRow}
 use Rattle.qmp_rules.specs.declared.rows.NodeRecord.{NodeRecord}
-use Rattle.qmp_rules.specs.Answers.{command_edits, refusal_of, untold}
+use Rattle.qmp_rules.specs.Answers.{command_edits, refusal_to, told_none}
 use Rattle.qmp_rules.specs.Asks.{holds, id_or}
 use Rattle.qmp_asks.specs.BitmapAsks.{bitmap_add_names, bitmap_add_rest, bitmap_add_values, source_name, source_node}
 use Rattle.qmp_rules.specs.Changes.{changed}
 use Rattle.qmp_asks.specs.CommandAsks.{asks_of}
 use Rattle.qmp_rules.specs.Edits.{edits_of, merges}
-use Rattle.qmp_rules.specs.Table.{Table, bitmap_at, bitmap_named, id_named}
+use Rattle.qmp_rules.specs.Table.{RunTable, bitmap_at, bitmap_named, id_named}
 use Rattle.qmp_asks.specs.Values.{amount_or, is_granularity}
 use Rattle.qmp_rules.specs.Chains.{filtered, written_under}
 use Rattle.trace_codec.specs.declared.op.Op.{Op}
@@ -44,30 +44,30 @@ use Rattle.world_commands.specs.Recorded.{AreAfter, AreFree, IsNewFor, bitmaps_a
 -- ---- paths
 
 -- what is still to be noted, where so many steps are made
-pub path_start : (t : Table) (drive : ℕ) → path_from (64 - 0) t drive ≡ path t drive
+pub path_start : (t : RunTable) (drive : ℕ) → path_from (64 - 0) t drive ≡ path t drive
 unfolding path
 path_start t drive = refl
 
-none_at : (n : ℕ) (t : Table) (node : ℕ) → filtered t node ≡ None → path_from n t node ≡ node ∷ []
+none_at : (n : ℕ) (t : RunTable) (node : ℕ) → filtered t node ≡ None → path_from n t node ≡ node ∷ []
 none_at zero t node h = refl
 none_at (suc n) t node h = ap (λ f. node ∷ (elim f as (λ _. List ℕ) [ None ↦ [] | Some below ↦ path_from n t below ])) h
 
-pub path_none : (i : ℕ) (t : Table) (node : ℕ) → filtered t node ≡ None → path_from (64 - i) t node ≡ node ∷ []
+pub path_none : (i : ℕ) (t : RunTable) (node : ℕ) → filtered t node ≡ None → path_from (64 - i) t node ≡ node ∷ []
 path_none i t node h = none_at (64 - i) t node h
 
-pub path_some : (i : ℕ) (t : Table) (node below : ℕ) → i < 64 → filtered t node ≡ Some below
+pub path_some : (i : ℕ) (t : RunTable) (node below : ℕ) → i < 64 → filtered t node ≡ Some below
     → path_from (64 - i) t node ≡ node ∷ path_from (64 - (i + 1)) t below
 path_some i t node below less h =
     let one : 64 - i ≡ suc (64 - (i + 1)) = omega arith in
     ap (λ n. path_from n t node) one ∙ ap (λ f. node ∷ (elim f as (λ _. List ℕ) [ None ↦ [] | Some under ↦ path_from (64 - (i + 1)) t under ])) h
 
-pub path_end : (i : ℕ) (t : Table) (node : ℕ) → 64 ≤ i → path_from (64 - i) t node ≡ node ∷ []
+pub path_end : (i : ℕ) (t : RunTable) (node : ℕ) → 64 ≤ i → path_from (64 - i) t node ≡ node ∷ []
 path_end i t node past =
     let none : 64 - i ≡ 0 = omega arith in ap (λ n. path_from n t node) none
 
 -- ---- pieces
 
-same_rows : (op : Op) (node : ℕ) (t : Table) → (table_after op node t).bitmaps ≡ t.bitmaps
+same_rows : (op : Op) (node : ℕ) (t : RunTable) → (table_after op node t).bitmaps ≡ t.bitmaps
 unfolding written_under
 same_rows (Read span) node t = refl
 same_rows (Write span payload) node t = refl
@@ -75,7 +75,7 @@ same_rows (Zero span) node t = refl
 same_rows Flush node t = refl
 same_rows (Discard span) node t = refl
 
-module _ (op : Op) (part : Extent) (outcome : Outcome) (drive : ℕ) (t : Table) (rows : List Bitmap) (was : AreBitmapsOf t.bitmaps rows) where
+module _ (op : Op) (part : Extent) (outcome : Outcome) (drive : ℕ) (t : RunTable) (rows : List Bitmap) (was : AreBitmapsOf t.bitmaps rows) where
   by_noted : (b : Bool) → map dirty_in (cond b (noted_rows part rows (path t drive)) rows) ≡ cond b (noted t part (map dirty_in rows) (path t drive)) (map dirty_in rows)
   by_noted true = noted-dirty t part (path t drive) rows was
   by_noted false = refl
@@ -91,11 +91,11 @@ module _ (op : Op) (part : Extent) (outcome : Outcome) (drive : ℕ) (t : Table)
   by_op Flush = unnoted (is_noted outcome)
   by_op (Discard span) = unnoted (is_noted outcome)
 
-listed_where : (written : Option Extent) (drive : ℕ) (t : Table) (rows : List Bitmap) → AreBitmapsOf t.bitmaps rows → AreBitmapsOf t.bitmaps (noted_where written drive t rows)
+listed_where : (written : Option Extent) (drive : ℕ) (t : RunTable) (rows : List Bitmap) → AreBitmapsOf t.bitmaps rows → AreBitmapsOf t.bitmaps (noted_where written drive t rows)
 listed_where None drive t rows was = was
 listed_where (Some part) drive t rows was = noted-bitmaps t.bitmaps part (path t drive) rows was
 
-listed_after : (outcome : Outcome) (written : Option Extent) (drive : ℕ) (t : Table) (rows : List Bitmap) → AreBitmapsOf t.bitmaps rows → AreBitmapsOf t.bitmaps (noted_after outcome written drive t rows)
+listed_after : (outcome : Outcome) (written : Option Extent) (drive : ℕ) (t : RunTable) (rows : List Bitmap) → AreBitmapsOf t.bitmaps rows → AreBitmapsOf t.bitmaps (noted_after outcome written drive t rows)
 listed_after outcome written drive t rows was = by_flag (is_noted outcome)
   where
     by_flag : (b : Bool) → AreBitmapsOf t.bitmaps (cond b (noted_where written drive t rows) rows)
@@ -103,40 +103,40 @@ listed_after outcome written drive t rows was = by_flag (is_noted outcome)
     by_flag false = was
 
 -- the table is that behind the piece
-pub noted-follow : (op : Op) (part : Extent) (outcome : Outcome) (drive : ℕ) (rows : List Bitmap) (written : Option Extent) (now : List Bitmap) (t u : Table) (node : ℕ) (asked : Op)
+pub noted-follow : (op : Op) (part : Extent) (outcome : Outcome) (drive : ℕ) (rows : List Bitmap) (written : Option Extent) (now : List Bitmap) (t u : RunTable) (node : ℕ) (asked : Op)
     → u ≡ table_after asked node t → written ≡ written_in op part → now ≡ noted_after outcome written drive u rows → AreBitmapsOf t.bitmaps rows
     → map dirty_in now ≡ dirty_by op outcome part drive u (map dirty_in rows)
 noted-follow op part outcome drive rows written now t u node asked table writes is was =
-    let here : AreBitmapsOf u.bitmaps rows = subst (λ rs. AreBitmapsOf rs rows) (sym (ap (λ (x : Table). x.bitmaps) table ∙ same_rows asked node t)) was in
+    let here : AreBitmapsOf u.bitmaps rows = subst (λ rs. AreBitmapsOf rs rows) (sym (ap (λ (x : RunTable). x.bitmaps) table ∙ same_rows asked node t)) was in
     ap (map dirty_in) (is ∙ ap (λ w. noted_after outcome w drive u rows) writes) ∙ by_op op part outcome drive u rows here op
 
-pub noted-listed : (outcome : Outcome) (drive : ℕ) (rows : List Bitmap) (written : Option Extent) (now : List Bitmap) (t u : Table) (node : ℕ) (asked : Op)
+pub noted-listed : (outcome : Outcome) (drive : ℕ) (rows : List Bitmap) (written : Option Extent) (now : List Bitmap) (t u : RunTable) (node : ℕ) (asked : Op)
     → u ≡ table_after asked node t → now ≡ noted_after outcome written drive u rows → AreBitmapsOf t.bitmaps rows → AreBitmapsOf u.bitmaps now
 noted-listed outcome drive rows written now t u node asked table is was =
-    let here : AreBitmapsOf u.bitmaps rows = subst (λ rs. AreBitmapsOf rs rows) (sym (ap (λ (x : Table). x.bitmaps) table ∙ same_rows asked node t)) was in
+    let here : AreBitmapsOf u.bitmaps rows = subst (λ rs. AreBitmapsOf rs rows) (sym (ap (λ (x : RunTable). x.bitmaps) table ∙ same_rows asked node t)) was in
     subst (AreBitmapsOf u.bitmaps) (sym is) (listed_after outcome written drive u rows here)
 
 -- ---- a command that adds one
 
 -- what it asked
-pub record AddAsked (t : Table) (c : BitmapAdd (List ℕ)) : Type 0 where
+pub record AddAsked (t : RunTable) (c : BitmapAdd (List ℕ)) : Type 0 where
   pub node : ℕ
   pub found : id_named t c.node ≡ Some node
   pub granularity : is_granularity c.granularity ≡ true
   pub fresh : bitmap_at t node c.name ≡ None
   pub room : nat_le 64 (length t.bitmaps) ≡ false
 
-pub add-asked : (t : Table) (c : BitmapAdd (List ℕ)) → refusal_of t untold (command.BitmapAdd c) ≡ None → AddAsked t c
+pub add-asked : (t : RunTable) (c : BitmapAdd (List ℕ)) → refusal_to t told_none (command.BitmapAdd c) ≡ None → AddAsked t c
 unfolding asks_of holds
 add-asked t c none =
-    let asks : NoneHolds t untold (bitmap_add_values c ++ bitmap_add_names c ++ bitmap_add_rest c) = asked t untold (command.BitmapAdd c) none in
-    let named = found-named t untold c.node asks.1.1.1.1.0 in
+    let asks : NoneHolds t told_none (bitmap_add_values c ++ bitmap_add_names c ++ bitmap_add_rest c) = asked t told_none (command.BitmapAdd c) none in
+    let named = found-named t told_none c.node asks.1.1.1.1.0 in
     let id : id_named t c.node ≡ Some named.0.id = ap (option_map (λ (r : NodeRecord). r.id)) named.1 in
     let fresh : is_some (bitmap_named t c.node c.name) ≡ false = not-refused _ _ asks.1.1.1.1.1.0 in
     record {
       node = named.0.id;
       found = id;
-      granularity = good-value t untold (codes "granularity") (is_granularity c.granularity) asks.0;
+      granularity = good-value t told_none (codes "granularity") (is_granularity c.granularity) asks.0;
       fresh = none-of (bitmap_at t named.0.id c.name) (sym (ap (λ (o : Option ℕ). is_some (option_and_then (λ i. bitmap_at t i c.name) o)) id) ∙ fresh);
       room = not-refused _ _ asks.1.1.1.1.1.1.0;
     }
@@ -156,7 +156,7 @@ none-mapped : (found : Option Bitmap) → option_map bitmap_of found ≡ None �
 none-mapped None h = refl
 none-mapped (Some row) h = absurd cc
 
-pub never-refused : (t : Table) (rows : List Bitmap) (c : BitmapAdd (List ℕ)) → AreBitmapsOf t.bitmaps rows → refusal_of t untold (command.BitmapAdd c) ≡ None
+pub never-refused : (t : RunTable) (rows : List Bitmap) (c : BitmapAdd (List ℕ)) → AreBitmapsOf t.bitmaps rows → refusal_to t told_none (command.BitmapAdd c) ≡ None
     → add_refusal rows (id_or 0 t (Some c.node)) c.name (amount_or 65536 c.granularity) ≡ None
 never-refused t rows c was none =
     let asked = add-asked t c none in
@@ -169,7 +169,7 @@ never-refused t rows c was none =
 
 -- ---- every command
 
-merges-follow : (t : Table) (node target : List ℕ) (sources : SeenSources) (u : Table) (rows : List Bitmap) → AreBitmapsOf u.bitmaps rows
+merges-follow : (t : RunTable) (node target : List ℕ) (sources : SeenSources) (u : RunTable) (rows : List Bitmap) → AreBitmapsOf u.bitmaps rows
     → FollowChanges u rows (bitmaps_merged t node target sources rows) (merges t node target sources)
 unfolding changed
 merges-follow t node target [] u rows was = follow-none u rows was
@@ -180,8 +180,8 @@ merges-follow t node target (s ∷ sources) u rows was =
     (bitmaps_merged t node target sources next) (merges t node target sources)
     (merges-follow t node target sources u next (merged-bitmaps (id_or 0 t (Some node)) target u.bitmaps rows was _))
 
-pub command-follow : (t : Table) (rows : List Bitmap) (c : Cmd) (new : Option Bitmap) → AreBitmapsOf t.bitmaps rows → is_of_bitmaps c ≡ true
-    → refusal_of t untold c ≡ None → IsNewFor t c new → FollowChanges t rows (bitmaps_after t c new rows) (command_edits t untold c)
+pub command-follow : (t : RunTable) (rows : List Bitmap) (c : Cmd) (new : Option Bitmap) → AreBitmapsOf t.bitmaps rows → is_of_bitmaps c ≡ true
+    → refusal_to t told_none c ≡ None → IsNewFor t c new → FollowChanges t rows (bitmaps_after t c new rows) (command_edits t told_none c)
 unfolding edits_of
 command-follow t rows (command.BitmapAdd c) None was is none new = absurd (new tt)
 command-follow t rows (command.BitmapAdd c) (Some row) was is none new =
@@ -198,10 +198,10 @@ command-follow t rows (command.BitmapDisable c) new was is none fits = follow-tu
 command-follow t rows (command.BitmapMerge c) new was is none fits = merges-follow t c.node c.target c.bitmaps t rows was
 command-follow t rows _ new was is none fits = absurd cc
 
-pub after-follow : (t : Table) (old now : List Bitmap) (c : Cmd) → AreBitmapsOf t.bitmaps old → is_of_bitmaps c ≡ true
-    → refusal_of t untold c ≡ None → AreAfter t c old now → FollowChanges t old now (command_edits t untold c)
+pub after-follow : (t : RunTable) (old now : List Bitmap) (c : Cmd) → AreBitmapsOf t.bitmaps old → is_of_bitmaps c ≡ true
+    → refusal_to t told_none c ≡ None → AreAfter t c old now → FollowChanges t old now (command_edits t told_none c)
 after-follow t old now c was is none after =
-    subst (λ (rows : List Bitmap). FollowChanges t old rows (command_edits t untold c)) (sym after.are) (command-follow t old c after.new was is none after.is_new)
+    subst (λ (rows : List Bitmap). FollowChanges t old rows (command_edits t told_none c)) (sym after.are) (command-follow t old c after.new was is none after.is_new)
 
 -- ---- calls that may refuse
 
@@ -267,7 +267,7 @@ module _ {A : Type 0} (rows now : List Bitmap) (test : Bitmap → Bool) (free : 
       at (Err e) (inr none) done refused = refused ∙ sym (absent-without test rows none)
 
 -- the rows that a command names
-pub same-named : (t : Table) (P : (Bitmap → Bool) → List Bitmap) (id : ℕ) (node said-node name said-name : List ℕ)
+pub same-named : (t : RunTable) (P : (Bitmap → Bool) → List Bitmap) (id : ℕ) (node said-node name said-name : List ℕ)
     → id ≡ id_or 0 t (Some node) → node ≡ said-node → name ≡ said-name → P (is_named id name) ≡ P (is_named (id_or 0 t (Some said-node)) said-name)
 same-named t P id node said-node name said-name is first second =
     ap (λ (n : ℕ). P (is_named n name)) (is ∙ ap (λ (m : List ℕ). id_or 0 t (Some m)) first)
@@ -299,7 +299,7 @@ counts-more rows i row items count less at free is was =
 
 -- ---- a merge, one source after another
 
-pub merged-more : (t : Table) (node target : List ℕ) (s : Source (List ℕ)) (rest : SeenSources) (old now : List Bitmap) (to from : ℕ) (into name : List ℕ)
+pub merged-more : (t : RunTable) (node target : List ℕ) (s : Source (List ℕ)) (rest : SeenSources) (old now : List Bitmap) (to from : ℕ) (into name : List ℕ)
     → to ≡ id_or 0 t (Some node) → into ≡ target → from ≡ id_or 0 t (Some (source_node node s)) → name ≡ source_name s
     → now ≡ with_source old to into (find_row old from name) → bitmaps_merged t node target rest now ≡ bitmaps_merged t node target (s ∷ rest) old
 merged-more t node target s rest old now to from into name is_to is_into is_from is_name is =

@@ -21,17 +21,17 @@ use Rattle.qmp_rules.specs.declared.refusal.Refusal.TheVariants as refusal
 use Rattle.qmp_rules.specs.declared.rows.Device.{Device}
 use Rattle.qmp_rules.specs.declared.rows.NodeRecord.{NodeRecord}
 use Rattle.qmp_rules.specs.declared.told.Told.{Told}
-use Rattle.qmp_rules.specs.Table.{Table, node_named, device_named}
+use Rattle.qmp_rules.specs.Table.{RunTable, node_named, device_named}
 use Rattle.qmp_rules.specs.Asks.{is_file}
 use Rattle.qmp_rules.specs.Changes.{all_changed}
 use Rattle.qmp_asks.specs.CommandAsks.{is_built}
-use Rattle.qmp_rules.specs.Edits.{edits_of, created_change, spoiled, raw_edits, qcow2_edits, added_edits, uses, of_row, device_uses, new_device}
+use Rattle.qmp_rules.specs.Edits.{edits_of, created_change, spoiled, raw_edits, qcow2_edits, added_edits, file_uses, of_row, device_uses, new_device}
 use Rattle.qmp_asks.specs.NodeAsks.{is_read_only, backing_name}
-use Rattle.qmp_rules.specs.Answers.{answer, answer_by, command_edits, left_by, refusal_of}
+use Rattle.qmp_rules.specs.Answers.{answer, answer_by, command_edits, left_by, refusal_to}
 use Rattle.flat_machine.specs.Bitmaps.{AreBitmapsOf, FollowChanges, dirty_in}
 use Rattle.flat_machine.specs.Recording.{dirty_after}
 use Rattle.flat_machine.proofs.BitmapRows.{leaves_bitmaps, follow-all}
-use Rattle.world_parts.specs.Face.{Face, dirty_of}
+use Rattle.world_parts.specs.Face.{WorldSeen, dirty_of}
 use Rattle.world_commands.specs.Leaving.{LeavesBitmaps}
 use Rattle.world_commands.proofs.CarryComes.{built_accepted}
 
@@ -46,7 +46,7 @@ keeps_bitmaps (command.BitmapDisable c) = false
 keeps_bitmaps (command.BitmapMerge c) = false
 keeps_bitmaps c = true
 
-pub kept-bitmaps : (t : Table) (c : Cmd) (first : Option Refusal) (old now : List Bitmap) → keeps_bitmaps c ≡ true → now ≡ old → LeavesBitmaps t c first old now
+pub kept-bitmaps : (t : RunTable) (c : Cmd) (first : Option Refusal) (old now : List Bitmap) → keeps_bitmaps c ≡ true → now ≡ old → LeavesBitmaps t c first old now
 kept-bitmaps t c (Some cause) old now keeps same = same
 kept-bitmaps t (command.BlockdevDel name) None old now keeps same = absurd cc
 kept-bitmaps t (command.BitmapAdd c) None old now keeps same = absurd cc
@@ -66,7 +66,7 @@ both (x ∷ xs) ys first later = at (leaves_bitmaps x) first (λ h. both xs ys h
     at true h rest = rest h
     at false h rest = h
 
-module _ (t : Table) (told : Told) where
+module _ (t : RunTable) (told : Told) where
   raw-leaves : (name : List ℕ) (read_only : Bool) (raw : AddRaw (List ℕ)) (file : FileRef (List ℕ)) → list_all leaves_bitmaps (raw_edits t told name read_only raw file) ≡ true
   raw-leaves name read_only raw (file_ref.Name file) = refl
   raw-leaves name read_only raw (file_ref.Inline file) = refl
@@ -92,7 +92,7 @@ module _ (t : Table) (told : Told) where
   spoiled-leaves (created.Qcow2 c) = refl
   spoiled-leaves created.Unknown = refl
 
-  uses-leaves : (name : Option (List ℕ)) → list_all leaves_bitmaps (uses name) ≡ true
+  uses-leaves : (name : Option (List ℕ)) → list_all leaves_bitmaps (file_uses name) ≡ true
   uses-leaves None = refl
   uses-leaves (Some name) = refl
 
@@ -101,7 +101,7 @@ module _ (t : Table) (told : Told) where
   device-leaves c None = refl
   device-leaves c (Some row) = both (device_uses row) (change.AddDevice (new_device t c row) row.id ∷ []) (used (is_file row)) refl
     where
-      used : (b : Bool) → list_all leaves_bitmaps (if b then uses row.filename else []) ≡ true
+      used : (b : Bool) → list_all leaves_bitmaps (if b then file_uses row.filename else []) ≡ true
       used true = uses-leaves row.filename
       used false = refl
 
@@ -131,21 +131,21 @@ module _ (t : Table) (told : Told) where
   left-leaves (command.BlockdevCreate c) cause = create-left c cause
   left-leaves _ cause = refl
 
-  by-leaves : (c : Cmd) (found : Option Refusal) → keeps_bitmaps c ≡ true → refusal_of t told c ≡ found → list_all leaves_bitmaps (answer_by t told c found).changes ≡ true
+  by-leaves : (c : Cmd) (found : Option Refusal) → keeps_bitmaps c ≡ true → refusal_to t told c ≡ found → list_all leaves_bitmaps (answer_by t told c found).changes ≡ true
   by-leaves c None keeps is = edits-leave c keeps (built_accepted t told c is)
   by-leaves c (Some cause) keeps is = left-leaves c cause
 
   pub left-follow : (c : Cmd) (rows : List Bitmap) → keeps_bitmaps c ≡ true → AreBitmapsOf t.bitmaps rows → FollowChanges t rows rows (answer t told c).changes
   unfolding answer
-  left-follow c rows keeps was = follow-all (answer t told c).changes t rows (by-leaves c (refusal_of t told c) keeps refl) was
+  left-follow c rows keeps was = follow-all (answer t told c).changes t rows (by-leaves c (refusal_to t told c) keeps refl) was
 
 -- the rows of the table that they leave
-pub left-listed : (t : Table) (told : Told) (c : Cmd) (rows : List Bitmap) (u : Table) → keeps_bitmaps c ≡ true → u ≡ all_changed t (answer t told c).changes
+pub left-listed : (t : RunTable) (told : Told) (c : Cmd) (rows : List Bitmap) (u : RunTable) → keeps_bitmaps c ≡ true → u ≡ all_changed t (answer t told c).changes
     → AreBitmapsOf t.bitmaps rows → AreBitmapsOf u.bitmaps rows
 left-listed t told c rows u keeps is was =
-    subst (λ (now : Table). AreBitmapsOf now.bitmaps rows) (sym is) (left-follow t told c rows keeps was).listed
+    subst (λ (now : RunTable). AreBitmapsOf now.bitmaps rows) (sym is) (left-follow t told c rows keeps was).listed
 
 -- what is dirty in a world after them
-pub left-dirty : (w v : Face) (told : Told) (c : Cmd) → keeps_bitmaps c ≡ true → v.bitmaps ≡ w.bitmaps → AreBitmapsOf w.table.bitmaps w.bitmaps
+pub left-dirty : (w v : WorldSeen) (told : Told) (c : Cmd) → keeps_bitmaps c ≡ true → v.bitmaps ≡ w.bitmaps → AreBitmapsOf w.table.bitmaps w.bitmaps
     → dirty_of v ≡ dirty_after w.table (dirty_of w) (answer w.table told c).changes
 left-dirty w v told c keeps same was = ap (map dirty_in) same ∙ (left-follow w.table told c w.bitmaps keeps was).dirty

@@ -19,11 +19,11 @@ use Rattle.qmp_rules.specs.declared.change.Change.{Change}
 use Rattle.qmp_rules.specs.declared.refusal.Refusal.{Refusal}
 use Rattle.qmp_rules.specs.declared.refusal.Refusal.TheVariants as refusal
 use Rattle.qmp_rules.specs.declared.told.Told.{Told}
-use Rattle.qmp_rules.specs.Table.{Table}
+use Rattle.qmp_rules.specs.Table.{RunTable}
 use Rattle.qmp_rules.specs.Changes.{all_changed}
 use Rattle.qmp_asks.specs.CommandAsks.{is_built}
 use Rattle.qmp_rules.specs.Edits.{spoiled}
-use Rattle.qmp_rules.specs.Answers.{Answer, answer, answer_by, refusal_of, unbuilt, left_by, returned, reply_data, line_text, line_answer, answer_for}
+use Rattle.qmp_rules.specs.Answers.{Answer, answer, answer_by, refusal_to, unbuilt, left_by, returned, answer_data, line_text, line_answer, answer_for}
 use Rattle.flat_machine.specs.State.{State, Guest}
 use Rattle.flat_machine.specs.Machine.{after}
 use Rattle.flat_machine.specs.Changed.{all_stepped}
@@ -47,13 +47,13 @@ use Rattle.flat_machine.proofs.Asked.{none-both}
 use Rattle.flat_machine.proofs.Resting.{answer_rests}
 use Rattle.flat_machine.proofs.Recorded.{all_stepped-dirty}
 use Rattle.flat_machine.specs.Recording.{dirty_after}
-use Rattle.world_parts.specs.Progress.{Progress, with_entry, ended_in}
-use Rattle.world_parts.specs.Face.{Face, contents_of, dirty_of, held, seen_state}
+use Rattle.world_parts.specs.Progress.{Progress, with_bare_entry, ended_in}
+use Rattle.world_parts.specs.Face.{WorldSeen, contents_of, dirty_of, held, seen_state}
 use Rattle.world_commands.specs.Counting.{RunsOn, IsReachedBy}
 use Rattle.world_commands.specs.Comes.{Comes, ShowsState}
 use Rattle.world_parts.specs.Saying.{IsSaid}
-use Rattle.world_commands.specs.Carrying.{IsCarried, IsCarriedIn, IsCaused, HasAnswerCause, counted, counts_of}
-use Rattle.world_parts.specs.Steps.{onward}
+use Rattle.world_commands.specs.Carrying.{IsCarried, IsCarriedIn, IsCaused, HasAnswerCause, with_counts, counts_of}
+use Rattle.world_parts.specs.Steps.{with_history}
 use Rattle.world_commands.specs.Tabling.{IsAnsweredBy}
 use Rattle.world_parts.proofs.InStep.{ended-push}
 use Rattle.world_commands.proofs.Coherence.{coherent-same}
@@ -71,21 +71,21 @@ use Rattle.world_commands.proofs.CarrySaid.{fault_of, CanBeTold, said_fault, sai
 -- ---- answers
 
 -- what is accepted is carried out so far
-pub built_accepted : (t : Table) (told : Told) (c : Cmd) → refusal_of t told c ≡ None → is_built c ≡ true
-unfolding refusal_of
+pub built_accepted : (t : RunTable) (told : Told) (c : Cmd) → refusal_to t told c ≡ None → is_built c ≡ true
+unfolding refusal_to
 built_accepted t told c none = at (is_built c) refl (none-both (unbuilt c) _ none).0
   where
     at : (b : Bool) → is_built c ≡ b → unbuilt c ≡ None → is_built c ≡ true
     at true known h = known
     at false known h = absurd (let bad : ⊥ = cc (rw known at h) in bad)
 
-plain-by : (t : Table) (told : Told) (c : Cmd) (first : Option Refusal) → refusal_of t told c ≡ first → list_all is_plain (answer_by t told c first).changes ≡ true
+plain-by : (t : RunTable) (told : Told) (c : Cmd) (first : Option Refusal) → refusal_to t told c ≡ first → list_all is_plain (answer_by t told c first).changes ≡ true
 plain-by t told c None is = edits_plain t told c (built_accepted t told c is)
 plain-by t told c (Some cause) is = left_plain t told c cause
 
-answer-plain : (t : Table) (told : Told) (c : Cmd) → list_all is_plain (answer t told c).changes ≡ true
+answer-plain : (t : RunTable) (told : Told) (c : Cmd) → list_all is_plain (answer t told c).changes ≡ true
 unfolding answer
-answer-plain t told c = plain-by t told c (refusal_of t told c) refl
+answer-plain t told c = plain-by t told c (refusal_to t told c) refl
 
 -- ---- its changes can be made
 
@@ -108,9 +108,9 @@ left-can s _ cause = tt
 can-change : (s : State) (c : Cmd) (told seen : Told) → Stands s → IsTold s c seen → answer s.table seen c ≡ answer s.table told c
     → AllCan s (answer s.table told c).changes
 unfolding answer
-can-change s c told seen stands is_told same = at (refusal_of s.table seen c) refl (refusal_of s.table told c) same
+can-change s c told seen stands is_told same = at (refusal_to s.table seen c) refl (refusal_to s.table told c) same
   where
-    at : (first : Option Refusal) → refusal_of s.table seen c ≡ first → (other : Option Refusal)
+    at : (first : Option Refusal) → refusal_to s.table seen c ≡ first → (other : Option Refusal)
         → answer_by s.table seen c first ≡ answer_by s.table told c other → AllCan s (answer_by s.table told c other).changes
     at None none None same = accepted_can s seen told c stands is_told.refusal none
     at (Some cause) some None same = absurd (let reply : Err cause ≡ Ok (returned s.table told c) = ap (λ (a : Answer). a.reply) same in cc reply)
@@ -118,7 +118,7 @@ can-change s c told seen stands is_told same = at (refusal_of s.table seen c) re
 
 -- ---- parts of the world
 
-pub runs-onward : (w u : Face) (f : Progress → Progress) → RunsOn w u → RunsOn w (onward u f)
+pub runs-onward : (w u : WorldSeen) (f : Progress → Progress) → RunsOn w u → RunsOn w (with_history u f)
 runs-onward w u f is = record {
   told = is.told;
   room = is.room;
@@ -129,13 +129,13 @@ runs-onward w u f is = record {
   devices = is.devices;
 }
 
-reached-onward : (w u : Face) (f : Progress → Progress) (fault : Option FaultAt) → IsReachedBy w u fault → IsReachedBy w (onward u f) fault
+reached-onward : (w u : WorldSeen) (f : Progress → Progress) (fault : Option FaultAt) → IsReachedBy w u fault → IsReachedBy w (with_history u f) fault
 reached-onward w u f None is = tt
 reached-onward w u f (Some fault) is = record { rise = is.rise; new = is.new; fits = is.fits }
 
 -- a refusal can be told: its numbers fit, and a name that isn't found has no blank
-module _ (w u : Face) (c : Cmd) (refusal' : Option Refusal) (is : IsCarried w u c refusal') where
-  tellable : (cause : Refusal) → refusal_of w.table is.told c ≡ Some cause → IsCaused w u c cause → IsTellable cause
+module _ (w u : WorldSeen) (c : Cmd) (refusal' : Option Refusal) (is : IsCarried w u c refusal') where
+  tellable : (cause : Refusal) → refusal_to w.table is.told c ≡ Some cause → IsCaused w u c cause → IsTellable cause
   tellable (refusal.NotFound name is_device) first caused = not_found_word w.table is.told c name is_device is.by_files first
   tellable (refusal.Io from.Store count) first caused = let low = caused.reached.fits in omega arith
   tellable (refusal.Io (from.Dev dev) count) first caused = let low = caused.reached.fits in (caused.numbered, omega arith)
@@ -143,13 +143,13 @@ module _ (w u : Face) (c : Cmd) (refusal' : Option Refusal) (is : IsCarried w u 
   tellable (refusal.NoSpace dev) first caused = caused.numbered
   tellable _ first caused = tt
 
-  can-by : (first : Option Refusal) → refusal_of w.table is.told c ≡ first → HasAnswerCause w u c first → CanBeTold (answer_by w.table is.told c first).reply
+  can-by : (first : Option Refusal) → refusal_to w.table is.told c ≡ first → HasAnswerCause w u c first → CanBeTold (answer_by w.table is.told c first).reply
   can-by None none caused = tt
   can-by (Some cause) some caused = tellable cause some caused
 
   pub can_tell : CanBeTold (answer w.table is.told c).reply
   unfolding answer
-  can_tell = can-by (refusal_of w.table is.told c) refl (rw is.answered is.cause)
+  can_tell = can-by (refusal_to w.table is.told c) refl (rw is.answered is.cause)
 
   -- the fault that the reply names was reached
   reached-by : (first : Option Refusal) → HasAnswerCause w u c first → IsReachedBy w u (fault_of (answer_by w.table is.told c first).reply)
@@ -159,7 +159,7 @@ module _ (w u : Face) (c : Cmd) (refusal' : Option Refusal) (is : IsCarried w u 
 
   pub reply-reached : IsReachedBy w u (fault_of (answer w.table is.told c).reply)
   unfolding answer
-  reply-reached = reached-by (refusal_of w.table is.told c) (rw is.answered is.cause)
+  reply-reached = reached-by (refusal_to w.table is.told c) (rw is.answered is.cause)
 
   module _ (given text : List ℕ) (line : command_at given ≡ Ok c) (said : IsSaid given (answer w.table is.told c).reply text)
       (dirty : dirty_of u ≡ dirty_after w.table (dirty_of w) (answer w.table is.told c).changes) where
@@ -169,7 +169,7 @@ module _ (w u : Face) (c : Cmd) (refusal' : Option Refusal) (is : IsCarried w u 
     names-reached : (number : ℕ) → IsReachedBy w u (named_in (reply number))
     names-reached number = rw (said_fault given _ text said can_tell) reply-reached
 
-    accepted-none : (first : Option Refusal) → refusal_of w.table is.told c ≡ first → is_accepted text ≡ true → refusal' ≡ None
+    accepted-none : (first : Option Refusal) → refusal_to w.table is.told c ≡ first → is_accepted text ≡ true → refusal' ≡ None
     unfolding answer
     accepted-none None none known = sym is.answered ∙ none
     accepted-none (Some cause) some known =
@@ -178,11 +178,11 @@ module _ (w u : Face) (c : Cmd) (refusal' : Option Refusal) (is : IsCarried w u 
         absurd (false≢true (sym no ∙ known))
 
     -- with what is dirty, be it asked for or not
-    counted-own : answer w.table is.told c ≡ line_answer w.table (counted is.told (counts_of w)) given
+    counted-own : answer w.table is.told c ≡ line_answer w.table (with_counts is.told (counts_of w)) given
     unfolding line_answer
     counted-own =
         sym (answer-counted is.told (counts_of w) w.table c (λ prints. sym (is.counts prints)))
-        ∙ sym (ap (answer_for w.table (counted is.told (counts_of w)) given) line)
+        ∙ sym (ap (answer_for w.table (with_counts is.told (counts_of w)) given) line)
 
     -- a line that is accepted found the disks calm that it marks
     marked : AreCalm w.table w.progress.guests (reply_marks w.table given text)
@@ -191,16 +191,16 @@ module _ (w u : Face) (c : Cmd) (refusal' : Option Refusal) (is : IsCarried w u 
         at : (b : Bool) → is_accepted text ≡ b → AreCalm w.table w.progress.guests (reply_marks w.table given text)
         at false known = rw known (All-nil (IsCalm w.table w.progress.guests))
         at true known =
-            let found = is.calm (accepted-none (refusal_of w.table is.told c) refl known) in
+            let found = is.calm (accepted-none (refusal_to w.table is.told c) refl known) in
             rw (known, line) (marked_calm w.table w.progress.guests c found)
 
     answered-by : IsAnsweredBy w.progress.guests w.table (dirty_of w) given text u.table (dirty_of u)
     unfolding line_text
     answered-by = record {
       calm = marked;
-      told = counted is.told (counts_of w);
+      told = with_counts is.told (counts_of w);
       counts = refl;
-      says = said.prints ∙ ap (λ (a : Answer). compact_text (reply_data (id_at given) a.reply)) counted-own;
+      says = said.prints ∙ ap (λ (a : Answer). compact_text (answer_data (id_at given) a.reply)) counted-own;
       changes = is.table ∙ ap (λ (a : Answer). all_changed w.table a.changes) counted-own;
       dirty = dirty ∙ ap (λ (a : Answer). dirty_after w.table (dirty_of w) a.changes) counted-own;
     }
@@ -218,25 +218,25 @@ module _ (w u : Face) (c : Cmd) (refusal' : Option Refusal) (is : IsCarried w u 
       changes = (answer w.table is.told c).changes
 
       told-same : answer s.table in-it.seen c ≡ answer s.table is.told c
-      told-same = subst (λ (t : Table). answer t in-it.seen c ≡ answer t is.told c) (sym same-table) in-it.same
+      told-same = subst (λ (t : RunTable). answer t in-it.seen c ≡ answer t is.told c) (sym same-table) in-it.same
 
       stands-for : edits_by s text (command_at given) ≡ changes
       stands-for =
-          let can = subst (λ (t : Table). CanBeTold (answer t is.told c).reply) (sym same-table) can_tell in
-          let says = subst (λ (t : Table). IsSaid given (answer t is.told c).reply text) (sym same-table) said in
+          let can = subst (λ (t : RunTable). CanBeTold (answer t is.told c).reply) (sym same-table) can_tell in
+          let says = subst (λ (t : RunTable). IsSaid given (answer t is.told c).reply text) (sym same-table) said in
           said_edits s is.told in-it.seen c given text line in-it.is_told told-same says can
-          ∙ ap (λ (t : Table). (answer t is.told c).changes) same-table
+          ∙ ap (λ (t : RunTable). (answer t is.told c).changes) same-table
 
       -- ---- the entry fits
 
       line-same : answer w.table is.told c ≡ line_answer s.table in-it.seen given
       unfolding line_answer
       line-same =
-          sym in-it.same ∙ ap (λ (t : Table). answer t in-it.seen c) (sym same-table) ∙ sym (ap (answer_for s.table in-it.seen given) line)
+          sym in-it.same ∙ ap (λ (t : RunTable). answer t in-it.seen c) (sym same-table) ∙ sym (ap (answer_for s.table in-it.seen given) line)
 
       text-said : text ≡ line_text s.table in-it.seen given
       unfolding line_text
-      text-said = said.prints ∙ ap (λ (a : Answer). compact_text (reply_data (id_at given) a.reply)) line-same
+      text-said = said.prints ∙ ap (λ (a : Answer). compact_text (answer_data (id_at given) a.reply)) line-same
 
       answers : IsAnswer s given (Some c) text
       answers = record {
@@ -248,7 +248,7 @@ module _ (w u : Face) (c : Cmd) (refusal' : Option Refusal) (is : IsCarried w u 
 
       calm : (number : ℕ) → AreCalm s.table s.guests (marks_of s (reply number))
       calm number =
-          subst (λ (t : Table). AreCalm t s.guests (reply_marks t given text)) (sym same-table)
+          subst (λ (t : RunTable). AreCalm t s.guests (reply_marks t given text)) (sym same-table)
           (subst (λ (rows : List Guest). AreCalm w.table rows (reply_marks w.table given text)) (sym shows.guests.guests_are) marked)
 
       -- ---- the state after it
@@ -260,11 +260,11 @@ module _ (w u : Face) (c : Cmd) (refusal' : Option Refusal) (is : IsCarried w u 
       now = all_stepped s changes
 
       table-now : now.table ≡ u.table
-      table-now = all_tables changes s ∙ ap (λ (t : Table). all_changed t changes) same-table ∙ sym is.table
+      table-now = all_tables changes s ∙ ap (λ (t : RunTable). all_changed t changes) same-table ∙ sym is.table
 
       can-all : AllCan s changes
       can-all =
-          subst (λ (t : Table). AllCan s (answer t is.told c).changes) same-table
+          subst (λ (t : RunTable). AllCan s (answer t is.told c).changes) same-table
           (can-change s c is.told in-it.seen shows.stands.stands in-it.is_told told-same)
 
       agrees : Agrees (bytes_named o.files) now (contents_of u)
@@ -272,12 +272,12 @@ module _ (w u : Face) (c : Cmd) (refusal' : Option Refusal) (is : IsCarried w u 
 
       suit-all : AllSuit s changes
       suit-all =
-          subst (λ (t : Table). AllSuit s (answer t is.told c).changes) same-table
+          subst (λ (t : RunTable). AllSuit s (answer t is.told c).changes) same-table
           (answer_suits s c is.told in-it.seen shows.stands in-it.is_told told-same)
 
       keep-all : AllKeepImages s changes
       keep-all =
-          subst (λ (t : Table). AllKeepImages s (answer t is.told c).changes) same-table
+          subst (λ (t : RunTable). AllKeepImages s (answer t is.told c).changes) same-table
           (answer_keeps_images s is.told c shows.stands.stands (built_accepted s.table is.told c))
 
       images : ShowsImages now (contents_of u)
@@ -285,15 +285,15 @@ module _ (w u : Face) (c : Cmd) (refusal' : Option Refusal) (is : IsCarried w u 
           all_images_keep (bytes_named o.files) changes s (contents_of w) (contents_of u) suit-all can-all keep-all shows.stands.stands shows.contents
           in-it.performed shows.images
 
-      shows-now : (number : ℕ) → StandsAtRest now → ShowsState o now (onward u (with_entry (reply number)))
+      shows-now : (number : ℕ) → StandsAtRest now → ShowsState o now (with_history u (with_bare_entry (reply number)))
       shows-now number stands =
           let kept = all_keep changes s plain in
           let tables = all_tables_keep changes s.table plain in
-          let moved : now.table.started ≡ s.table.started = ap (λ (t : Table). t.started) (all_tables changes s) ∙ tables.started in
+          let moved : now.table.started ≡ s.table.started = ap (λ (t : RunTable). t.started) (all_tables changes s) ∙ tables.started in
           record {
             stands = stands;
             dirty =
-                all_stepped-dirty changes s ∙ ap (λ (t : Table). dirty_after t s.dirty changes) same-table
+                all_stepped-dirty changes s ∙ ap (λ (t : RunTable). dirty_after t s.dirty changes) same-table
                 ∙ ap (λ ds. dirty_after w.table ds changes) shows.dirty ∙ sym dirty;
             table = record {
               room_is = kept.room ∙ shows.table.room_is ∙ sym is.runs.room;
@@ -318,26 +318,26 @@ module _ (w u : Face) (c : Cmd) (refusal' : Option Refusal) (is : IsCarried w u 
           }
 
     fits-now : (number : ℕ) (o : Opening) → IsNotDone (seen_state w) 0 → (s : State) (told : is_some w.files ≡ true) (shows : ShowsState o s w)
-        → Fits s (reply number) × AreCalm s.table s.guests (marks_of s (reply number)) × ShowsState o (after s (reply number)) (onward u (with_entry (reply number)))
+        → Fits s (reply number) × AreCalm s.table s.guests (marks_of s (reply number)) × ShowsState o (after s (reply number)) (with_history u (with_bare_entry (reply number)))
     fits-now number o not_done s told shows =
         let means = stands-for o s told shows in
         let stays = subst (λ (cs : List Change). StandsAtRest (all_stepped s cs)) means (answer_rests s given (Some c) text shows.stands (answers o s told shows)) in
-        let after_it = subst (λ (cs : List Change). ShowsState o (all_stepped s cs) (onward u (with_entry (reply number)))) (sym means) (shows-now o s told shows number stays) in
+        let after_it = subst (λ (cs : List Change). ShowsState o (all_stepped s cs) (with_history u (with_bare_entry (reply number)))) (sym means) (shows-now o s told shows number stays) in
         ((shows.table.rest, (undone o s w 0 shows not_done, answers o s told shows)), calm o s told shows number, after_it)
 
     -- ---- the whole
 
     pub carried_comes : (is_some u.files ≡ true → ImagesAreSound u.table (held u)) → (number : ℕ) (o : Opening) → IsNotDone (seen_state w) 0 → Comes o w
-        → Comes o (onward u (with_entry (reply number)))
-    carried_comes sound number o not_done comes = comes-push o w (onward u (with_entry (reply number))) (reply number) comes (record {
+        → Comes o (with_history u (with_bare_entry (reply number)))
+    carried_comes sound number o not_done comes = comes-push o w (with_history u (with_bare_entry (reply number))) (reply number) comes (record {
       events = ap (λ (p : Progress). p.log.events ++ reply number ∷ []) is.progress;
-      names = ap (λ (t : Table). t.guests) is.table ∙ (all_tables_keep (answer w.table is.told c).changes w.table (answer-plain w.table is.told c)).guests;
+      names = ap (λ (t : RunTable). t.guests) is.table ∙ (all_tables_keep (answer w.table is.told c).changes w.table (answer-plain w.table is.told c)).guests;
       told = is.runs.told;
       guests = ap (λ (p : Progress). p.guests) is.progress;
       table = answered-by;
       counted = λ was. (let first = is.runs.first in let now = is.runs.store in omega arith);
-      coherent = λ was. coherent-same u.table u.nodes u.opened u.progress (is.coherent was) (with_entry (reply number) u.progress) refl;
-      licensed = licensed-on w (onward u (with_entry (reply number))) (runs-onward w u (with_entry (reply number)) is.runs) w.progress.log.events (reply number) (reached-onward w u (with_entry (reply number)) (named_in (reply number)) (names-reached number));
+      coherent = λ was. coherent-same u.table u.nodes u.opened u.progress (is.coherent was) (with_bare_entry (reply number) u.progress) refl;
+      licensed = licensed-on w (with_history u (with_bare_entry (reply number))) (runs-onward w u (with_bare_entry (reply number)) is.runs) w.progress.log.events (reply number) (reached-onward w u (with_bare_entry (reply number)) (named_in (reply number)) (names-reached number));
       sound = sound;
       fits = λ told s shows. fits-now number o not_done s told shows;
     })

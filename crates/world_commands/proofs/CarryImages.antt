@@ -27,12 +27,12 @@ use Rattle.qmp_rules.specs.declared.rows.Device.{Device}
 use Rattle.qmp_rules.specs.declared.rows.NodeRecord.{NodeRecord}
 use Rattle.qmp_asks.specs.declared.look.Look.TheVariants as look
 use Rattle.qmp_rules.specs.declared.told.Told.{Told}
-use Rattle.qmp_rules.specs.Table.{Table, device_named, node_named}
-use Rattle.qmp_rules.specs.Answers.{Answer, answer, answer_by, refusal_of, command_edits, left_by, returned, out_of_turn, refusal_behind}
+use Rattle.qmp_rules.specs.Table.{RunTable, device_named, node_named}
+use Rattle.qmp_rules.specs.Answers.{Answer, answer, answer_by, refusal_to, command_edits, left_by, returned, out_of_turn, refusal_behind}
 use Rattle.qmp_asks.specs.Asking.{Asking, place}
-use Rattle.qmp_rules.specs.Asks.{holds, first, is_file}
+use Rattle.qmp_rules.specs.Asks.{holds, first_unmet_ask, is_file}
 use Rattle.qmp_asks.specs.CommandAsks.{asks_of, is_built}
-use Rattle.qmp_rules.specs.Edits.{edits_of, created_change, spoiled, file_of_node, raw_edits, qcow2_edits, added_edits, uses, file_under, with_inline, goes_with_node, row_gone, of_row, device_uses, new_device, merges, snapshot_edits}
+use Rattle.qmp_rules.specs.Edits.{edits_of, created_change, spoiled, file_of_node, raw_edits, qcow2_edits, added_edits, file_uses, file_under, with_inline, goes_with_node, row_gone, of_row, device_uses, new_device, merges, snapshot_edits}
 use Rattle.qmp_rules.specs.Changes.{changed}
 use Rattle.qmp_asks.specs.NodeAsks.{is_read_only, backing_name, snapshot_values, snapshot_names, snapshot_rest}
 use Rattle.qmp_rules.specs.Places.{IsOfTable}
@@ -52,7 +52,7 @@ use Rattle.flat_machine.proofs.ImagesChanged.{closed_open, formatted_open}
 use Rattle.flat_machine.proofs.Snapshots.{snapshot_nodes, edits_are}
 use Rattle.flat_machine.proofs.SnapshotStates.{moved_files}
 use Rattle.flat_machine.proofs.Suited.{accepted_suits}
-use Rattle.world_commands.specs.Carrying.{is_failed}
+use Rattle.world_commands.specs.Carrying.{is_io_refusal}
 use Rattle.world_commands.proofs.CarryNames.{either-of}
 use Rattle.world_commands.proofs.CreatedAsked.{asked}
 
@@ -63,42 +63,42 @@ AreOfTable [] = Unit {0}
 AreOfTable (a ∷ asks) = IsOfTable a × AreOfTable asks
 
 -- what the table refuses for names no failed call
-place-quiet : (cause : Refusal) (p : ℕ) → place_of cause ≡ Some p → is_failed cause ≡ false
+place-quiet : (cause : Refusal) (p : ℕ) → place_of cause ≡ Some p → is_io_refusal cause ≡ false
 place-quiet (refusal.Io source count) p placed = absurd cc
 place-quiet (refusal.NoSpace dev) p placed = absurd cc
 place-quiet _ p placed = refl
 
-untimely-quiet : (b : Bool) (cause : Refusal) → out_of_turn false b ≡ Some cause → is_failed cause ≡ false
+untimely-quiet : (b : Bool) (cause : Refusal) → out_of_turn false b ≡ Some cause → is_io_refusal cause ≡ false
 untimely-quiet true cause is = absurd (let bad : ⊥ = cc is in bad)
 untimely-quiet false cause is = let same : refusal.Negotiation false ≡ cause = cc is in rw (← same) refl
 
-quiet-one : (t : Table) (told : Told) (a : Asking) (cause : Refusal) → IsOfTable a → holds t told a ≡ Some cause → is_failed cause ≡ false
+quiet-one : (t : RunTable) (told : Told) (a : Asking) (cause : Refusal) → IsOfTable a → holds t told a ≡ Some cause → is_io_refusal cause ≡ false
 quiet-one t told (ask.Files what) cause is here = absurd is
 quiet-one t told a cause is here = place-quiet cause (place a) (has_place t told a tt cause here)
 
 -- where a call failed, the asks before it were met
-met-before : (t : Table) (told : Told) (xs ys : List Asking) (cause : Refusal) → AreOfTable xs → is_failed cause ≡ true
-    → first t told (xs ++ ys) ≡ Some cause → NoneHolds t told xs
+met-before : (t : RunTable) (told : Told) (xs ys : List Asking) (cause : Refusal) → AreOfTable xs → is_io_refusal cause ≡ true
+    → first_unmet_ask t told (xs ++ ys) ≡ Some cause → NoneHolds t told xs
 met-before t told [] ys cause of failed is = tt
 met-before t told (a ∷ xs) ys cause of failed is =
     by_hold (holds t told a) refl is (λ rest. met-before t told xs ys cause of.1 failed rest)
   where
-    by_hold : (found : Option Refusal) → holds t told a ≡ found → or_else found (first t told (xs ++ ys)) ≡ Some cause
-        → (first t told (xs ++ ys) ≡ Some cause → NoneHolds t told xs) → NoneHolds t told (a ∷ xs)
+    by_hold : (found : Option Refusal) → holds t told a ≡ found → or_else found (first_unmet_ask t told (xs ++ ys)) ≡ Some cause
+        → (first_unmet_ask t told (xs ++ ys) ≡ Some cause → NoneHolds t told xs) → NoneHolds t told (a ∷ xs)
     by_hold None e rest later = (e, later rest)
     by_hold (Some other) e rest later =
         let same : other ≡ cause = cc rest in
         let quiet = quiet-one t told a other of.0 e in
-        absurd (let bad : ⊥ = cc (sym failed ∙ ap is_failed (sym same) ∙ quiet) in bad)
+        absurd (let bad : ⊥ = cc (sym failed ∙ ap is_io_refusal (sym same) ∙ quiet) in bad)
 
-failed-asks : (t : Table) (told : Told) (c : BlockdevCreate (List ℕ)) (cause : Refusal) → is_failed cause ≡ true
-    → refusal_of t told (command.BlockdevCreate c) ≡ Some cause → first t told (asks_of (command.BlockdevCreate c)) ≡ Some cause
-unfolding refusal_of
+failed-asks : (t : RunTable) (told : Told) (c : BlockdevCreate (List ℕ)) (cause : Refusal) → is_io_refusal cause ≡ true
+    → refusal_to t told (command.BlockdevCreate c) ≡ Some cause → first_unmet_ask t told (asks_of (command.BlockdevCreate c)) ≡ Some cause
+unfolding refusal_to
 failed-asks t told c cause failed is = elim (either-of (out_of_turn false t.negotiated) _ cause is) [
   | inl turn ↦
       let quiet = untimely-quiet t.negotiated cause turn in
       absurd (let bad : ⊥ = cc (sym failed ∙ quiet) in bad)
-  | inr rest ↦ elim (either-of (first t told (asks_of (command.BlockdevCreate c))) (refusal_behind t told (command.BlockdevCreate c)) cause rest) [
+  | inr rest ↦ elim (either-of (first_unmet_ask t told (asks_of (command.BlockdevCreate c))) (refusal_behind t told (command.BlockdevCreate c)) cause rest) [
     | inl asked ↦ asked
     | inr behind ↦ absurd (let bad : ⊥ = cc behind in bad)
   ]
@@ -106,8 +106,8 @@ failed-asks t told c cause failed is = elim (either-of (out_of_turn false t.nego
 
 -- ---- a file that is spoiled is open
 
-spoiled_file : (t : Table) (told : Told) (id : List ℕ) (c : CreateFile (List ℕ)) (cause : Refusal) → is_failed cause ≡ true
-    → refusal_of t told (command.BlockdevCreate (record { job_id = id; options = created.File c })) ≡ Some cause → IsOpenlyKnown t c.filename
+spoiled_file : (t : RunTable) (told : Told) (id : List ℕ) (c : CreateFile (List ℕ)) (cause : Refusal) → is_io_refusal cause ≡ true
+    → refusal_to t told (command.BlockdevCreate (record { job_id = id; options = created.File c })) ≡ Some cause → IsOpenlyKnown t c.filename
 unfolding asks_of
 spoiled_file t told id c cause failed is =
     let asks : NoneHolds t told front = met-before t told front (ask.Files look.File ∷ []) cause (tt, (tt, (tt, (tt, (tt, tt))))) failed
@@ -127,8 +127,8 @@ named-file : (filename : Option (List ℕ)) → IsSome filename → filename ≡
 named-file None h = absurd (let bad : ⊥ = cc h in bad)
 named-file (Some name) h = refl
 
-spoiled_image : (t : Table) (told : Told) (id : List ℕ) (c : CreateQcow2 (List ℕ)) (cause : Refusal) → TableStands t → is_failed cause ≡ true
-    → refusal_of t told (command.BlockdevCreate (record { job_id = id; options = created.Qcow2 c })) ≡ Some cause → IsOpenlyKnown t (file_of_node t c.file)
+spoiled_image : (t : RunTable) (told : Told) (id : List ℕ) (c : CreateQcow2 (List ℕ)) (cause : Refusal) → TableStands t → is_io_refusal cause ≡ true
+    → refusal_to t told (command.BlockdevCreate (record { job_id = id; options = created.Qcow2 c })) ≡ Some cause → IsOpenlyKnown t (file_of_node t c.file)
 unfolding asks_of
 spoiled_image t told id c cause stands failed is =
     let asks : NoneHolds t told front = met-before t told front (ask.Files look.Format ∷ []) cause
@@ -201,7 +201,7 @@ abbrev moves : Cmd → Bool
 moves (command.BlockdevSnapshot c) = true
 moves c = false
 
-module _ (t : Table) (told : Told) where
+module _ (t : RunTable) (told : Told) where
   raw-leaves : (name : List ℕ) (read_only : Bool) (raw : AddRaw (List ℕ)) (file : FileRef (List ℕ)) → list_all leaves_images (raw_edits t told name read_only raw file) ≡ true
   raw-leaves name read_only raw (file_ref.Name file) = refl
   raw-leaves name read_only raw (file_ref.Inline file) = refl
@@ -222,7 +222,7 @@ module _ (t : Table) (told : Told) where
   created-leaves (created.Qcow2 c) = refl
   created-leaves created.Unknown = refl
 
-  uses-leaves : (name : Option (List ℕ)) → list_all leaves_images (uses name) ≡ true
+  uses-leaves : (name : Option (List ℕ)) → list_all leaves_images (file_uses name) ≡ true
   uses-leaves None = refl
   uses-leaves (Some name) = refl
 
@@ -234,14 +234,14 @@ module _ (t : Table) (told : Told) where
 
   gone-leaves : (found : Option NodeRecord) → list_all leaves_images (of_row (row_gone t) found) ≡ true
   gone-leaves None = refl
-  gone-leaves (Some row) = appended (uses (file_under t row)) (change.RemoveNode row.id ∷ with_inline t row.id) (uses-leaves (file_under t row)) (inline-leaves row.id)
+  gone-leaves (Some row) = appended (file_uses (file_under t row)) (change.RemoveNode row.id ∷ with_inline t row.id) (uses-leaves (file_under t row)) (inline-leaves row.id)
 
   device-leaves : (c : DeviceAdd (List ℕ)) (found : Option NodeRecord)
       → list_all leaves_images (of_row (λ row. device_uses row ++ change.AddDevice (new_device t c row) row.id ∷ []) found) ≡ true
   device-leaves c None = refl
   device-leaves c (Some row) = appended (device_uses row) (change.AddDevice (new_device t c row) row.id ∷ []) (used (is_file row)) refl
     where
-      used : (b : Bool) → list_all leaves_images (if b then uses row.filename else []) ≡ true
+      used : (b : Bool) → list_all leaves_images (if b then file_uses row.filename else []) ≡ true
       used true = uses-leaves row.filename
       used false = refl
 
@@ -281,7 +281,7 @@ snapshot-keeps s told c h asks =
     subst (AllKeepImages s) (sym (edits_are s.table c of))
     (tt, ((λ n name image is. moved_files s of.node of.overlay of.over of.bare h n name is), tt))
 
-edits-keep : (s : State) (told : Told) (c : Cmd) → Stands s → refusal_of s.table told c ≡ None → is_built c ≡ true
+edits-keep : (s : State) (told : Told) (c : Cmd) → Stands s → refusal_to s.table told c ≡ None → is_built c ≡ true
     → AllKeepImages s (command_edits s.table told c)
 unfolding asks_of edits_of
 edits-keep s told (command.BlockdevSnapshot c) h none built = snapshot-keeps s told c h (asked s.table told (command.BlockdevSnapshot c) none)
@@ -308,20 +308,20 @@ left-suit s _ cause = tt
 pub answer_suits : (s : State) (c : Cmd) (told seen : Told) → StandsAtRest s → IsTold s c seen → answer s.table seen c ≡ answer s.table told c
     → AllSuit s (answer s.table told c).changes
 unfolding answer
-answer_suits s c told seen rests is_told same = at (refusal_of s.table seen c) refl (refusal_of s.table told c) same
+answer_suits s c told seen rests is_told same = at (refusal_to s.table seen c) refl (refusal_to s.table told c) same
   where
-    at : (first : Option Refusal) → refusal_of s.table seen c ≡ first → (other : Option Refusal)
+    at : (first : Option Refusal) → refusal_to s.table seen c ≡ first → (other : Option Refusal)
         → answer_by s.table seen c first ≡ answer_by s.table told c other → AllSuit s (answer_by s.table told c other).changes
     at None none None same = accepted_suits s seen told c rests is_told.refusal none
     at (Some cause) some None same = absurd (let reply : Err cause ≡ Ok (returned s.table told c) = ap (λ (a : Answer). a.reply) same in cc reply)
     at first is (Some cause) same = left-suit s c cause
 
-left-keeps : (s : State) (told : Told) (c : Cmd) (cause : Refusal) → TableStands s.table → refusal_of s.table told c ≡ Some cause
+left-keeps : (s : State) (told : Told) (c : Cmd) (cause : Refusal) → TableStands s.table → refusal_to s.table told c ≡ Some cause
     → AllKeepImages s (left_by s.table c cause)
 left-keeps s told (command.BlockdevCreate c) (refusal.Io source count) stands is = by_options c.job_id c.options is
   where
     by_options : (id : List ℕ) (options : Created (List ℕ))
-        → refusal_of s.table told (command.BlockdevCreate (record { job_id = id; options = options })) ≡ Some (refusal.Io source count)
+        → refusal_to s.table told (command.BlockdevCreate (record { job_id = id; options = options })) ≡ Some (refusal.Io source count)
         → AllKeepImages s (spoiled s.table options)
     by_options id (created.File o) is = (spoiled_file s.table told id o (refusal.Io source count) refl is, tt)
     by_options id (created.Qcow2 o) is = (spoiled_image s.table told id o (refusal.Io source count) stands refl is, tt)
@@ -329,7 +329,7 @@ left-keeps s told (command.BlockdevCreate c) (refusal.Io source count) stands is
 left-keeps s told (command.BlockdevCreate c) (refusal.NoSpace dev) stands is = by_options c.job_id c.options is
   where
     by_options : (id : List ℕ) (options : Created (List ℕ))
-        → refusal_of s.table told (command.BlockdevCreate (record { job_id = id; options = options })) ≡ Some (refusal.NoSpace dev)
+        → refusal_to s.table told (command.BlockdevCreate (record { job_id = id; options = options })) ≡ Some (refusal.NoSpace dev)
         → AllKeepImages s (spoiled s.table options)
     by_options id (created.File o) is = (spoiled_file s.table told id o (refusal.NoSpace dev) refl is, tt)
     by_options id (created.Qcow2 o) is = (spoiled_image s.table told id o (refusal.NoSpace dev) stands refl is, tt)
@@ -337,11 +337,11 @@ left-keeps s told (command.BlockdevCreate c) (refusal.NoSpace dev) stands is = b
 left-keeps s told (command.BlockdevCreate c) _ stands is = tt
 left-keeps s told _ cause stands is = tt
 
-pub answer_keeps_images : (s : State) (told : Told) (c : Cmd) → Stands s → (refusal_of s.table told c ≡ None → is_built c ≡ true)
+pub answer_keeps_images : (s : State) (told : Told) (c : Cmd) → Stands s → (refusal_to s.table told c ≡ None → is_built c ≡ true)
     → AllKeepImages s (answer s.table told c).changes
 unfolding answer
-answer_keeps_images s told c h built = at (refusal_of s.table told c) refl
+answer_keeps_images s told c h built = at (refusal_to s.table told c) refl
   where
-    at : (first : Option Refusal) → refusal_of s.table told c ≡ first → AllKeepImages s (answer_by s.table told c first).changes
+    at : (first : Option Refusal) → refusal_to s.table told c ≡ first → AllKeepImages s (answer_by s.table told c first).changes
     at None is = edits-keep s told c h is (built is)
     at (Some cause) is = left-keeps s told c cause h.table is

@@ -26,19 +26,19 @@ use Rattle.qmp_asks.specs.declared.look.Look.{Look}
 use Rattle.qmp_rules.specs.declared.told.Stopped.{Stopped}
 use Rattle.qmp_rules.specs.declared.told.Told.{Told}
 use Rattle.qmp_asks.specs.Naming.{is_name, is_name_byte}
-use Rattle.qmp_rules.specs.Table.{Table}
+use Rattle.qmp_rules.specs.Table.{RunTable}
 use Rattle.qmp_rules.specs.Refusals.{refused, or_else}
 use Rattle.qmp_asks.specs.Asking.{Asking, place, same_look}
-use Rattle.qmp_rules.specs.Asks.{holds, first, told_at}
+use Rattle.qmp_rules.specs.Asks.{holds, first_unmet_ask, told_at}
 use Rattle.qmp_asks.specs.BitmapAsks.{all_source_names, merge_names, merge_rest, source_name, source_node, sources_equal, sources_found, sources_free}
 use Rattle.qmp_asks.specs.NodeAsks.{add_asks, create_asks}
 use Rattle.qmp_rules.specs.Places.{IsOfTable}
 use Rattle.qmp_asks.specs.CommandAsks.{asks_of, is_built, command_name, negotiates}
-use Rattle.qmp_rules.specs.Edits.{edits_of, ids}
+use Rattle.qmp_rules.specs.Edits.{edits_of, node_ids}
 use Rattle.blk_graph.specs.declared.edge.Conflict.{Conflict}
 use Rattle.blk_graph.specs.Rule.{first_conflict}
 use Rattle.qmp_rules.specs.Changes.{all_changed}
-use Rattle.qmp_rules.specs.Answers.{unbuilt, out_of_turn, refusal_of, refusal_behind, conflict_after, conflict_in, conflict_refusal, rewires, untold}
+use Rattle.qmp_rules.specs.Answers.{unbuilt, out_of_turn, refusal_to, refusal_behind, conflict_after, conflict_in, conflict_refusal, rewires, told_none}
 use Rattle.qmp_rules.proofs.PlaceLemmas.{has_place}
 use Rattle.world_commands.specs.Carrying.{StopsByFiles, IsOfFiles}
 use Rattle.world_commands.proofs.CarryWords.{is_word, and-both}
@@ -108,7 +108,7 @@ among text [] are is = absurd is
 among text (other ∷ known) are (inl same) = rw same are.0
 among text (other ∷ known) are (inr later) = among text known are.1 later
 
-module _ (t : Table) (told : Told) (of_files : StopsByFiles told.stopped) (name : List ℕ) (is_device : Bool) where
+module _ (t : RunTable) (told : Told) (of_files : StopsByFiles told.stopped) (name : List ℕ) (is_device : Bool) where
   not-of-files : (what : Look) (stopped : Option Stopped) → StopsByFiles stopped → told_at what stopped ≡ Some (refusal.NotFound name is_device) → ⊥
   not-of-files what None files is = let bad : ⊥ = cc is in bad
   not-of-files what (Some stopped) files is = at (same_look what stopped.look) is
@@ -152,15 +152,15 @@ module _ (t : Table) (told : Told) (of_files : StopsByFiles told.stopped) (name 
   named-words a known words none = words
 
   pub asked-word : (asks : List Asking) (known : List (Option (List ℕ))) → AreWords known → Covered known asks
-      → first t told asks ≡ Some (refusal.NotFound name is_device) → is_word name ≡ true
+      → first_unmet_ask t told asks ≡ Some (refusal.NotFound name is_device) → is_word name ≡ true
   asked-word [] known words covered is = absurd cc
   asked-word (a ∷ asks) known words covered is =
       let parts = found-parts (finds_of a) known (Covered (named_of a ++ known) asks) covered in
       at (holds t told a) refl parts.0 (λ none. asked-word asks (named_of a ++ known) (named-words a known words none) parts.1) is
     where
       at : (found : Option Refusal) → holds t told a ≡ found → AreAmong (finds_of a) known
-          → (holds t told a ≡ None → first t told asks ≡ Some (refusal.NotFound name is_device) → is_word name ≡ true)
-          → or_else found (first t told asks) ≡ Some (refusal.NotFound name is_device) → is_word name ≡ true
+          → (holds t told a ≡ None → first_unmet_ask t told asks ≡ Some (refusal.NotFound name is_device) → is_word name ≡ true)
+          → or_else found (first_unmet_ask t told asks) ≡ Some (refusal.NotFound name is_device) → is_word name ≡ true
       at None none found later now = later none now
       at (Some cause) some found later now =
           let same : cause ≡ refusal.NotFound name is_device = cc now in
@@ -280,10 +280,10 @@ covered _ built = absurd cc
 
 -- ---- the whole command
 
-not-conflict : (t : Table) (on : Bool) (changes : List Change) (name : List ℕ) (is_device : Bool) → conflict_after on t changes ≡ Some (refusal.NotFound name is_device) → ⊥
+not-conflict : (t : RunTable) (on : Bool) (changes : List Change) (name : List ℕ) (is_device : Bool) → conflict_after on t changes ≡ Some (refusal.NotFound name is_device) → ⊥
 unfolding conflict_in
 not-conflict t false changes name is_device is = let bad : ⊥ = cc is in bad
-not-conflict t true changes name is_device is = at (first_conflict (ids (all_changed t changes)) (all_changed t changes).edges) is
+not-conflict t true changes name is_device is = at (first_conflict (node_ids (all_changed t changes)) (all_changed t changes).edges) is
   where
     at : (pair : Option Conflict) → option_map (conflict_refusal (all_changed t changes)) pair ≡ Some (refusal.NotFound name is_device) → ⊥
     at None h = let bad : ⊥ = cc h in bad
@@ -315,20 +315,20 @@ turn-is true false name is_device is = let bad : ⊥ = cc is in bad
 turn-is false true name is_device is = let bad : ⊥ = cc is in bad
 turn-is false false name is_device is = let bad : ⊥ = cc is in bad
 
-behind-is : (t : Table) (told : Told) (c : Cmd) (name : List ℕ) (is_device : Bool) → is_built c ≡ true → refusal_behind t told c ≡ Some (refusal.NotFound name is_device) → ⊥
+behind-is : (t : RunTable) (told : Told) (c : Cmd) (name : List ℕ) (is_device : Bool) → is_built c ≡ true → refusal_behind t told c ≡ Some (refusal.NotFound name is_device) → ⊥
 behind-is t told (command.Transaction c) name is_device built is = let bad : ⊥ = cc built in bad
-behind-is t told c name is_device built is = not-conflict t (rewires c) (edits_of t untold c) name is_device is
+behind-is t told c name is_device built is = not-conflict t (rewires c) (edits_of t told_none c) name is_device is
 
-pub not_found_word : (t : Table) (told : Told) (c : Cmd) (name : List ℕ) (is_device : Bool) → StopsByFiles told.stopped
-    → refusal_of t told c ≡ Some (refusal.NotFound name is_device) → is_word name ≡ true
-unfolding refusal_of
+pub not_found_word : (t : RunTable) (told : Told) (c : Cmd) (name : List ℕ) (is_device : Bool) → StopsByFiles told.stopped
+    → refusal_to t told c ≡ Some (refusal.NotFound name is_device) → is_word name ≡ true
+unfolding refusal_to
 not_found_word t told c name is_device files is = elim (built-unless c _ _ is) [
   | inr bad ↦ absurd (unbuilt-is c name is_device bad)
   | inl built ↦ elim (either-of (unbuilt c) _ _ is) [
     | inl bad ↦ absurd (unbuilt-is c name is_device bad)
     | inr in_turn ↦ elim (either-of (out_of_turn (negotiates c) t.negotiated) _ _ in_turn) [
       | inl bad ↦ absurd (turn-is (negotiates c) t.negotiated name is_device bad)
-      | inr asked ↦ elim (either-of (first t told (asks_of c)) _ _ asked) [
+      | inr asked ↦ elim (either-of (first_unmet_ask t told (asks_of c)) _ _ asked) [
         | inl found ↦ asked-word t told files name is_device (asks_of c) [] tt (covered c built) found
         | inr behind ↦ absurd (behind-is t told c name is_device built behind)
       ]

@@ -11,16 +11,16 @@ use Rattle.qmp_codec.specs.Replies.{returned_data}
 use Rattle.qmp_rules.specs.declared.refusal.Refusal.{Refusal}
 use Rattle.qmp_rules.specs.declared.refusal.Refusal.TheVariants as refusal
 use Rattle.qmp_rules.specs.declared.told.Told.{Told}
-use Rattle.qmp_rules.specs.Table.{Table}
+use Rattle.qmp_rules.specs.Table.{RunTable}
 use Rattle.qmp_rules.specs.Refusals.{refusal_text, refusal_class}
-use Rattle.qmp_rules.specs.Answers.{Answer, answer, answer_by, refusal_of, command_edits, returned, left_by}
+use Rattle.qmp_rules.specs.Answers.{Answer, answer, answer_by, refusal_to, command_edits, returned, left_by}
 use Rattle.flat_machine.specs.State.{State}
 use Rattle.flat_machine.specs.Sights.{IsTold}
 use Rattle.flat_machine.specs.Licence.{named_in_text}
 use Rattle.flat_machine.specs.EventLicence.{full_in_text}
 use Rattle.flat_machine.specs.Replies.{desc_of, edits_by, failed_edits}
 use Rattle.flat_machine.proofs.Answered.{reads_refused, accepted_edits, refused_edits, failed_call_edits}
-use Rattle.world_commands.specs.Carrying.{fault_named, is_failed}
+use Rattle.world_commands.specs.Carrying.{fault_named, is_io_refusal}
 use Rattle.world_parts.specs.Saying.{IsSaid}
 use Rattle.world_commands.proofs.CarryWords.{IsTellable, full_named, tells, says_call}
 
@@ -58,20 +58,20 @@ said_full given (Err cause) text said can =
 
 -- ---- the changes that it stands for
 
-call-left : (t : Table) (c : Cmd) (cause : Refusal) → is_failed cause ≡ true → failed_edits t c ≡ left_by t c cause
+call-left : (t : RunTable) (c : Cmd) (cause : Refusal) → is_io_refusal cause ≡ true → failed_edits t c ≡ left_by t c cause
 call-left t (command.BlockdevCreate c) (refusal.Io source count) call = refl
 call-left t (command.BlockdevCreate c) (refusal.NoSpace dev) call = refl
 call-left t (command.BlockdevCreate c) _ call = absurd cc
 call-left t _ cause call = refl
 
-pub no-call-left : (t : Table) (c : Cmd) (cause : Refusal) → is_failed cause ≡ false → [] ≡ left_by t c cause
+pub no-call-left : (t : RunTable) (c : Cmd) (cause : Refusal) → is_io_refusal cause ≡ false → [] ≡ left_by t c cause
 no-call-left t (command.BlockdevCreate c) (refusal.Io source count) call = absurd cc
 no-call-left t (command.BlockdevCreate c) (refusal.NoSpace dev) call = absurd cc
 no-call-left t (command.BlockdevCreate c) _ call = refl
 no-call-left t _ cause call = refl
 
 -- answers that are the same change the same
-same-edits : (t : Table) (seen told : Told) (c : Cmd) (first : Option Refusal) → answer_by t seen c first ≡ answer_by t told c None
+same-edits : (t : RunTable) (seen told : Told) (c : Cmd) (first : Option Refusal) → answer_by t seen c first ≡ answer_by t told c None
     → command_edits t seen c ≡ command_edits t told c
 same-edits t seen told c None same = ap (λ (a : Answer). a.changes) same
 same-edits t seen told c (Some cause) same = absurd (let reply : Err cause ≡ Ok (returned t told c) = ap (λ (a : Answer). a.reply) same in cc reply)
@@ -83,10 +83,10 @@ module _ (s : State) (told seen : Told) (c : Cmd) (given text : List ℕ) (line 
   unfolding answer
   said-by None same said can =
       accepted_edits s seen c text (id_at given) (returned s.table told c) is_told said.reads
-      ∙ same-edits s.table seen told c (refusal_of s.table seen c) same
-  said-by (Some cause) same said can = by (is_failed cause) refl
+      ∙ same-edits s.table seen told c (refusal_to s.table seen c) same
+  said-by (Some cause) same said can = by (is_io_refusal cause) refl
     where
-      by : (b : Bool) → is_failed cause ≡ b → edits_by s text (Ok c) ≡ left_by s.table c cause
+      by : (b : Bool) → is_io_refusal cause ≡ b → edits_by s text (Ok c) ≡ left_by s.table c cause
       by true call =
           failed_call_edits s c text (id_at given) (refusal_class cause) (refusal_text cause) said.reads (says_call cause can ∙ call)
           ∙ call-left s.table c cause call
@@ -98,4 +98,4 @@ module _ (s : State) (told seen : Told) (c : Cmd) (given text : List ℕ) (line 
       → CanBeTold (answer s.table told c).reply → edits_by s text (command_at given) ≡ (answer s.table told c).changes
   unfolding answer
   said_edits same said can =
-      ap (edits_by s text) line ∙ said-by (refusal_of s.table told c) same said can
+      ap (edits_by s text) line ∙ said-by (refusal_to s.table told c) same said can

@@ -21,10 +21,10 @@ use Rattle.qmp_rules.specs.declared.refusal.Refusal.TheVariants as refusal
 use Rattle.qmp_rules.specs.declared.rows.NodeRecord.{NodeRecord}
 use Rattle.qmp_rules.specs.declared.rows.Device.{Device}
 use Rattle.qmp_rules.specs.declared.told.Told.{Told}
-use Rattle.qmp_rules.specs.Table.{Table, device_named, node_named}
+use Rattle.qmp_rules.specs.Table.{RunTable, device_named, node_named}
 use Rattle.qmp_rules.specs.Changes.{changed, all_changed}
 use Rattle.qmp_asks.specs.CommandAsks.{is_built}
-use Rattle.qmp_rules.specs.Edits.{edits_of, created_change, spoiled, raw_edits, qcow2_edits, added_edits, uses, file_under, with_inline, goes_with_node, row_gone, of_row, device_uses, new_device, merges}
+use Rattle.qmp_rules.specs.Edits.{edits_of, created_change, spoiled, raw_edits, qcow2_edits, added_edits, file_uses, file_under, with_inline, goes_with_node, row_gone, of_row, device_uses, new_device, merges}
 use Rattle.qmp_rules.specs.Asks.{is_file}
 use Rattle.qmp_asks.specs.NodeAsks.{is_read_only, backing_name}
 use Rattle.qmp_rules.specs.Answers.{command_edits, left_by}
@@ -66,7 +66,7 @@ both p (x ∷ xs) ys first later = at (p x) first (λ h. both p xs ys h later)
     at true h rest = rest h
     at false h rest = h
 
-module _ (t : Table) (told : Told) where
+module _ (t : RunTable) (told : Told) where
   raw-plain : (name : List ℕ) (read_only : Bool) (raw : AddRaw (List ℕ)) (file : FileRef (List ℕ)) → list_all is_plain (raw_edits t told name read_only raw file) ≡ true
   raw-plain name read_only raw (file_ref.Name file) = refl
   raw-plain name read_only raw (file_ref.Inline file) = refl
@@ -87,7 +87,7 @@ module _ (t : Table) (told : Told) where
   created-plain (created.Qcow2 c) = refl
   created-plain created.Unknown = refl
 
-  uses-plain : (name : Option (List ℕ)) → list_all is_plain (uses name) ≡ true
+  uses-plain : (name : Option (List ℕ)) → list_all is_plain (file_uses name) ≡ true
   uses-plain None = refl
   uses-plain (Some name) = refl
 
@@ -99,14 +99,14 @@ module _ (t : Table) (told : Told) where
 
   gone-plain : (found : Option NodeRecord) → list_all is_plain (of_row (row_gone t) found) ≡ true
   gone-plain None = refl
-  gone-plain (Some row) = both is_plain (uses (file_under t row)) (change.RemoveNode row.id ∷ with_inline t row.id) (uses-plain (file_under t row)) (inline-plain row.id)
+  gone-plain (Some row) = both is_plain (file_uses (file_under t row)) (change.RemoveNode row.id ∷ with_inline t row.id) (uses-plain (file_under t row)) (inline-plain row.id)
 
   device-plain : (c : DeviceAdd (List ℕ)) (found : Option NodeRecord)
       → list_all is_plain (of_row (λ row. device_uses row ++ change.AddDevice (new_device t c row) row.id ∷ []) found) ≡ true
   device-plain c None = refl
   device-plain c (Some row) = both is_plain (device_uses row) (change.AddDevice (new_device t c row) row.id ∷ []) (used (is_file row)) refl
     where
-      used : (b : Bool) → list_all is_plain (if b then uses row.filename else []) ≡ true
+      used : (b : Bool) → list_all is_plain (if b then file_uses row.filename else []) ≡ true
       used true = uses-plain row.filename
       used false = refl
 
@@ -161,7 +161,7 @@ pub record Keeps (s v : State) : Type 0 where
   pub ending : v.ending ≡ s.ending
   pub ended : v.ended ≡ s.ended
 
-pub record KeepsTable (t u : Table) : Type 0 where
+pub record KeepsTable (t u : RunTable) : Type 0 where
   pub guests : u.guests ≡ t.guests
   pub jobs : u.jobs ≡ t.jobs
   pub started : u.started ≡ t.started
@@ -234,7 +234,7 @@ beside-keeps s (change.Attach overlay node) plain = record { room = refl; guests
 beside-keeps s (change.Move from to but) plain = same s
 beside-keeps s _ plain = absurd cc
 
-table-keeps : (t : Table) (c : Change) → is_plain c ≡ true → KeepsTable t (changed t c)
+table-keeps : (t : RunTable) (c : Change) → is_plain c ≡ true → KeepsTable t (changed t c)
 unfolding changed
 table-keeps t change.Negotiate plain = record { guests = refl; jobs = refl; started = refl }
 table-keeps t (change.KeepId id) plain = record { guests = refl; jobs = refl; started = refl }
@@ -280,7 +280,7 @@ all_keep (c ∷ changes) s plain =
     (record { room = one.room; guests = one.guests; starts = one.starts; ending = one.ending; ended = one.ended })
     (all_keep changes (stepped s c) p.1)
 
-pub all_tables_keep : (changes : List Change) (t : Table) → list_all is_plain changes ≡ true → KeepsTable t (all_changed t changes)
+pub all_tables_keep : (changes : List Change) (t : RunTable) → list_all is_plain changes ≡ true → KeepsTable t (all_changed t changes)
 all_tables_keep [] t plain = record { guests = refl; jobs = refl; started = refl }
 all_tables_keep (c ∷ changes) t plain =
     let p = parts c changes plain in

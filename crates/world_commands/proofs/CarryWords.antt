@@ -15,7 +15,7 @@ use Rattle.qmp_rules.specs.Refusals.{refusal_text}
 use Rattle.flat_machine.specs.Licence.{value_of, named_in_words}
 use Rattle.flat_machine.specs.EventLicence.{full_in_words}
 use Rattle.flat_machine.specs.Replies.{is_failed_call}
-use Rattle.world_commands.specs.Carrying.{fault_named, is_failed}
+use Rattle.world_commands.specs.Carrying.{fault_named, is_io_refusal}
 
 -- ---- numbers
 
@@ -263,7 +263,7 @@ name-calls name is =
     rw (device, store, full) refl
 
 -- The words are those of a failed call just where one failed.
-pub says_call : (cause : Refusal) → IsTellable cause → is_failed_call (refusal_text cause) ≡ is_failed cause
+pub says_call : (cause : Refusal) → IsTellable cause → is_failed_call (refusal_text cause) ≡ is_io_refusal cause
 says_call (refusal.Negotiation again) is = negotiation-calls again
 says_call (refusal.NotFound name is_device) is = name-calls name is
 says_call (refusal.Io from.Store count) is = refl

@@ -10,12 +10,12 @@ use Rattle.blk_base.specs.declared.fault.FaultFrom.TheVariants.{Dev}
 use Rattle.blk_base.specs.declared.file.Opened.{Opened}
 use Rattle.blk_graph.proofs.Members.{Contains-here, Contains-there}
 use Rattle.blk_history.specs.Fold.{With}
-use Rattle.blk_nodes.specs.Nodes.{DeviceState}
-use Rattle.qmp_rules.specs.Table.{Table}
-use Rattle.world_commands.specs.Closing.{AreBack, HasFlushFault, HasGivenBack, IsBack, IsToldBack, count_back, first_of, store_in}
+use Rattle.blk_nodes.specs.Nodes.{DeviceSeen}
+use Rattle.qmp_rules.specs.Table.{RunTable}
+use Rattle.world_commands.specs.Closing.{AreBack, HasFlushFault, HasGivenBack, IsBack, IsToldBack, count_back, earlier_fault, store_in}
 use Rattle.world_parts.specs.Coherent.{AreHeld, IsOut}
 use Rattle.world_commands.specs.Counting.{HaveNotFallen}
-use Rattle.world_parts.specs.Face.{Face, count_of_opening, counts_from, counts_now}
+use Rattle.world_parts.specs.Face.{WorldSeen, count_of_opening, counts_from, counts_now}
 use Rattle.world_parts.specs.Steps.{StoreSeen}
 use Rattle.world_commands.proofs.CloseLemmas.{held-back, now, set-other, set-same}
 use Rattle.world_commands.proofs.CountLemmas.{count-out, counts-at, there, with-of}
@@ -32,7 +32,7 @@ module _ {A : Type 0} (of : Opened → A) (kept : (o : Opened) (count : ℕ) →
       by_test true is rest = rw is (ap (λ (a : A). a ∷ map of opened) (kept o count))
       by_test false is rest = rw is (ap (λ (more : List A). of o ∷ more) rest)
 
-  same-all : (t : Table) (devices : List DeviceState) (old new : StoreSeen) (fault : Option FaultAt) → AreBack t devices old new fault → map of new.opened ≡ map of old.opened
+  same-all : (t : RunTable) (devices : List DeviceSeen) (old new : StoreSeen) (fault : Option FaultAt) → AreBack t devices old new fault → map of new.opened ≡ map of old.opened
   same-all t [] old new fault back = ap (λ (s : StoreSeen). map of s.opened) back.0
   same-all t (device ∷ devices) old new fault back =
       let one = back.3 in
@@ -42,7 +42,7 @@ module _ {A : Type 0} (of : Opened → A) (kept : (o : Opened) (count : ℕ) →
 
 -- ---- one device
 
-module _ (t : Table) (device : DeviceState) (rest : List DeviceState) (old new : StoreSeen) (fault : Option FaultAt) (back : IsBack t device old new fault)
+module _ (t : RunTable) (device : DeviceSeen) (rest : List DeviceSeen) (old new : StoreSeen) (fault : Option FaultAt) (back : IsBack t device old new fault)
     (held : AreHeld t (device ∷ rest) old.opened) where
   abbrev out : IsOut t old.opened device
   out = held.each device (Contains-here device rest)
@@ -113,7 +113,7 @@ slice-map f (x ∷ xs) zero = refl
 slice-map f (x ∷ xs) (suc n) = slice-map f xs n
 
 -- each opening is back in the end
-all-counts : (t : Table) (devices : List DeviceState) (old new : StoreSeen) (fault : Option FaultAt) → AreBack t devices old new fault → AreHeld t devices old.opened
+all-counts : (t : RunTable) (devices : List DeviceSeen) (old new : StoreSeen) (fault : Option FaultAt) → AreBack t devices old new fault → AreHeld t devices old.opened
     → HaveNotFallen (counts_from devices 0 old.opened) (map count_back new.opened)
 all-counts t [] old new fault back held n count at =
     let was = counted-at [] old.opened 0 n count at in
@@ -135,7 +135,7 @@ all-counts t (device ∷ devices) old new fault back held n count at =
     (all-counts t devices back.0 new back.2 back.4 (held-back t device devices old back.0 back.1 back.3 held)) n count at
 
 -- an opening that is back stays as it is
-stays-all : (t : Table) (devices : List DeviceState) (old new : StoreSeen) (fault : Option FaultAt) → AreBack t devices old new fault → AreHeld t devices old.opened
+stays-all : (t : RunTable) (devices : List DeviceSeen) (old new : StoreSeen) (fault : Option FaultAt) → AreBack t devices old new fault → AreHeld t devices old.opened
     → (n : ℕ) (o : Opened) → slice_get old.opened n ≡ Some o → IsSome o.returned → slice_get new.opened n ≡ Some o
 stays-all t [] old new fault back held n o at some = ap (λ (s : StoreSeen). slice_get s.opened n) back.0 ∙ at
 stays-all t (device ∷ devices) old new fault back held n o at some =
@@ -143,14 +143,14 @@ stays-all t (device ∷ devices) old new fault back held n o at some =
     (stays-one t device devices old back.0 back.1 back.3 held n o at some) some
 
 -- the fault of one of these devices
-record IsOfOne (devices : List DeviceState) (opened : List Opened) (fault : FaultAt) : Type 0 where
-  device : DeviceState
+record IsOfOne (devices : List DeviceSeen) (opened : List Opened) (fault : FaultAt) : Type 0 where
+  device : DeviceSeen
   within : Contains devices device
   from : fault.from ≡ Dev device.number
   count : With (slice_get opened device.number.0) (λ o. o.returned ≡ Some fault.count)
   rose : Rose device.faults fault.count
 
-all-told : (t : Table) (devices : List DeviceState) (old new : StoreSeen) (fault : Option FaultAt) → AreBack t devices old new fault → AreHeld t devices old.opened
+all-told : (t : RunTable) (devices : List DeviceSeen) (old new : StoreSeen) (fault : Option FaultAt) → AreBack t devices old new fault → AreHeld t devices old.opened
     → (f : FaultAt) → fault ≡ Some f → IsOfOne devices new.opened f
 all-told t [] old new fault back held f is = absurd (let bad : ⊥ = cc (sym back.1 ∙ is) in bad)
 all-told t (device ∷ devices) old new fault back held f is =
@@ -161,10 +161,10 @@ all-told t (device ∷ devices) old new fault back held f is =
 
     by_first : (first : Option FaultAt) → back.1 ≡ first → (back.2 ≡ Some f → IsOfOne devices new.opened f) → IsOfOne (device ∷ devices) new.opened f
     by_first None none more =
-        let later = more (sym (back.5 ∙ ap (λ (x : Option FaultAt). first_of x back.2) none) ∙ is) in
+        let later = more (sym (back.5 ∙ ap (λ (x : Option FaultAt). earlier_fault x back.2) none) ∙ is) in
         record { device = later.device; within = Contains-there device devices later.device later.within; from = later.from; count = later.count; rose = later.rose }
     by_first (Some named) some more =
-        let same : named ≡ f = same_Some named f (sym (back.5 ∙ ap (λ (x : Option FaultAt). first_of x back.2) some) ∙ is) in
+        let same : named ≡ f = same_Some named f (sym (back.5 ∙ ap (λ (x : Option FaultAt). earlier_fault x back.2) some) ∙ is) in
         let cause : HasFlushFault device back.3.count (Some named) = subst (HasFlushFault device back.3.count) some back.3.cause in
         let place = stays-all t devices back.0 new back.2 back.4 step device.number.0 (record (held.each device (Contains-here device devices)).opening { returned = Some back.3.count })
         (own-place t device devices old back.0 back.1 back.3 held) refl in
@@ -180,7 +180,7 @@ all-told t (device ∷ devices) old new fault back held f is =
 
 -- ---- a world
 
-pub given-back : (w : Face) (new : StoreSeen) (fault : Option FaultAt) → AreBack w.table w.nodes.devices (store_in w) new fault
+pub given-back : (w : WorldSeen) (new : StoreSeen) (fault : Option FaultAt) → AreBack w.table w.nodes.devices (store_in w) new fault
     → AreHeld w.table w.nodes.devices w.opened → HasGivenBack w new.opened fault
 given-back w new fault back held = record {
   names = same-all (λ (o : Opened). o.name) (λ o count. refl) w.table w.nodes.devices (store_in w) new fault back;
@@ -203,12 +203,12 @@ given-back w new fault back held = record {
           rose = with-of (slice_get (counts_now w).devices one.device.number.0) one.device.faults (λ c. Rose c f.count) at one.rose;
         }
 
-pub faults-kept : (t : Table) (devices : List DeviceState) (old new : StoreSeen) (fault : Option FaultAt) → AreBack t devices old new fault → new.faults ≡ old.faults
+pub faults-kept : (t : RunTable) (devices : List DeviceSeen) (old new : StoreSeen) (fault : Option FaultAt) → AreBack t devices old new fault → new.faults ≡ old.faults
 faults-kept t [] old new fault back = ap (λ (s : StoreSeen). s.faults) back.0
 faults-kept t (device ∷ devices) old new fault back =
     faults-kept t devices back.0 new back.2 back.4 ∙ ap (λ (s : StoreSeen). s.faults) back.3.kept
 
-pub room-kept : (t : Table) (devices : List DeviceState) (old new : StoreSeen) (fault : Option FaultAt) → AreBack t devices old new fault → new.room ≡ old.room
+pub room-kept : (t : RunTable) (devices : List DeviceSeen) (old new : StoreSeen) (fault : Option FaultAt) → AreBack t devices old new fault → new.room ≡ old.room
 room-kept t [] old new fault back = ap (λ (s : StoreSeen). s.room) back.0
 room-kept t (device ∷ devices) old new fault back =
     room-kept t devices back.0 new back.2 back.4 ∙ ap (λ (s : StoreSeen). s.room) back.3.kept

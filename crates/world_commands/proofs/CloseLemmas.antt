@@ -14,13 +14,13 @@ use Rattle.blk_graph.proofs.CycleLemmas.{and-left, and-right}
 use Rattle.blk_graph.proofs.Members.{Contains-nil, Contains-cases, Contains-here, Contains-there}
 use Rattle.blk_graph.proofs.RoleLemmas.{tail_pairs, head_pairs}
 use Rattle.blk_history.specs.Fold.{With}
-use Rattle.blk_nodes.specs.Nodes.{DeviceState, AreTold}
-use Rattle.qmp_rules.specs.Table.{Table}
+use Rattle.blk_nodes.specs.Nodes.{DeviceSeen, AreTold}
+use Rattle.qmp_rules.specs.Table.{RunTable}
 use Rattle.flat_machine.specs.State.{filename_of}
 use Rattle.flat_machine.proofs.Finds.{bytes_eq-same}
-use Rattle.world_commands.specs.Closing.{IsBack, AreBack, HasGivenBack, IsClosed, AreFlushed, IsFlushedIn, IsOutFor, first_of, flushed_by, is_file_of, held_left, store_in}
+use Rattle.world_commands.specs.Closing.{IsBack, AreBack, HasGivenBack, EndsWorld, AreFlushed, IsFlushedIn, IsOutFor, earlier_fault, flushed_by, is_file_of, held_left, store_in}
 use Rattle.world_parts.specs.Coherent.{AreHeld, IsOut}
-use Rattle.world_parts.specs.Face.{Face, told_bytes}
+use Rattle.world_parts.specs.Face.{WorldSeen, told_bytes}
 use Rattle.world_parts.specs.Steps.{StoreSeen, seen_in_run}
 use Rattle.world_parts.specs.Stores.{StoreInRun}
 use Rattle.world_commands.proofs.CountLemmas.{DifferInNumber, same-number}
@@ -69,7 +69,7 @@ is-out name (x ∷ opened) (suc n) o there is = or-true (is_out_as name x) (is-o
     or-true true later = refl
     or-true false later = later
 
-module _ (t : Table) (device : DeviceState) (rest : List DeviceState) (opened : List Opened) (was : AreHeld t (device ∷ rest) opened) (name : List ℕ) (count : ℕ)
+module _ (t : RunTable) (device : DeviceSeen) (rest : List DeviceSeen) (opened : List Opened) (was : AreHeld t (device ∷ rest) opened) (name : List ℕ) (count : ℕ)
     (named : filename_of t device.node ≡ Some name) where
   abbrev out : IsOut t opened device
   out = was.each device (Contains-here device rest)
@@ -122,7 +122,7 @@ module _ (t : Table) (device : DeviceState) (rest : List DeviceState) (opened : 
           faults = is.faults;
         };
     once = tail_pairs DifferInNumber device rest was.once;
-    order = tail_pairs (λ (a b : DeviceState). a.number.0 < b.number.0) device rest was.order;
+    order = tail_pairs (λ (a b : DeviceSeen). a.number.0 < b.number.0) device rest was.order;
     all = λ m p at none.
         let still = still-out m p at none in
         let past : (device.number.0 == m) ≡ false = ne_eqb device.number.0 m (λ same. still.0 (sym same)) in
@@ -130,12 +130,12 @@ module _ (t : Table) (device : DeviceState) (rest : List DeviceState) (opened : 
     names = λ a b p q at at' none none'. was.names a b p q (still-out a p at none).1 (still-out b q at' none').1 none none';
   }
 
-pub out-of-held : (t : Table) (device : DeviceState) (rest : List DeviceState) (opened : List Opened) → AreHeld t (device ∷ rest) opened → IsOutFor t device.node opened
+pub out-of-held : (t : RunTable) (device : DeviceSeen) (rest : List DeviceSeen) (opened : List Opened) → AreHeld t (device ∷ rest) opened → IsOutFor t device.node opened
 out-of-held t device rest opened was =
     let its = was.each device (Contains-here device rest) in
     out-for t device rest opened was its.opening.name 0 its.named
 
-pub held-back : (t : Table) (device : DeviceState) (rest : List DeviceState) (old new : StoreSeen) (fault : Option FaultAt) → IsBack t device old new fault
+pub held-back : (t : RunTable) (device : DeviceSeen) (rest : List DeviceSeen) (old new : StoreSeen) (fault : Option FaultAt) → IsBack t device old new fault
     → AreHeld t (device ∷ rest) old.opened → AreHeld t rest new.opened
 held-back t device rest old new fault back was =
     let is : new.opened ≡ given_back back.name back.count old.opened = ap (λ (s : StoreSeen). s.opened) back.kept in
@@ -153,7 +153,7 @@ some-out name (x ∷ opened) is = by_test (is_out_as name x) refl is (some-out n
     by_test true e is more = (0, x, refl, e)
     by_test false e is more = let later = more is in (suc later.0, later.1, later.2, later.3)
 
-pub none-out : (t : Table) (opened : List Opened) → AreHeld t [] opened → (name : List ℕ) → is_out name opened ≡ false
+pub none-out : (t : RunTable) (opened : List Opened) → AreHeld t [] opened → (name : List ℕ) → is_out name opened ≡ false
 none-out t opened held name = by_test (is_out name opened) refl
   where
     by_test : (b : Bool) → is_out name opened ≡ b → b ≡ false
@@ -163,7 +163,7 @@ none-out t opened held name = by_test (is_out name opened) refl
         absurd (false≢true (held.all some.0 some.1 some.2 back))
     by_test false is = refl
 
-pub back-held : (t : Table) (devices : List DeviceState) (old new : StoreSeen) (fault : Option FaultAt) → AreBack t devices old new fault → AreHeld t devices old.opened → AreHeld t [] new.opened
+pub back-held : (t : RunTable) (devices : List DeviceSeen) (old new : StoreSeen) (fault : Option FaultAt) → AreBack t devices old new fault → AreHeld t devices old.opened → AreHeld t [] new.opened
 back-held t [] old new fault back held = subst (λ (s : StoreSeen). AreHeld t [] s.opened) (sym back.0) held
 back-held t (device ∷ devices) old new fault back held =
     back-held t devices back.0 new back.2 back.4 (held-back t device devices old back.0 back.1 back.3 held)
@@ -171,16 +171,16 @@ back-held t (device ∷ devices) old new fault back held =
 -- ---- what files hold
 
 -- no device of these is that of the file
-abbrev pub AreOther : Table → List ℕ → List DeviceState → Type 0
+abbrev pub AreOther : RunTable → List ℕ → List DeviceSeen → Type 0
 AreOther t name [] = Unit {0}
 AreOther t name (device ∷ devices) = (is_file_of t name device ≡ false) × AreOther t name devices
 
-pub left-other : (t : Table) (files : Option (List File)) (devices : List DeviceState) (name : List ℕ) → AreOther t name devices → held_left t files devices name ≡ told_bytes files name
+pub left-other : (t : RunTable) (files : Option (List File)) (devices : List DeviceSeen) (name : List ℕ) → AreOther t name devices → held_left t files devices name ≡ told_bytes files name
 left-other t files [] name others = refl
 left-other t files (device ∷ devices) name others = rw others.0 (left-other t files devices name others.1)
 
 -- the store holds another file
-left-same : (t : Table) (old new : Option (List File)) (devices : List DeviceState) (name : List ℕ) → told_bytes new name ≡ told_bytes old name
+left-same : (t : RunTable) (old new : Option (List File)) (devices : List DeviceSeen) (name : List ℕ) → told_bytes new name ≡ told_bytes old name
     → held_left t new devices name ≡ held_left t old devices name
 left-same t old new [] name same = same
 left-same t old new (device ∷ devices) name same = ap (λ rest. cond (is_file_of t name device) device.content rest) (left-same t old new devices name same)
@@ -207,7 +207,7 @@ put-other file (f ∷ files) name differ = by_test (bytes_eq file.name f.name) r
     by_test false e more = ap (λ found. cond (bytes_eq name f.name) (Some f) found) more
 
 -- what is told of a device that is given back
-record IsTold (device : DeviceState) (fault : Option FaultAt) : Type 0 where
+record IsTold (device : DeviceSeen) (fault : Option FaultAt) : Type 0 where
   bytes : List ℕ
   content : device.content ≡ Some bytes
   flushed : Bool
@@ -217,7 +217,7 @@ pub tells-of : (content : Option (List ℕ)) (flushed : Option Bool) → ((bytes
 tells-of None flushed law some = absurd (false≢true some)
 tells-of (Some bytes) flushed law some = law bytes refl
 
-told-of : (device : DeviceState) (fault : Option FaultAt) → is_some device.content ≡ true → (is_some device.content ≡ true → is_some device.is_flushed ≡ true) → IsTold device fault
+told-of : (device : DeviceSeen) (fault : Option FaultAt) → is_some device.content ≡ true → (is_some device.content ≡ true → is_some device.is_flushed ≡ true) → IsTold device fault
 told-of device fault told tells = by_content device.content refl device.is_flushed refl
   where
     by_flush : (bytes : List ℕ) → device.content ≡ Some bytes → (fault' : Option FaultAt) → fault ≡ fault' → (f : Bool) → device.is_flushed ≡ Some f → IsTold device fault
@@ -229,7 +229,7 @@ told-of device fault told tells = by_content device.content refl device.is_flush
     by_content (Some bytes) some None e = absurd (false≢true (subst (λ f. is_some f ≡ true) e (tells told)))
     by_content (Some bytes) some (Some f) e = by_flush bytes some fault refl f e
 
-module _ (t : Table) (device : DeviceState) (rest : List DeviceState) (old : StoreSeen) (fault : Option FaultAt) (new : StoreSeen) (back : IsBack t device old new fault)
+module _ (t : RunTable) (device : DeviceSeen) (rest : List DeviceSeen) (old : StoreSeen) (fault : Option FaultAt) (new : StoreSeen) (back : IsBack t device old new fault)
     (held : AreHeld t (device ∷ rest) old.opened) (files : List File) (told : old.files ≡ Some files) (is_told : IsTold device fault) where
   abbrev file : File
   file = record { name = back.name; bytes = is_told.bytes; capacity = device.capacity; is_flushed = is_told.flushed }
@@ -245,11 +245,11 @@ module _ (t : Table) (device : DeviceState) (rest : List DeviceState) (old : Sto
   others : AreOther t back.name rest
   others = all-other rest (λ other within. by_name other within (filename_of t other.node) refl)
     where
-      all-other : (devices : List DeviceState) → ((other : DeviceState) → Contains devices other → is_file_of t back.name other ≡ false) → AreOther t back.name devices
+      all-other : (devices : List DeviceSeen) → ((other : DeviceSeen) → Contains devices other → is_file_of t back.name other ≡ false) → AreOther t back.name devices
       all-other [] each = tt
       all-other (d ∷ devices) each = (each d (Contains-here d devices), all-other devices (λ other within. each other (Contains-there d devices other within)))
 
-      by_test : (other : DeviceState) → Contains rest other → (filename : List ℕ) → filename_of t other.node ≡ Some filename → (b : Bool) → bytes_eq filename back.name ≡ b → b ≡ false
+      by_test : (other : DeviceSeen) → Contains rest other → (filename : List ℕ) → filename_of t other.node ≡ Some filename → (b : Bool) → bytes_eq filename back.name ≡ b → b ≡ false
       by_test other within filename is true e =
           let its = held.each device (Contains-here device rest) in
           let ours = held.each other (Contains-there device rest other within) in
@@ -259,7 +259,7 @@ module _ (t : Table) (device : DeviceState) (rest : List DeviceState) (old : Sto
           absurd (head_pairs DifferInNumber device rest held.once other within (same-number device.number other.number place))
       by_test other within filename is false e = refl
 
-      by_name : (other : DeviceState) → Contains rest other → (filename : Option (List ℕ)) → filename_of t other.node ≡ filename → is_file_of t back.name other ≡ false
+      by_name : (other : DeviceSeen) → Contains rest other → (filename : Option (List ℕ)) → filename_of t other.node ≡ filename → is_file_of t back.name other ≡ false
       by_name other within None none = rw none refl
       by_name other within (Some filename) some = rw some (by_test other within filename some (bytes_eq filename back.name) refl)
 
@@ -287,11 +287,11 @@ module _ (t : Table) (device : DeviceState) (rest : List DeviceState) (old : Sto
 
 -- ---- all of them
 
-all-told : (devices : List DeviceState) (device : DeviceState) → AreTold (device ∷ devices) → AreTold devices
+all-told : (devices : List DeviceSeen) (device : DeviceSeen) → AreTold (device ∷ devices) → AreTold devices
 all-told devices device told other within = told other (Contains-there device devices other within)
 
 -- where the store tells its files, they hold in the end what they and the devices did
-pub back-files : (t : Table) (devices : List DeviceState) (old new : StoreSeen) (fault : Option FaultAt) → AreBack t devices old new fault → AreHeld t devices old.opened
+pub back-files : (t : RunTable) (devices : List DeviceSeen) (old new : StoreSeen) (fault : Option FaultAt) → AreBack t devices old new fault → AreHeld t devices old.opened
     → AreTold devices → (files : List File) → old.files ≡ Some files
     → (is_some new.files ≡ true) × ((name : List ℕ) → told_bytes new.files name ≡ held_left t old.files devices name)
 back-files t [] old new fault back held told files is =
@@ -307,7 +307,7 @@ back-files t (device ∷ devices) old new fault back held told files is =
 -- ---- what is flushed
 
 -- a file of none of the devices stays
-back-others : (t : Table) (devices : List DeviceState) (old new : StoreSeen) (fault : Option FaultAt) → AreBack t devices old new fault → AreHeld t devices old.opened
+back-others : (t : RunTable) (devices : List DeviceSeen) (old new : StoreSeen) (fault : Option FaultAt) → AreBack t devices old new fault → AreHeld t devices old.opened
     → AreTold devices → (files : List File) → old.files ≡ Some files → (name : List ℕ) → AreOther t name devices
     → (now : List File) × (new.files ≡ Some now) × (file_at name now ≡ file_at name files)
 back-others t [] old new fault back held told files is name other = (files, ap (λ (s : StoreSeen). s.files) back.0 ∙ is, refl)
@@ -328,7 +328,7 @@ back-others t (device ∷ devices) old new fault back held told files is name ot
             absurd (false≢true (sym other.0 ∙ here))
         by_test false same = refl
 
-no-fault : (first later : Option FaultAt) → first_of first later ≡ None → (first ≡ None) × (later ≡ None)
+no-fault : (first later : Option FaultAt) → earlier_fault first later ≡ None → (first ≡ None) × (later ≡ None)
 no-fault None later is = (refl, is)
 no-fault (Some fault) later is = absurd (let bad : ⊥ = cc is in bad)
 
@@ -337,8 +337,8 @@ made-true None b is = absurd (let bad : ⊥ = cc is in bad)
 made-true (Some f) b is = sym (same_Some true b is)
 
 -- where no flush failed, the file of each device is flushed
-pub back-flushed : (t : Table) (devices : List DeviceState) (old new : StoreSeen) (fault : Option FaultAt) → AreBack t devices old new fault → AreHeld t devices old.opened
-    → AreTold devices → (files : List File) → old.files ≡ Some files → fault ≡ None → (device : DeviceState) → Contains devices device → (name : List ℕ)
+pub back-flushed : (t : RunTable) (devices : List DeviceSeen) (old new : StoreSeen) (fault : Option FaultAt) → AreBack t devices old new fault → AreHeld t devices old.opened
+    → AreTold devices → (files : List File) → old.files ≡ Some files → fault ≡ None → (device : DeviceSeen) → Contains devices device → (name : List ℕ)
     → filename_of t device.node ≡ Some name → (now : List File) × (new.files ≡ Some now) × IsFlushedIn now name
 back-flushed t [] old new fault back held told files is none device within name named = absurd (Contains-nil device within)
 back-flushed t (d ∷ devices) old new fault back held told files is none device within name named =
@@ -349,7 +349,7 @@ back-flushed t (d ∷ devices) old new fault back held told files is none device
     let quiet = no-fault back.1 back.2 (sym back.5 ∙ none) in
     elim (Contains-cases d devices device within) [
       | inl here ↦
-          let same : one.name ≡ name = same_Some one.name name (sym one.named ∙ subst (λ (x : DeviceState). filename_of t x.node ≡ Some name) here named) in
+          let same : one.name ≡ name = same_Some one.name name (sym one.named ∙ subst (λ (x : DeviceSeen). filename_of t x.node ≡ Some name) here named) in
           let rest = back-others t devices back.0 new back.2 back.4 step (all-told devices d told) _ then one.name (others t d devices old back.1 back.0 one held files is of) in
           let there = rest.2 ∙ put-there (file t d devices old back.1 back.0 one held files is of) files in
           let yes : of.flushed ≡ true = made-true d.is_flushed of.flushed (subst (λ (f : Option FaultAt). flushed_by f d.is_flushed ≡ Some of.flushed) quiet.0 of.is) in
@@ -360,9 +360,9 @@ back-flushed t (d ∷ devices) old new fault back held told files is none device
 -- ---- a world
 
 -- the openings of the run stand behind those before it
-pub closed-by : (w : Face) (store : StoreInRun) (whole : StoreSeen) (fault : Option FaultAt)
+pub closed-by : (w : WorldSeen) (store : StoreInRun) (whole : StoreSeen) (fault : Option FaultAt)
     → AreBack w.table w.nodes.devices (store_in w) (seen_in_run store) fault → HasGivenBack w store.opened fault → store.earlier ≡ w.earlier → whole.files ≡ store.files
-    → whole.opened ≡ store.earlier ++ store.opened → whole.room ≡ store.room → whole.faults ≡ store.faults → IsClosed w whole fault
+    → whole.opened ≡ store.earlier ++ store.opened → whole.room ≡ store.room → whole.faults ≡ store.faults → EndsWorld w whole fault
 closed-by w store whole fault back given earlier files opened room faults = record {
   opened = store.opened;
   behind = opened ∙ ap (λ (before : List Opened). before ++ store.opened) earlier;
@@ -379,7 +379,7 @@ none-behind earlier opened whole is before none name =
     ∙ ap (λ (b : Bool). b || is_out name opened) (before name)
     ∙ none name
 
-pub flushed-then : (w : Face) (store : StoreSeen) (fault : Option FaultAt) → IsClosed w store fault → AreHeld w.table w.nodes.devices w.opened → is_some w.files ≡ true
+pub flushed-then : (w : WorldSeen) (store : StoreSeen) (fault : Option FaultAt) → EndsWorld w store fault → AreHeld w.table w.nodes.devices w.opened → is_some w.files ≡ true
     → AreTold w.nodes.devices → fault ≡ None → AreFlushed w store.files
 flushed-then w store fault closed out told devices none device name within named = by_files w.files refl told
   where

@@ -14,8 +14,8 @@ use Rattle.blk_history.specs.Fold.{change, With}
 use Rattle.blk_history.specs.Machine.{Flight, one_further}
 use Rattle.blk_nodes.specs.Nodes.{Nodes, no_nodes}
 use Rattle.blk_nodes.specs.declared.row.Row.{Row}
-use Rattle.qmp_rules.specs.Table.{Table, device_at, opening_table}
-use Rattle.flat_machine.specs.State.{Guest, disk_of_guest, size_of}
+use Rattle.qmp_rules.specs.Table.{RunTable, device_by_number, opening_table}
+use Rattle.flat_machine.specs.State.{Guest, disk_of_guest, size_by_id}
 use Rattle.flat_machine.specs.Legal.{IsForbidden}
 use Rattle.flat_machine.specs.Machine.{admitted, finished, past_piece}
 use Rattle.flat_machine.specs.Opening.{new_guest}
@@ -45,16 +45,16 @@ flights-change Q (x ∷ guests) (suc g) h all one zero f is = all zero f is
 flights-change Q (x ∷ guests) (suc g) h all one (suc k) f is =
     flights-change (λ n. Q (suc n)) guests g h (λ n. all (suc n)) one k f is
 
-within-put : (t : Table) (guests : List Guest) (g : ℕ) (h : Guest → Guest) → AreWithin t guests
-    → ((row : Guest) (f : Flight) → slice_get guests g ≡ Some row → (h row).flight ≡ Some f → With (disk_of_guest t g) (λ node. end_of (span_of f.op) ≤ size_of t node))
+within-put : (t : RunTable) (guests : List Guest) (g : ℕ) (h : Guest → Guest) → AreWithin t guests
+    → ((row : Guest) (f : Flight) → slice_get guests g ≡ Some row → (h row).flight ≡ Some f → With (disk_of_guest t g) (λ node. end_of (span_of f.op) ≤ size_by_id t node))
     → AreWithin t (change g h guests)
-within-put t guests g h all one = flights-change (λ k f. With (disk_of_guest t k) (λ node. end_of (span_of f.op) ≤ size_of t node)) guests g h all one
+within-put t guests g h all one = flights-change (λ k f. With (disk_of_guest t k) (λ node. end_of (span_of f.op) ≤ size_by_id t node)) guests g h all one
 
 -- what is so of a request in flight by its guest's device
-abbrev IsAllowed : Table → ℕ → Flight → Type 0
-IsAllowed t g f = With (device_at t g) (λ device. IsForbidden f.op device.read_only → ⊥)
+abbrev IsAllowed : RunTable → ℕ → Flight → Type 0
+IsAllowed t g f = With (device_by_number t g) (λ device. IsForbidden f.op device.read_only → ⊥)
 
-module _ (t : Table) (nodes : Nodes) (opened : List Opened) (p : Progress) (was : IsCoherent t nodes opened p) where
+module _ (t : RunTable) (nodes : Nodes) (opened : List Opened) (p : Progress) (was : IsCoherent t nodes opened p) where
   -- guests' rows alone change
   coherent-with : (q : Progress) → AreWithin t q.guests → AreAllowed t q.guests → length q.guests ≡ length p.guests → IsCoherent t nodes opened q
   coherent-with q within allowed count = record {
@@ -71,12 +71,12 @@ module _ (t : Table) (nodes : Nodes) (opened : List Opened) (p : Progress) (was 
     out = was.out;
   }
 
-  pub coherent-admission : (g : ℕ) (op : Op) → With (disk_of_guest t g) (λ node. end_of (span_of op) ≤ size_of t node)
-      → With (device_at t g) (λ device. IsForbidden op device.read_only → ⊥) → IsCoherent t nodes opened (with_admission g op p)
+  pub coherent-admission : (g : ℕ) (op : Op) → With (disk_of_guest t g) (λ node. end_of (span_of op) ≤ size_by_id t node)
+      → With (device_by_number t g) (λ device. IsForbidden op device.read_only → ⊥) → IsCoherent t nodes opened (with_admission g op p)
   coherent-admission g op fits allows =
       coherent-with (with_admission g op p)
-      (within-put t p.guests g (admitted op) was.within (λ row f there is. let same : op ≡ f.op = ap op_or is in subst (λ o. With (disk_of_guest t g) (λ node. end_of (span_of o) ≤ size_of t node)) same fits))
-      (flights-change (IsAllowed t) p.guests g (admitted op) was.allowed (λ row f there is. let same : op ≡ f.op = ap op_or is in subst (λ o. With (device_at t g) (λ device. IsForbidden o device.read_only → ⊥)) same allows))
+      (within-put t p.guests g (admitted op) was.within (λ row f there is. let same : op ≡ f.op = ap op_or is in subst (λ o. With (disk_of_guest t g) (λ node. end_of (span_of o) ≤ size_by_id t node)) same fits))
+      (flights-change (IsAllowed t) p.guests g (admitted op) was.allowed (λ row f there is. let same : op ≡ f.op = ap op_or is in subst (λ o. With (device_by_number t g) (λ device. IsForbidden o device.read_only → ⊥)) same allows))
       (length-change g (admitted op) p.guests)
     where
       op_or : Option Flight → Op
@@ -96,10 +96,10 @@ module _ (t : Table) (nodes : Nodes) (opened : List Opened) (p : Progress) (was 
       coherent-with q
       (rw is (within-put t p.guests g (past_piece outcome) was.within (λ row f there flies.
       let before = flew row f there row.flight refl flies in
-      subst (λ o. With (disk_of_guest t g) (λ node. end_of (span_of o) ≤ size_of t node)) before.2 (was.within g before.0 before.1))))
+      subst (λ o. With (disk_of_guest t g) (λ node. end_of (span_of o) ≤ size_by_id t node)) before.2 (was.within g before.0 before.1))))
       (rw is (flights-change (IsAllowed t) p.guests g (past_piece outcome) was.allowed (λ row f there flies.
       let before = flew row f there row.flight refl flies in
-      subst (λ o. With (device_at t g) (λ device. IsForbidden o device.read_only → ⊥)) before.2 (was.allowed g before.0 before.1))))
+      subst (λ o. With (device_by_number t g) (λ device. IsForbidden o device.read_only → ⊥)) before.2 (was.allowed g before.0 before.1))))
       (ap length is ∙ length-change g (past_piece outcome) p.guests)
     where
       flew : (row : Guest) (f : Flight) → slice_get p.guests g ≡ Some row → (flight : Option Flight) → row.flight ≡ flight → option_map (one_further outcome) flight ≡ Some f

@@ -17,13 +17,13 @@ use Rattle.blk_graph.proofs.RoleLemmas.{tail_pairs, head_pairs, more_pairs}
 use Rattle.blk_history.specs.Fold.{With}
 use Rattle.blk_history.specs.declared.event.Event.{Event}
 use Rattle.blk_nodes.specs.Joined.{DifferInNode}
-use Rattle.blk_nodes.specs.Nodes.{Nodes, DeviceState, is_of, device_in}
+use Rattle.blk_nodes.specs.Nodes.{Nodes, DeviceSeen, is_device_of, device_in}
 use Rattle.blk_nodes.specs.Reading.{HaveRisen, OnlyAt, StoppedBy}
-use Rattle.qmp_rules.specs.Table.{Table}
-use Rattle.flat_machine.specs.Licence.{Counts, AreLicensed, IsBetween, Differ, count_of, named_in, faults_of, fault_at}
+use Rattle.qmp_rules.specs.Table.{RunTable}
+use Rattle.flat_machine.specs.Licence.{Counts, AreLicensed, IsBetween, Differ, source_count, named_in, faults_of, fault_at}
 use Rattle.flat_machine.specs.State.{filename_of}
 use Rattle.world_parts.specs.Coherent.{AreOut}
-use Rattle.world_parts.specs.Face.{Face, first_counts, counts_now, counts_from, count_of_opening, device_numbered}
+use Rattle.world_parts.specs.Face.{WorldSeen, first_counts, counts_now, counts_from, count_of_opening, device_numbered}
 use Rattle.world_commands.specs.Counting.{RunsOn, IsLater, HaveNotFallen, IsFaultReached, IsReachedBy, IsSameDevice, AreSameDevices, counts_within}
 
 -- ---- what is there
@@ -58,9 +58,9 @@ first-of opened n o e = slice_get-map (λ (o : Opened). o.faults) opened n ∙ a
 
 -- ---- a fault that was named
 
-module _ (w v : Face) (runs : RunsOn w v) where
+module _ (w v : WorldSeen) (runs : RunsOn w v) where
   -- the first counts stay
-  first-stays : (source : FaultFrom) (count : ℕ) → count_of (first_counts w) source ≡ Some count → count_of (first_counts v) source ≡ Some count
+  first-stays : (source : FaultFrom) (count : ℕ) → source_count (first_counts w) source ≡ Some count → source_count (first_counts v) source ≡ Some count
   first-stays Store count e = ap Some runs.first ∙ e
   first-stays (Dev dev) count e =
       let was = first-at w.opened dev.0 count e in
@@ -69,7 +69,7 @@ module _ (w v : Face) (runs : RunsOn w v) where
   first-stays Sink count e = e
 
   -- and those now don't fall
-  now-grows : (source : FaultFrom) (count : ℕ) → count_of (counts_now w) source ≡ Some count → With (count_of (counts_now v) source) (λ now. count ≤ now)
+  now-grows : (source : FaultFrom) (count : ℕ) → source_count (counts_now w) source ≡ Some count → With (source_count (counts_now v) source) (λ now. count ≤ now)
   now-grows Store count e = let same : w.faults ≡ count = cc in subst (λ n. n ≤ v.faults) same runs.store
   now-grows (Dev dev) count e = runs.devices dev.0 count e
   now-grows Sink count e = absurd (let bad : ⊥ = cc in bad)
@@ -77,16 +77,16 @@ module _ (w v : Face) (runs : RunsOn w v) where
   -- a fault that was between the counts still is
   pub between-on : (fault : FaultAt) → IsBetween (first_counts w) (counts_now w) fault → IsBetween (first_counts v) (counts_now v) fault
   between-on fault is =
-      let was = there (count_of (first_counts w) fault.from) (λ before. HasFailedSince before fault.count) is.risen in
-      let reached = there (count_of (counts_now w) fault.from) (λ now. fault.count ≤ now) is.reached in
-      let grown = there (count_of (counts_now v) fault.from) (λ now. reached.at ≤ now) (now-grows fault.from reached.at reached.is) in
+      let was = there (source_count (first_counts w) fault.from) (λ before. HasFailedSince before fault.count) is.risen in
+      let reached = there (source_count (counts_now w) fault.from) (λ now. fault.count ≤ now) is.reached in
+      let grown = there (source_count (counts_now v) fault.from) (λ now. reached.at ≤ now) (now-grows fault.from reached.at reached.is) in
       record {
-        risen = with-of (count_of (first_counts v) fault.from) was.at (λ before. HasFailedSince before fault.count) (first-stays fault.from was.at was.is) was.holds;
-        reached = with-of (count_of (counts_now v) fault.from) grown.at (λ now. fault.count ≤ now) grown.is (omega (arith, reached.holds, grown.holds));
+        risen = with-of (source_count (first_counts v) fault.from) was.at (λ before. HasFailedSince before fault.count) (first-stays fault.from was.at was.is) was.holds;
+        reached = with-of (source_count (counts_now v) fault.from) grown.at (λ now. fault.count ≤ now) grown.is (omega (arith, reached.holds, grown.holds));
       }
 
   -- the count that an event began with is that before it
-  began-with : (source : FaultFrom) (count : ℕ) → count_of (counts_now w) source ≡ Some count → count_of (counts_within w v) source ≡ Some count
+  began-with : (source : FaultFrom) (count : ℕ) → source_count (counts_now w) source ≡ Some count → source_count (counts_within w v) source ≡ Some count
   began-with Store count e = e
   began-with (Dev dev) count e = get-append (counts_now w).devices (drop (length w.opened) (first_counts v).devices) dev.0 count e
     where
@@ -99,9 +99,9 @@ module _ (w v : Face) (runs : RunsOn w v) where
   -- a fault that is reached in the event is none of those before
   pub differs : (earlier fault : FaultAt) → IsBetween (first_counts w) (counts_now w) earlier → IsFaultReached w v fault → Differ earlier fault
   differs earlier fault was is = λ from count.
-      let reached = there (count_of (counts_now w) earlier.from) (λ now. earlier.count ≤ now) was.reached in
-      let same_source : count_of (counts_now w) fault.from ≡ Some reached.at = subst (λ source. count_of (counts_now w) source ≡ Some reached.at) from reached.is in
-      let risen : HasFailedSince reached.at fault.count = with-at (count_of (counts_within w v) fault.from) reached.at (λ before. HasFailedSince before fault.count) (began-with fault.from reached.at same_source) is.new.risen in
+      let reached = there (source_count (counts_now w) earlier.from) (λ now. earlier.count ≤ now) was.reached in
+      let same_source : source_count (counts_now w) fault.from ≡ Some reached.at = subst (λ source. source_count (counts_now w) source ≡ Some reached.at) from reached.is in
+      let risen : HasFailedSince reached.at fault.count = with-at (source_count (counts_within w v) fault.from) reached.at (λ before. HasFailedSince before fault.count) (began-with fault.from reached.at same_source) is.new.risen in
       let most = is.fits in
       let least = reached.holds in
       omega (arith, risen, most, least, count)
@@ -132,21 +132,21 @@ module _ (w v : Face) (runs : RunsOn w v) where
 
 -- ---- devices whose counts have not fallen
 
-same-itself : (device : DeviceState) → IsSameDevice device device
+same-itself : (device : DeviceSeen) → IsSameDevice device device
 same-itself device = record { node = refl; number = refl; capacity = refl; faults = omega arith }
 
-pub same-devices : (devices : List DeviceState) → AreSameDevices devices devices
+pub same-devices : (devices : List DeviceSeen) → AreSameDevices devices devices
 same-devices [] = tt
 same-devices (device ∷ devices) = (same-itself device, same-devices devices)
 
 -- counts alone have risen
-pub same-risen : (old new : List DeviceState) → HaveRisen old new → AreSameDevices old new
+pub same-risen : (old new : List DeviceSeen) → HaveRisen old new → AreSameDevices old new
 same-risen [] [] risen = tt
 same-risen (a ∷ old) (b ∷ new) risen = (
   record {
-    node = ap (λ (d : DeviceState). d.node) risen.0.same;
-    number = ap (λ (d : DeviceState). d.number) risen.0.same;
-    capacity = ap (λ (d : DeviceState). d.capacity) risen.0.same;
+    node = ap (λ (d : DeviceSeen). d.node) risen.0.same;
+    number = ap (λ (d : DeviceSeen). d.number) risen.0.same;
+    capacity = ap (λ (d : DeviceSeen). d.capacity) risen.0.same;
     faults = risen.0.faults;
   },
   same-risen old new risen.1,
@@ -155,16 +155,16 @@ same-risen [] (b ∷ new) risen = absurd risen
 same-risen (a ∷ old) [] risen = absurd risen
 
 -- each node's device is found again
-abbrev pub AreFound : List DeviceState → List DeviceState → Type 0
-AreFound old new = (node : ℕ) (x : DeviceState) → device_in old node ≡ Some x → (y : DeviceState) × (device_in new node ≡ Some y) × IsSameDevice x y
+abbrev pub AreFound : List DeviceSeen → List DeviceSeen → Type 0
+AreFound old new = (node : ℕ) (x : DeviceSeen) → device_in old node ≡ Some x → (y : DeviceSeen) × (device_in new node ≡ Some y) × IsSameDevice x y
 
-same-found : (old new : List DeviceState) → map (λ (d : DeviceState). d.node) new ≡ map (λ (d : DeviceState). d.node) old → AllPairs DifferInNode old → AreFound old new → AreSameDevices old new
+same-found : (old new : List DeviceSeen) → map (λ (d : DeviceSeen). d.node) new ≡ map (λ (d : DeviceSeen). d.node) old → AllPairs DifferInNode old → AreFound old new → AreSameDevices old new
 same-found [] [] nodes once found = tt
 same-found [] (b ∷ new) nodes once found = absurd (let bad : ⊥ = cc nodes in bad)
 same-found (a ∷ old) [] nodes once found = absurd (let bad : ⊥ = cc nodes in bad)
 same-found (a ∷ old) (b ∷ new) nodes once found =
     let node : b.node ≡ a.node = cc nodes in
-    let rest : map (λ (d : DeviceState). d.node) new ≡ map (λ (d : DeviceState). d.node) old = cc nodes in
+    let rest : map (λ (d : DeviceSeen). d.node) new ≡ map (λ (d : DeviceSeen). d.node) old = cc nodes in
     let here : device_in (a ∷ old) a.node ≡ Some a = rw (eq-eqb a.node a.node refl) refl in
     let now : device_in (b ∷ new) a.node ≡ Some b = rw (eq-eqb b.node a.node node) refl in
     let again = found a.node a here in
@@ -173,7 +173,7 @@ same-found (a ∷ old) (b ∷ new) nodes once found =
   where
     later : b.node ≡ a.node → AreFound old new
     later node n x is =
-        let at = find-Some (is_of n) old x is in
+        let at = find-Some (is_device_of n) old x is in
         let differ : a.node ≢ n = λ same. head_pairs DifferInNode a old once x at.0 (same ∙ sym (eqb-true x.node n at.1)) in
         let past : (a.node == n) ≡ false = ne_eqb a.node n differ in
         let past_now : (b.node == n) ≡ false = ne_eqb b.node n (λ same. differ (sym node ∙ same)) in
@@ -182,11 +182,11 @@ same-found (a ∷ old) (b ∷ new) nodes once found =
         (again.0, rw past_now at again.1, again.2)
 
 -- one node's device was used, and all others are as before
-pub same-only : (file : ℕ) (old new : List DeviceState) (before after : DeviceState) → AllPairs DifferInNode old → OnlyAt file old new
+pub same-only : (file : ℕ) (old new : List DeviceSeen) (before after : DeviceSeen) → AllPairs DifferInNode old → OnlyAt file old new
     → device_in old file ≡ Some before → device_in new file ≡ Some after → IsSameDevice before after → AreSameDevices old new
 same-only file old new before after once only held left is = same-found old new only.nodes once found
   where
-    by_node : (node : ℕ) (x : DeviceState) → device_in old node ≡ Some x → ((node ≡ file) ⊎ (node ≢ file)) → (y : DeviceState) × (device_in new node ≡ Some y) × IsSameDevice x y
+    by_node : (node : ℕ) (x : DeviceSeen) → device_in old node ≡ Some x → ((node ≡ file) ⊎ (node ≢ file)) → (y : DeviceSeen) × (device_in new node ≡ Some y) × IsSameDevice x y
     by_node node x there (inl same) =
         let was : before ≡ x = same_Some before x (sym held ∙ subst (λ n. device_in old n ≡ Some x) same there) in
         (after, subst (λ n. device_in new n ≡ Some after) (sym same) left, subst (λ d. IsSameDevice d after) was is)
@@ -198,17 +198,17 @@ same-only file old new before after once only held left is = same-found old new 
 -- ---- devices by number
 
 -- each device has a number of its own
-abbrev pub DifferInNumber : DeviceState → DeviceState → Type 0
+abbrev pub DifferInNumber : DeviceSeen → DeviceSeen → Type 0
 DifferInNumber a b = a.number ≢ b.number
 
 pub same-number : (a b : DevNo) → a.0 ≡ b.0 → a ≡ b
 same-number a b is = ap (λ n. record { 0 = n }) is
 
 -- a device stands at its number
-pub numbered : (devices : List DeviceState) (x : DeviceState) → AllPairs DifferInNumber devices → Contains devices x → device_numbered devices x.number.0 ≡ Some x
+pub numbered : (devices : List DeviceSeen) (x : DeviceSeen) → AllPairs DifferInNumber devices → Contains devices x → device_numbered devices x.number.0 ≡ Some x
 numbered [] x once there = absurd (Contains-nil x there)
 numbered (d ∷ devices) x once there = elim (Contains-cases d devices x there) [
-  | inl here ↦ let at : (d.number.0 == x.number.0) ≡ true = eq-eqb d.number.0 x.number.0 (ap (λ (y : DeviceState). y.number.0) (sym here)) in rw at (ap Some (sym here))
+  | inl here ↦ let at : (d.number.0 == x.number.0) ≡ true = eq-eqb d.number.0 x.number.0 (ap (λ (y : DeviceSeen). y.number.0) (sym here)) in rw at (ap Some (sym here))
   | inr later ↦
       let differ : d.number.0 ≢ x.number.0 = λ same. head_pairs DifferInNumber d devices once x later (same-number d.number x.number same) in
       let past : (d.number.0 == x.number.0) ≡ false = ne_eqb d.number.0 x.number.0 differ in
@@ -216,12 +216,12 @@ numbered (d ∷ devices) x once there = elim (Contains-cases d devices x there) 
 ]
 
 -- what stands at a number afterwards
-abbrev pub AreBoth : Option DeviceState → Option DeviceState → Type 0
+abbrev pub AreBoth : Option DeviceSeen → Option DeviceSeen → Type 0
 AreBoth None None = Unit {0}
 AreBoth (Some a) (Some b) = IsSameDevice a b
 AreBoth _ _ = ⊥
 
-pub numbered-same : (old new : List DeviceState) (n : ℕ) → AreSameDevices old new → AreBoth (device_numbered old n) (device_numbered new n)
+pub numbered-same : (old new : List DeviceSeen) (n : ℕ) → AreSameDevices old new → AreBoth (device_numbered old n) (device_numbered new n)
 numbered-same [] [] n same = tt
 numbered-same (a ∷ old) (b ∷ new) n same =
     let number : b.number.0 ≡ a.number.0 = ap (λ (m : DevNo). m.0) same.0.number in
@@ -236,13 +236,13 @@ numbered-same (a ∷ old) [] n same = absurd same
 
 -- ---- counts of openings
 
-counts-fall-not : (old new : List DeviceState) → AreSameDevices old new → (n : ℕ) (o : Opened) → count_of_opening old n o ≤ count_of_opening new n o
+counts-fall-not : (old new : List DeviceSeen) → AreSameDevices old new → (n : ℕ) (o : Opened) → count_of_opening old n o ≤ count_of_opening new n o
 counts-fall-not old new same n o = by_back o.returned (numbered-same old new n same)
   where
-    faults_or : Option DeviceState → ℕ
-    faults_or found = unwrap_or (option_map (λ (d : DeviceState). d.faults) found) o.faults
+    faults_or : Option DeviceSeen → ℕ
+    faults_or found = unwrap_or (option_map (λ (d : DeviceSeen). d.faults) found) o.faults
 
-    by_found : (a b : Option DeviceState) → AreBoth a b → faults_or a ≤ faults_or b
+    by_found : (a b : Option DeviceSeen) → AreBoth a b → faults_or a ≤ faults_or b
     by_found None None both = omega arith
     by_found (Some a) (Some b) both = both.faults
     by_found None (Some b) both = absurd both
@@ -253,7 +253,7 @@ counts-fall-not old new same n o = by_back o.returned (numbered-same old new n s
     by_back None both = by_found (device_numbered old n) (device_numbered new n) both
     by_back (Some count) both = omega arith
 
-pub counts-at : (devices : List DeviceState) (opened : List Opened) (first n : ℕ) (o : Opened) → slice_get opened n ≡ Some o
+pub counts-at : (devices : List DeviceSeen) (opened : List Opened) (first n : ℕ) (o : Opened) → slice_get opened n ≡ Some o
     → slice_get (counts_from devices first opened) n ≡ Some (count_of_opening devices (first + n) o)
 counts-at devices [] first n o is = absurd (let bad : ⊥ = cc is in bad)
 counts-at devices (x ∷ opened) first zero o is =
@@ -264,7 +264,7 @@ counts-at devices (x ∷ opened) first (suc n) o is =
     let at : first + suc n ≡ first + 1 + n = omega arith in
     rw at (counts-at devices opened (first + 1) n o is)
 
-pub not-fallen : (old new : List DeviceState) → AreSameDevices old new → (opened : List Opened) (first : ℕ) → HaveNotFallen (counts_from old first opened) (counts_from new first opened)
+pub not-fallen : (old new : List DeviceSeen) → AreSameDevices old new → (opened : List Opened) (first : ℕ) → HaveNotFallen (counts_from old first opened) (counts_from new first opened)
 not-fallen old new same [] first n count is = absurd (let bad : ⊥ = cc is in bad)
 not-fallen old new same (o ∷ opened) first zero count is =
     let was : count_of_opening old first o ≡ count = same_Some (count_of_opening old first o) count is in
@@ -278,7 +278,7 @@ later-itself : (opened : List Opened) (n : ℕ) (o : Opened) → slice_get opene
 later-itself opened n o is = with-of (slice_get opened n) o (IsLater o) is (goes-on o)
 
 -- where the store is called for nothing, counts run on with those of the devices
-pub runs-devices : (w v : Face) → is_some v.files ≡ is_some w.files → v.room ≡ w.room → v.first_faults ≡ w.first_faults → v.earlier ≡ w.earlier → v.faults ≡ w.faults → v.opened ≡ w.opened
+pub runs-devices : (w v : WorldSeen) → is_some v.files ≡ is_some w.files → v.room ≡ w.room → v.first_faults ≡ w.first_faults → v.earlier ≡ w.earlier → v.faults ≡ w.faults → v.opened ≡ w.opened
     → AreSameDevices w.nodes.devices v.nodes.devices → RunsOn w v
 runs-devices w v told room first earlier faults opened same = record {
   told = told;
@@ -301,7 +301,7 @@ later-then a b c first next = record {
   back = λ back. let same = first.back back in next.back (subst (λ (o : Opened). IsSome o.returned) (sym same) back) ∙ same;
 }
 
-pub runs-then : (w x v : Face) → RunsOn w x → RunsOn x v → RunsOn w v
+pub runs-then : (w x v : WorldSeen) → RunsOn w x → RunsOn x v → RunsOn w v
 runs-then w x v first next = record {
   told = next.told ∙ first.told;
   room = next.room ∙ first.room;
@@ -320,7 +320,7 @@ runs-then w x v first next = record {
 
 -- ---- openings that are out
 
-pub found-before : (old new : List DeviceState) (y : DeviceState) → AreSameDevices old new → Contains new y → (x : DeviceState) × Contains old x × IsSameDevice x y
+pub found-before : (old new : List DeviceSeen) (y : DeviceSeen) → AreSameDevices old new → Contains new y → (x : DeviceSeen) × Contains old x × IsSameDevice x y
 found-before [] [] y same there = absurd (Contains-nil y there)
 found-before (a ∷ old) (b ∷ new) y same there = elim (Contains-cases b new y there) [
   | inl here ↦ (a, Contains-here a old, subst (IsSameDevice a) (sym here) same.0)
@@ -330,20 +330,20 @@ found-before [] (b ∷ new) y same there = absurd same
 found-before (a ∷ old) [] y same there = absurd same
 
 -- what holds of the numbers of each two
-numbers-pairs : (P : DevNo → DevNo → Type 0) (old new : List DeviceState) → AreSameDevices old new → AllPairs (λ (a b : DeviceState). P a.number b.number) old
-    → AllPairs (λ (a b : DeviceState). P a.number b.number) new
+numbers-pairs : (P : DevNo → DevNo → Type 0) (old new : List DeviceSeen) → AreSameDevices old new → AllPairs (λ (a b : DeviceSeen). P a.number b.number) old
+    → AllPairs (λ (a b : DeviceSeen). P a.number b.number) new
 numbers-pairs P [] [] same all = all
 numbers-pairs P (a ∷ old) (b ∷ new) same all =
-    more_pairs (λ (x y : DeviceState). P x.number y.number) b new
+    more_pairs (λ (x y : DeviceSeen). P x.number y.number) b new
     (λ y there.
     let was = found-before old new y same.1 there in
     subst (λ (n : DevNo). P b.number n) (sym was.2.number)
-    (subst (λ (n : DevNo). P n was.0.number) (sym same.0.number) (head_pairs (λ (x y : DeviceState). P x.number y.number) a old all was.0 was.1)))
-    (numbers-pairs P old new same.1 (tail_pairs (λ (x y : DeviceState). P x.number y.number) a old all))
+    (subst (λ (n : DevNo). P n was.0.number) (sym same.0.number) (head_pairs (λ (x y : DeviceSeen). P x.number y.number) a old all was.0 was.1)))
+    (numbers-pairs P old new same.1 (tail_pairs (λ (x y : DeviceSeen). P x.number y.number) a old all))
 numbers-pairs P [] (b ∷ new) same all = absurd same
 numbers-pairs P (a ∷ old) [] same all = absurd same
 
-pub out-same : (t : Table) (nodes now : Nodes) (opened : List Opened) → AreSameDevices nodes.devices now.devices → AreOut t nodes opened → AreOut t now opened
+pub out-same : (t : RunTable) (nodes now : Nodes) (opened : List Opened) → AreSameDevices nodes.devices now.devices → AreOut t nodes opened → AreOut t now opened
 out-same t nodes now opened same was = record {
   each = λ device held.
       let before = found-before nodes.devices now.devices device same held in
@@ -362,7 +362,7 @@ out-same t nodes now opened same was = record {
   names = was.names;
 }
   where
-    still : (a b : Option DeviceState) → AreBoth a b → IsSome a → IsSome b
+    still : (a b : Option DeviceSeen) → AreBoth a b → IsSome a → IsSome b
     still None b both some = absurd (false≢true some)
     still (Some a) (Some b) both some = refl
     still (Some a) None both some = absurd both
@@ -370,7 +370,7 @@ out-same t nodes now opened same was = record {
 -- ---- a device that is held has failed
 
 -- the count of a device that is out
-pub count-out : (t : Table) (nodes : Nodes) (opened : List Opened) (x : DeviceState) (held : Contains nodes.devices x) (out : AreOut t nodes opened)
+pub count-out : (t : RunTable) (nodes : Nodes) (opened : List Opened) (x : DeviceSeen) (held : Contains nodes.devices x) (out : AreOut t nodes opened)
     → slice_get (counts_from nodes.devices 0 opened) x.number.0 ≡ Some x.faults
 count-out t nodes opened x held out =
     let is = out.each x held in
@@ -380,7 +380,7 @@ count-out t nodes opened x held out =
     let count : count_of_opening nodes.devices (0 + x.number.0) is.opening ≡ x.faults = rw (is.out, zero_first, found) refl in
     at ∙ ap Some count
 
-pub reached-held : (w v : Face) (before after : DeviceState) (count : ℕ) → RunsOn w v → v.opened ≡ w.opened
+pub reached-held : (w v : WorldSeen) (before after : DeviceSeen) (count : ℕ) → RunsOn w v → v.opened ≡ w.opened
     → AreOut w.table w.nodes w.opened → AreOut w.table v.nodes w.opened → Contains w.nodes.devices before → Contains v.nodes.devices after → after.number ≡ before.number
     → StoppedBy before after before.number count → count ≤ 18446744073709551615 → IsFaultReached w v (fault_at (Dev before.number) count)
 reached-held w v before after count runs opened out out_now held held_now number stopped fits =

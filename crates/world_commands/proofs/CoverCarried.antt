@@ -15,13 +15,13 @@ use Rattle.qmp_rules.specs.declared.refusal.Refusal.{Refusal}
 use Rattle.qmp_rules.specs.declared.refusal.Refusal.TheVariants as refusal
 use Rattle.qmp_rules.specs.declared.rows.NodeRecord.{NodeRecord}
 use Rattle.qmp_rules.specs.declared.told.Told.{Told}
-use Rattle.qmp_rules.specs.Answers.{Answer, answer, command_edits, conflict_in, conflict_refusal, out_of_turn, refusal_behind, refusal_of, unbuilt, untold}
-use Rattle.qmp_rules.specs.Asks.{first, holds}
+use Rattle.qmp_rules.specs.Answers.{Answer, answer, command_edits, conflict_in, conflict_refusal, out_of_turn, refusal_behind, refusal_to, unbuilt, told_none}
+use Rattle.qmp_rules.specs.Asks.{first_unmet_ask, holds}
 use Rattle.qmp_rules.specs.Changes.{all_changed}
 use Rattle.qmp_asks.specs.CommandAsks.{asks_of, negotiates}
 use Rattle.qmp_rules.specs.Edits.{edits_of}
 use Rattle.qmp_asks.specs.NodeAsks.{snapshot_values, snapshot_names, snapshot_rest}
-use Rattle.qmp_rules.specs.Table.{Table, has_name, id_named}
+use Rattle.qmp_rules.specs.Table.{RunTable, has_name, id_named}
 use Rattle.flat_machine.specs.Marks.{AreCalm, drained_by}
 use Rattle.flat_machine.specs.Marking.{dirty_bytes}
 use Rattle.flat_machine.specs.Performing.{AllPerformed, Puts}
@@ -35,11 +35,11 @@ use Rattle.blk_nodes.specs.Contents.{disk_of}
 use Rattle.blk_nodes.specs.Covering.{covered, IsClear, ReadCovered}
 use Rattle.blk_nodes.specs.Joined.{IsJoined}
 use Rattle.blk_nodes.specs.Nodes.{Nodes}
-use Rattle.world_commands.specs.Carrying.{IsCarried, IsCarriedIn, IsCaused, IsLateIn, StopsByFiles, counted, counts_of, is_failed}
+use Rattle.world_commands.specs.Carrying.{IsCarried, IsCarriedIn, IsCaused, IsLateIn, StopsByFiles, with_counts, counts_of, is_io_refusal}
 use Rattle.world_parts.specs.Coherent.{AreNodesOf, IsCoherent, IsWholeWorld, node_row}
 use Rattle.world_commands.specs.Comes.{ShowsState}
 use Rattle.world_commands.specs.Counting.{HidesNoFault}
-use Rattle.world_parts.specs.Face.{Face, contents_of, held_by, node_over}
+use Rattle.world_parts.specs.Face.{WorldSeen, contents_of, held_in_file, node_over}
 use Rattle.world_commands.specs.Snapshots.{CanCover, IsCovered, TellsMappedAlone}
 use Rattle.world_commands.proofs.CarryPlain.{quiet-self, quiet_named, told_quiet}
 use Rattle.world_commands.proofs.Counted.{answer-counted}
@@ -52,8 +52,8 @@ use Rattle.world_commands.proofs.Placed.{answer-is}
 
 -- ---- a snapshot that nothing refuses
 
-module _ (t : Table) (h : TableStands t) (c : Snapshot (List ℕ)) (told : Told)
-    (none : refusal_of t told (command.BlockdevSnapshot c) ≡ None) where
+module _ (t : RunTable) (h : TableStands t) (c : Snapshot (List ℕ)) (told : Told)
+    (none : refusal_to t told (command.BlockdevSnapshot c) ≡ None) where
   asks : NoneHolds t told (snapshot_values c ++ snapshot_names c ++ snapshot_rest c)
   unfolding asks_of
   asks = asked t told (command.BlockdevSnapshot c) none
@@ -61,7 +61,7 @@ module _ (t : Table) (h : TableStands t) (c : Snapshot (List ℕ)) (told : Told)
   pub of : AreSnapshot t c
   of = snapshot_nodes t told c h asks
 
-  abbrev pub table_then : Table
+  abbrev pub table_then : RunTable
   table_then = covered_table t of.node of.overlay of.over of.bare h
 
   pub edits : command_edits t told (command.BlockdevSnapshot c) ≡ Attach of.overlay.id of.node.id ∷ Move of.node.id of.overlay.id of.overlay.id ∷ []
@@ -83,17 +83,17 @@ module _ (t : Table) (h : TableStands t) (c : Snapshot (List ℕ)) (told : Told)
   unmapped = not-refused _ _ asks.1.1.1.1.1.1.1.1.1.1.1.1.1.0
 
   behind : refusal_behind t told (command.BlockdevSnapshot c) ≡ None
-  unfolding refusal_of
+  unfolding refusal_to
   behind =
       let built = none-both (unbuilt (command.BlockdevSnapshot c)) _ none in
       let turn = none-both (out_of_turn (negotiates (command.BlockdevSnapshot c)) t.negotiated) _ built.1 in
-      (none-both (first t told (asks_of (command.BlockdevSnapshot c))) (refusal_behind t told (command.BlockdevSnapshot c)) turn.1).1
+      (none-both (first_unmet_ask t told (asks_of (command.BlockdevSnapshot c))) (refusal_behind t told (command.BlockdevSnapshot c)) turn.1).1
 
-  no-pair : (u : Table) (pair : Option Conflict) → option_map (conflict_refusal u) pair ≡ None → pair ≡ None
+  no-pair : (u : RunTable) (pair : Option Conflict) → option_map (conflict_refusal u) pair ≡ None → pair ≡ None
   no-pair u None is = refl
   no-pair u (Some pair) is = absurd (let bad : ⊥ = cc is in bad)
 
-  same_edits : edits_of t untold (command.BlockdevSnapshot c) ≡ command_edits t told (command.BlockdevSnapshot c)
+  same_edits : edits_of t told_none (command.BlockdevSnapshot c) ≡ command_edits t told (command.BlockdevSnapshot c)
   unfolding edits_of
   same_edits = refl
 
@@ -101,7 +101,7 @@ module _ (t : Table) (h : TableStands t) (c : Snapshot (List ℕ)) (told : Told)
   unfolding conflict_in
   no_conflict =
       no-pair table_then (first_conflict (map (λ (r : NodeRecord). r.id) table_then.nodes) table_then.edges)
-      (subst (λ (u : Table). conflict_in u ≡ None) (ap (all_changed t) same_edits ∙ table_is) behind)
+      (subst (λ (u : RunTable). conflict_in u ≡ None) (ap (all_changed t) same_edits ∙ table_is) behind)
 
   ids-listed : (rows : List NodeRecord) → map (λ (r : NodeRow). r.id) (map node_row rows) ≡ map (λ (r : NodeRecord). r.id) rows
   ids-listed [] = refl
@@ -126,7 +126,7 @@ module _ (t : Table) (h : TableStands t) (c : Snapshot (List ℕ)) (told : Told)
 
 -- ---- what is told of one
 
-module _ (w : Face) (c : Snapshot (List ℕ)) (told : Told) (tells : TellsMappedAlone w.table w.nodes (command.BlockdevSnapshot c) told)
+module _ (w : WorldSeen) (c : Snapshot (List ℕ)) (told : Told) (tells : TellsMappedAlone w.table w.nodes (command.BlockdevSnapshot c) told)
     (may : (o : Opening) (s : State) → is_some w.files ≡ true → ShowsState o s w → MayMap s (c.overlay ∷ []) told.mapped) where
   stopped : told.stopped ≡ None
   stopped = ap (λ (x : Told). x.stopped) tells.rest
@@ -136,7 +136,7 @@ module _ (w : Face) (c : Snapshot (List ℕ)) (told : Told) (tells : TellsMapped
 
   -- as it is told, with the counts of the bitmaps
   abbrev seen : Told
-  seen = counted told (counts_of w)
+  seen = with_counts told (counts_of w)
 
   pub told_so : (o : Opening) (s : State) → is_some w.files ≡ true → ShowsState o s w → IsTold s (command.BlockdevSnapshot c) seen
   told_so o s some shows = record {
@@ -153,7 +153,7 @@ module _ (w : Face) (c : Snapshot (List ℕ)) (told : Told) (tells : TellsMapped
   pub late_in : (o : Opening) (s : State) → is_some w.files ≡ true → ShowsState o s w → IsLateIn s w (command.BlockdevSnapshot c) told
   late_in o s some shows = record { seen = seen; is_told = told_so o s some shows; exact = inl stopped; same = same_answer }
 
-  told_in : (v : Face) (o : Opening) (s : State) → is_some w.files ≡ true → ShowsState o s w
+  told_in : (v : WorldSeen) (o : Opening) (s : State) → is_some w.files ≡ true → ShowsState o s w
       → AllPerformed s (answer w.table told (command.BlockdevSnapshot c)).changes (contents_of w) (contents_of v)
       → IsCarriedIn s w v (command.BlockdevSnapshot c) told
   told_in v o s some shows did = record {
@@ -164,13 +164,13 @@ module _ (w : Face) (c : Snapshot (List ℕ)) (told : Told) (tells : TellsMapped
     performed = did;
   }
 
-  uncaused : (cause : Refusal) → is_failed cause ≡ false → IsCaused w w (command.BlockdevSnapshot c) cause
+  uncaused : (cause : Refusal) → is_io_refusal cause ≡ false → IsCaused w w (command.BlockdevSnapshot c) cause
   uncaused (refusal.Io source count) call = absurd (let bad : ⊥ = cc call in bad)
   uncaused (refusal.NoSpace dev) call = absurd (let bad : ⊥ = cc call in bad)
   uncaused _ call = tt
 
   -- refused, all is as it was
-  pub refused_covered : (cause : Refusal) → refusal_of w.table told (command.BlockdevSnapshot c) ≡ Some cause
+  pub refused_covered : (cause : Refusal) → refusal_to w.table told (command.BlockdevSnapshot c) ≡ Some cause
       → (carried : IsCarried w w (command.BlockdevSnapshot c) (Some cause)) × (carried.told ≡ told)
   refused_covered cause some =
       let changes : (answer w.table told (command.BlockdevSnapshot c)).changes ≡ []
@@ -198,7 +198,7 @@ module _ (w : Face) (c : Snapshot (List ℕ)) (told : Told) (tells : TellsMapped
 
   -- ---- the overlay is over the node
 
-  module _ (whole : IsWholeWorld w) (joined : IsJoined w.nodes) (none : refusal_of w.table told (command.BlockdevSnapshot c) ≡ None) where
+  module _ (whole : IsWholeWorld w) (joined : IsJoined w.nodes) (none : refusal_to w.table told (command.BlockdevSnapshot c) ≡ None) where
     abbrev h : TableStands w.table
     h = whole.coherent.table.stands
 
@@ -214,10 +214,10 @@ module _ (w : Face) (c : Snapshot (List ℕ)) (told : Told) (tells : TellsMapped
     abbrev nodes : Nodes
     nodes = covered node overlay w.nodes
 
-    abbrev u : Table
+    abbrev u : RunTable
     u = table_then w.table h c told none
 
-    abbrev v : Face
+    abbrev v : WorldSeen
     v = record w { nodes = nodes; table = u }
 
     clear : is_some w.files ≡ true → IsClear w.nodes overlay
@@ -227,7 +227,7 @@ module _ (w : Face) (c : Snapshot (List ℕ)) (told : Told) (tells : TellsMapped
       told = whole.tell some;
     }
 
-    held_same : (name : List ℕ) (over : Option ℕ) → held_by v name over ≡ held_by w name over
+    held_same : (name : List ℕ) (over : Option ℕ) → held_in_file v name over ≡ held_in_file w name over
     held_same name None = refl
     held_same name (Some n) = refl
 
@@ -277,7 +277,7 @@ module _ (w : Face) (c : Snapshot (List ℕ)) (told : Told) (tells : TellsMapped
         (carried, refl)
 
     -- as it was said to be put there
-    pub covering_done : (now : Nodes) (x : Table) → x ≡ all_changed w.table (answer w.table told (command.BlockdevSnapshot c)).changes
+    pub covering_done : (now : Nodes) (x : RunTable) → x ≡ all_changed w.table (answer w.table told (command.BlockdevSnapshot c)).changes
         → IsCovered w.table c w.nodes now → AreCalm w.table w.progress.guests (drained_by w.table (command.BlockdevSnapshot c))
         → ((carried : IsCarried w (record w { nodes = now; table = x }) (command.BlockdevSnapshot c) None) × (carried.told ≡ told))
         × IsWholeWorld (record w { nodes = now; table = x })
@@ -294,8 +294,8 @@ module _ (w : Face) (c : Snapshot (List ℕ)) (told : Told) (tells : TellsMapped
         (subst (λ (n : ℕ). ReadCovered w.nodes now n put.overlay) one
         (put.disks (subst (IsClear w.nodes) (sym two) free)))) in
         let same : v ≡ record w { nodes = now; table = x }
-        = ap (λ (n : Nodes). let f : Face = record w { nodes = n; table = u } in f) (sym same_nodes)
-        ∙ ap (λ (y : Table). let f : Face = record w { nodes = now; table = y } in f) (sym same_table) in (
-          subst (λ (f : Face). (carried : IsCarried w f (command.BlockdevSnapshot c) None) × (carried.told ≡ told)) same (covered_carried calm reads),
+        = ap (λ (n : Nodes). let f : WorldSeen = record w { nodes = n; table = u } in f) (sym same_nodes)
+        ∙ ap (λ (y : RunTable). let f : WorldSeen = record w { nodes = now; table = y } in f) (sym same_table) in (
+          subst (λ (f : WorldSeen). (carried : IsCarried w f (command.BlockdevSnapshot c) None) × (carried.told ≡ told)) same (covered_carried calm reads),
           subst IsWholeWorld same (record { coherent = coherent; tell = whole.tell; counted = whole.counted; bitmaps = whole.bitmaps }),
         )

@@ -14,10 +14,10 @@ use Rattle.blk_graph.proofs.Members.{Contains-map}
 use Rattle.blk_history.specs.Disk.{span_of}
 use Rattle.blk_history.specs.Fold.{With}
 use Rattle.qmp_rules.specs.Chains.{filter_role, disk_node}
-use Rattle.qmp_rules.specs.Table.{Table, child, kinds_of, node_at}
+use Rattle.qmp_rules.specs.Table.{RunTable, child, kinds_of, node_by_id}
 use Rattle.qmp_rules.specs.declared.rows.NodeRecord.{NodeRecord}
 use Rattle.flat_machine.specs.Agreement.{HasDisk}
-use Rattle.flat_machine.specs.State.{Guest, disk_of_guest, drive_of, size_of}
+use Rattle.flat_machine.specs.State.{Guest, disk_of_guest, drive_of, size_by_id}
 use Rattle.flat_machine.specs.Suiting.{IsAlone}
 use Rattle.flat_machine.specs.Wiring.{TableStands}
 use Rattle.flat_machine.proofs.Kept.{own_disk}
@@ -34,18 +34,18 @@ use Rattle.world_parts.specs.Progress.{Progress}
 use Rattle.world_commands.proofs.CoverReady.{covered_same}
 use Rattle.world_commands.proofs.GuestEdges.{guest_edge}
 
-module _ (t : Table) (node overlay : NodeRecord) (over : LiesOver t node overlay) (bare : child t overlay.id Backing ≡ None)
+module _ (t : RunTable) (node overlay : NodeRecord) (over : LiesOver t node overlay) (bare : child t overlay.id Backing ≡ None)
     (lone : IsAlone t overlay.id) (settled : overlay.is_settled ≡ true) (size : overlay.size ≡ node.size) (h : TableStands t) where
-  abbrev u : Table
+  abbrev u : RunTable
   u = covered_table t node overlay over bare h
 
   abbrev to : ℕ → ℕ
   to = moving node.id overlay.id
 
-  node_found : node_at t node.id ≡ Some node
+  node_found : node_by_id t node.id ≡ Some node
   node_found = h.apart node over.node_there
 
-  overlay_found : node_at t overlay.id ≡ Some overlay
+  overlay_found : node_by_id t overlay.id ≡ Some overlay
   overlay_found = h.apart overlay over.overlay_there
 
   overlay_own : filter_role overlay.kind ≡ None
@@ -90,21 +90,21 @@ module _ (t : Table) (node overlay : NodeRecord) (over : LiesOver t node overlay
   ]
 
   -- a fact of rows that the overlay has is so where an edge leads then
-  row_to : (P : NodeRecord → Type 0) → P overlay → (n : ℕ) → With (node_at t n) P → With (node_at t (to n)) P
+  row_to : (P : NodeRecord → Type 0) → P overlay → (n : ℕ) → With (node_by_id t n) P → With (node_by_id t (to n)) P
   row_to P own n has = elim (cases_eq n node.id) [
-    | inr other ↦ subst (λ (m : ℕ). With (node_at t m) P) (sym (to-other n other)) has
-    | inl is ↦ subst (λ (m : ℕ). With (node_at t m) P) (sym (ap to is ∙ to-node)) (with_at P (node_at t overlay.id) overlay overlay_found own)
+    | inr other ↦ subst (λ (m : ℕ). With (node_by_id t m) P) (sym (to-other n other)) has
+    | inl is ↦ subst (λ (m : ℕ). With (node_by_id t m) P) (sym (ap to is ∙ to-node)) (with_at P (node_by_id t overlay.id) overlay overlay_found own)
   ]
 
-  size_to : (n : ℕ) → size_of t (to n) ≡ size_of t n
+  size_to : (n : ℕ) → size_by_id t (to n) ≡ size_by_id t n
   size_to n = elim (cases_eq n node.id) [
-    | inr other ↦ ap (size_of t) (to-other n other)
+    | inr other ↦ ap (size_by_id t) (to-other n other)
     | inl is ↦
-        ap (size_of t) (ap to is ∙ to-node) ∙ size_at overlay.id overlay overlay_found ∙ size ∙ sym (size_at node.id node node_found)
-        ∙ ap (size_of t) (sym is)
+        ap (size_by_id t) (ap to is ∙ to-node) ∙ size_at overlay.id overlay overlay_found ∙ size ∙ sym (size_at node.id node node_found)
+        ∙ ap (size_by_id t) (sym is)
   ]
     where
-      size_at : (id : ℕ) (row : NodeRecord) → node_at t id ≡ Some row → size_of t id ≡ row.size
+      size_at : (id : ℕ) (row : NodeRecord) → node_by_id t id ≡ Some row → size_by_id t id ≡ row.size
       size_at id row found = ap (λ (r : Option NodeRecord). unwrap_or (option_map (λ (x : NodeRecord). x.size) r) 0) found
 
   led-from : (found : Option ℕ) (n : ℕ) → option_map to found ≡ Some n → (m : ℕ) × (found ≡ Some m) × (to m ≡ n)
@@ -123,13 +123,13 @@ module _ (t : Table) (node overlay : NodeRecord) (over : LiesOver t node overlay
   on_disks : AreOnDisks t → AreOnDisks u
   on_disks was g n on =
       let from = led-from (drive_of t g) n (sym (drive_led g) ∙ on) in
-      subst (λ (m : ℕ). With (node_at t m) HasDisk) (sym (disk_to from.0) ∙ ap (disk_node u) from.2)
+      subst (λ (m : ℕ). With (node_by_id t m) HasDisk) (sym (disk_to from.0) ∙ ap (disk_node u) from.2)
       (row_to HasDisk (record { settled = settled; own = overlay_own }) (disk_node t from.0) (was g from.0 from.1))
 
   on_writable : AreOnWritable t → AreOnWritable u
   on_writable was g n device there writes on =
       let from = led-from (drive_of t g) n (sym (drive_led g) ∙ on) in
-      subst (λ (m : ℕ). With (node_at t m) (λ row. row.read_only ≡ false)) from.2
+      subst (λ (m : ℕ). With (node_by_id t m) (λ row. row.read_only ≡ false)) from.2
       (row_to (λ row. row.read_only ≡ false) over.writable from.0 (was g from.0 device there writes from.1))
 
   guest_disk : (g : ℕ) → disk_of_guest u g ≡ option_map to (disk_of_guest t g)
@@ -141,10 +141,10 @@ module _ (t : Table) (node overlay : NodeRecord) (over : LiesOver t node overlay
 
   are_within : (guests : List Guest) → AreWithin t guests → AreWithin u guests
   are_within guests was g f flies =
-      subst (λ (found : Option ℕ). With found (λ n. end_of (span_of f.op) ≤ size_of t n)) (sym (guest_disk g))
+      subst (λ (found : Option ℕ). With found (λ n. end_of (span_of f.op) ≤ size_by_id t n)) (sym (guest_disk g))
       (by_disk (disk_of_guest t g) (was g f flies))
     where
-      by_disk : (found : Option ℕ) → With found (λ n. end_of (span_of f.op) ≤ size_of t n) → With (option_map to found) (λ n. end_of (span_of f.op) ≤ size_of t n)
+      by_disk : (found : Option ℕ) → With found (λ n. end_of (span_of f.op) ≤ size_by_id t n) → With (option_map to found) (λ n. end_of (span_of f.op) ≤ size_by_id t n)
       by_disk None bad = bad
       by_disk (Some n) fits = subst (λ (most : ℕ). end_of (span_of f.op) ≤ most) (sym (size_to n)) fits
 

@@ -26,7 +26,7 @@ use Rattle.blk_graph.proofs.OverLemmas.{IsAcyclic-with_over}
 use Rattle.blk_graph.proofs.Members.{find-Some}
 use Rattle.qmp_rules.specs.declared.rows.NodeRecord.{NodeRecord}
 use Rattle.qmp_rules.specs.Chains.{filter_role}
-use Rattle.qmp_rules.specs.Table.{Table, node_at, child}
+use Rattle.qmp_rules.specs.Table.{RunTable, node_by_id, child}
 use Rattle.q2_image.specs.Image.{Known}
 use Rattle.flat_machine.specs.Wiring.{LeadsToFile, TableStands}
 use Rattle.flat_machine.specs.Suiting.{IsAlone}
@@ -36,7 +36,7 @@ use Rattle.flat_machine.proofs.Covered.{no_edge_of}
 use Rattle.flat_machine.proofs.Snapshots.{covered_edges}
 use Rattle.blk_nodes.specs.Covering.{covered, IsCover}
 use Rattle.blk_nodes.specs.Joined.{HasSize, IsJoined}
-use Rattle.blk_nodes.specs.Nodes.{Nodes, row_at, file_of, kind_of}
+use Rattle.blk_nodes.specs.Nodes.{Nodes, row_at, file_of, driver_kind}
 use Rattle.blk_nodes.specs.declared.row.Driver.{Driver}
 use Rattle.blk_nodes.specs.declared.row.Driver.TheVariants as drivers
 use Rattle.blk_nodes.specs.declared.row.Row.{Row}
@@ -84,12 +84,12 @@ never_refused nodes node overlay result stop judged no_cycle apart keeps is = by
 
 -- ---- a table with an overlay that has no parent and no backing node
 
-module _ (t : Table) (node overlay : NodeRecord) (over : LiesOver t node overlay) (bare : child t overlay.id Backing ≡ None)
+module _ (t : RunTable) (node overlay : NodeRecord) (over : LiesOver t node overlay) (bare : child t overlay.id Backing ≡ None)
     (lone : IsAlone t overlay.id) (size : overlay.size ≡ node.size) (h : TableStands t) where
-  node_found : node_at t node.id ≡ Some node
+  node_found : node_by_id t node.id ≡ Some node
   node_found = h.apart node over.node_there
 
-  overlay_found : node_at t overlay.id ≡ Some overlay
+  overlay_found : node_by_id t overlay.id ≡ Some overlay
   overlay_found = h.apart overlay over.overlay_there
 
   -- a `file` node makes no edges
@@ -109,7 +109,7 @@ module _ (t : Table) (node overlay : NodeRecord) (over : LiesOver t node overlay
   -- the overlay's only edge leads to its file, which is another node than the one below
   from_overlay : (e : Edge) → Contains t.edges e → e.parent ≡ Node overlay.id
       → (under : NodeRecord) × Contains t.nodes under × (e.child ≡ under.id) × IsSome under.filename × (under.is_settled ≡ false)
-  from_overlay e there from = by_row (node_at t e.child) refl (h.edges e there).child
+  from_overlay e there from = by_row (node_by_id t e.child) refl (h.edges e there).child
     where
       role_is : (role : Role) → e.role ≡ role → has_role Qcow2 role ≡ true → e.role ≡ File
       role_is File is has = is
@@ -124,7 +124,7 @@ module _ (t : Table) (node overlay : NodeRecord) (over : LiesOver t node overlay
       file : e.role ≡ File
       file = role_is e.role refl (subst (λ (k : Kind). has_role k e.role ≡ true) over.driver (h.roles e overlay there over.overlay_there from))
 
-      by_row : (found : Option NodeRecord) → node_at t e.child ≡ found → IsSome found
+      by_row : (found : Option NodeRecord) → node_by_id t e.child ≡ found → IsSome found
           → (under : NodeRecord) × Contains t.nodes under × (e.child ≡ under.id) × IsSome under.filename × (under.is_settled ≡ false)
       by_row None is some = absurd (let bad : ⊥ = cc some in bad)
       by_row (Some under) is some =
@@ -160,9 +160,9 @@ module _ (t : Table) (node overlay : NodeRecord) (over : LiesOver t node overlay
 
       by_rest : (rest : List Edge) → IsPath t.edges reaches.first.child rest node.id → ⊥
       by_rest [] is =
-          let found : node_at t below.0.id ≡ Some below.0 = h.apart below.0 below.1 in
+          let found : node_by_id t below.0.id ≡ Some below.0 = h.apart below.0 below.1 in
           let same : below.0.id ≡ node.id = sym below.2 ∙ is in
-          let rows : Some below.0 ≡ Some node = sym found ∙ ap (node_at t) same ∙ node_found in
+          let rows : Some below.0 ≡ Some node = sym found ∙ ap (node_by_id t) same ∙ node_found in
           let row : below.0 ≡ node = cc rows in
           let settled : below.0.is_settled ≡ true = ap (λ (r : NodeRecord). r.is_settled) row ∙ over.disk.settled in
           let bad : ⊥ = cc (sym below.4 ∙ settled) in
@@ -175,7 +175,7 @@ module _ (t : Table) (node overlay : NodeRecord) (over : LiesOver t node overlay
   -- ---- in the nodes
 
   module _ (nodes : Nodes) (alike : AreNodesOf t nodes) (joined : IsJoined nodes) where
-    row_of : (r : NodeRecord) → node_at t r.id ≡ Some r → (own : Row) × (row_at nodes r.id ≡ Some own) × IsRowOf r own
+    row_of : (r : NodeRecord) → node_by_id t r.id ≡ Some r → (own : Row) × (row_at nodes r.id ≡ Some own) × IsRowOf r own
     row_of r found =
         by_own (row_at nodes r.id) refl
         (subst (λ (x : Option NodeRecord). AreAlike x (row_at nodes r.id)) found (alike.rows r.id))
@@ -184,7 +184,7 @@ module _ (t : Table) (node overlay : NodeRecord) (over : LiesOver t node overlay
         by_own None is bad = absurd bad
         by_own (Some own) is same = (own, is, same)
 
-    image_of : (driver : Driver) → kind_of driver ≡ Qcow2 → (image : Known) × (driver ≡ drivers.Qcow2 image)
+    image_of : (driver : Driver) → driver_kind driver ≡ Qcow2 → (image : Known) × (driver ≡ drivers.Qcow2 image)
     image_of drivers.File is = absurd (let bad : ⊥ = cc is in bad)
     image_of (drivers.Raw part) is = absurd (let bad : ⊥ = cc is in bad)
     image_of (drivers.Qcow2 image) is = (image, refl)
@@ -207,12 +207,12 @@ module _ (t : Table) (node overlay : NodeRecord) (over : LiesOver t node overlay
 
     -- only filters have the node as file
     copies : (parent : ℕ) (row : Row) → row_at nodes parent ≡ Some row → file_of nodes parent ≡ Some node.id → row.driver ≡ drivers.CopyOnRead
-    copies parent row there file = by_row (node_at t parent) refl (alike.rows parent)
+    copies parent row there file = by_row (node_by_id t parent) refl (alike.rows parent)
       where
         child_is : child t parent File ≡ Some node.id
         child_is = ap (child_of (Node parent) File) (sym alike.edges) ∙ file
 
-        by_driver : (r : NodeRecord) (driver : Driver) → r.kind ≡ kind_of driver → IsSome (filter_role r.kind) → driver ≡ drivers.CopyOnRead
+        by_driver : (r : NodeRecord) (driver : Driver) → r.kind ≡ driver_kind driver → IsSome (filter_role r.kind) → driver ≡ drivers.CopyOnRead
         by_driver r drivers.CopyOnRead is filter = refl
         by_driver r drivers.File is filter = let none = subst (λ (k : Kind). IsSome (filter_role k)) is filter in absurd (let bad : ⊥ = cc none in bad)
         by_driver r (drivers.Raw part) is filter = let none = subst (λ (k : Kind). IsSome (filter_role k)) is filter in absurd (let bad : ⊥ = cc none in bad)
@@ -240,7 +240,7 @@ module _ (t : Table) (node overlay : NodeRecord) (over : LiesOver t node overlay
                 let gone = (h.taken r node edge (subst IsSome (sym is) refl)).gone in
                 absurd (let bad : ⊥ = cc (sym gone ∙ over.disk.settled) in bad)
 
-        by_row : (found : Option NodeRecord) → node_at t parent ≡ found → AreAlike found (row_at nodes parent) → row.driver ≡ drivers.CopyOnRead
+        by_row : (found : Option NodeRecord) → node_by_id t parent ≡ found → AreAlike found (row_at nodes parent) → row.driver ≡ drivers.CopyOnRead
         by_row None is same = absurd (let none = subst (AreAlike None) there same in none)
         by_row (Some r) is same =
             let here = find-Some (λ (x : NodeRecord). x.id == parent) t.nodes r is in
@@ -278,7 +278,7 @@ module _ (t : Table) (node overlay : NodeRecord) (over : LiesOver t node overlay
           child = node_there;
           table =
               ap (λ (k : NodeKind). has_role k.kind Backing) (joined.kinds overlay.id own.0 own.1)
-              ∙ ap (λ (d : Driver). has_role (kind_of d) Backing) image.1;
+              ∙ ap (λ (d : Driver). has_role (driver_kind d) Backing) image.1;
         }) joined.sound.fit)
 
     edges_apart : IsApart nodes.graph.edges node.id overlay.id

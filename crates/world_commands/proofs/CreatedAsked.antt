@@ -17,29 +17,29 @@ use Rattle.qmp_rules.specs.declared.refusal.Refusal.{Refusal}
 use Rattle.qmp_rules.specs.declared.rows.NodeRecord.{NodeRecord}
 use Rattle.qmp_asks.specs.declared.look.Look.TheVariants as look
 use Rattle.qmp_rules.specs.declared.told.Told.{Told}
-use Rattle.qmp_rules.specs.Answers.{unbuilt, out_of_turn, refusal_of, refusal_behind}
+use Rattle.qmp_rules.specs.Answers.{unbuilt, out_of_turn, refusal_to, refusal_behind}
 use Rattle.qmp_asks.specs.Asking.{Asking}
-use Rattle.qmp_rules.specs.Asks.{holds, first, stands_for, told_at}
+use Rattle.qmp_rules.specs.Asks.{holds, first_unmet_ask, stands_for, told_at}
 use Rattle.qmp_asks.specs.CommandAsks.{asks_of, negotiates}
 use Rattle.qmp_asks.specs.NodeAsks.{del_asks}
 use Rattle.qmp_rules.specs.Refusals.{or_else}
-use Rattle.qmp_rules.specs.Table.{Table, node_named, first_into}
+use Rattle.qmp_rules.specs.Table.{RunTable, node_named, first_into}
 use Rattle.qmp_asks.specs.Values.{amount_or, is_size, is_image_size, most_size, absent_or, is_image_format, is_just, is_version}
 use Rattle.world_parts.specs.Deleting.{Deletes}
 use Rattle.flat_machine.proofs.Accepted.{is_protocol, look-quiet}
 use Rattle.flat_machine.proofs.Asked.{none-both, NoneHolds, none-holds, found-named, takes-driver, lone-node, none-stands, good-value}
 
 -- the asks of a command that nothing refuses
-pub asked : (t : Table) (told : Told) (c : Cmd) → refusal_of t told c ≡ None → NoneHolds t told (asks_of c)
-unfolding refusal_of
+pub asked : (t : RunTable) (told : Told) (c : Cmd) → refusal_to t told c ≡ None → NoneHolds t told (asks_of c)
+unfolding refusal_to
 asked t told c none =
     let built = none-both (unbuilt c) _ none in
     let turn = none-both (out_of_turn (negotiates c) t.negotiated) _ built.1 in
-    none-holds t told (asks_of c) (none-both (first t told (asks_of c)) (refusal_behind t told c) turn.1).0
+    none-holds t told (asks_of c) (none-both (first_unmet_ask t told (asks_of c)) (refusal_behind t told c) turn.1).0
 
 -- ---- deletions
 
-pub del_asked : (t : Table) (told : Told) (name : List ℕ) → refusal_of t told (command.BlockdevDel name) ≡ None → Deletes t name
+pub del_asked : (t : RunTable) (told : Told) (name : List ℕ) → refusal_to t told (command.BlockdevDel name) ≡ None → Deletes t name
 unfolding asks_of
 del_asked t told name none =
     let asks : NoneHolds t told (del_asks name) = asked t told (command.BlockdevDel name) none in
@@ -53,12 +53,12 @@ number_within (Number n) is = leb-true n most_size is
 number_within Negative is = absurd (let bad : ⊥ = cc is in bad)
 
 -- no node stands for the file, and nothing is told against it
-pub record MakesFile (t : Table) (told : Told) (c : CreateFile (List ℕ)) : Type 0 where
+pub record MakesFile (t : RunTable) (told : Told) (c : CreateFile (List ℕ)) : Type 0 where
   pub closed : list_any (stands_for c.filename) t.nodes ≡ false
   pub quiet : told_at look.File told.stopped ≡ None
   pub small : amount_or 0 (Some c.size) ≤ most_size
 
-module _ (t : Table) (told : Told) (id : List ℕ) (c : CreateFile (List ℕ)) where
+module _ (t : RunTable) (told : Told) (id : List ℕ) (c : CreateFile (List ℕ)) where
   abbrev makes : Cmd
   makes = command.BlockdevCreate (record { job_id = id; options = created.File c })
 
@@ -72,7 +72,7 @@ module _ (t : Table) (told : Told) (id : List ℕ) (c : CreateFile (List ℕ)) w
       ∷ ask.Closed c.filename
       ∷ []
 
-  pub file_asked : refusal_of t told makes ≡ None → MakesFile t told c
+  pub file_asked : refusal_to t told makes ≡ None → MakesFile t told c
   unfolding asks_of
   file_asked none =
       let asks = asked t told makes none in
@@ -93,7 +93,7 @@ image_within (Number n) is = leb-true n most_size (left_of _ _ is)
 image_within Negative is = absurd (let bad : ⊥ = cc is in bad)
 
 -- the node is a `file` node that no edge leads to, and nothing is told against it
-pub record FormatsNode (t : Table) (told : Told) (c : CreateQcow2 (List ℕ)) : Type 0 where
+pub record FormatsNode (t : RunTable) (told : Told) (c : CreateQcow2 (List ℕ)) : Type 0 where
   pub row : NodeRecord
   pub found : node_named t c.file ≡ Some row
   pub driver : row.kind ≡ Protocol
@@ -102,8 +102,8 @@ pub record FormatsNode (t : Table) (told : Told) (c : CreateQcow2 (List ℕ)) : 
   pub small : amount_or 0 (Some c.size) ≤ most_size
   pub named : holds t told (ask.FileNamed (codes "backing-file") c.backing_file) ≡ None
 
-pub format_asked : (t : Table) (told : Told) (id : List ℕ) (c : CreateQcow2 (List ℕ))
-    → refusal_of t told (command.BlockdevCreate (record { job_id = id; options = created.Qcow2 c })) ≡ None → FormatsNode t told c
+pub format_asked : (t : RunTable) (told : Told) (id : List ℕ) (c : CreateQcow2 (List ℕ))
+    → refusal_to t told (command.BlockdevCreate (record { job_id = id; options = created.Qcow2 c })) ≡ None → FormatsNode t told c
 unfolding asks_of
 format_asked t told id c none =
     let asks = asked t told (command.BlockdevCreate (record { job_id = id; options = created.Qcow2 c })) none in
@@ -121,50 +121,50 @@ format_asked t told id c none =
 
 -- ---- a call that failed
 
-first_front : (t : Table) (told : Told) (xs ys : List Asking) → first t told (xs ++ ys) ≡ None → first t told xs ≡ None
+first_front : (t : RunTable) (told : Told) (xs ys : List Asking) → first_unmet_ask t told (xs ++ ys) ≡ None → first_unmet_ask t told xs ≡ None
 first_front t told [] ys none = refl
 first_front t told (asking ∷ xs) ys none =
-    let parts = none-both (holds t told asking) (first t told (xs ++ ys)) none in
-    ap (λ (r : Option Refusal). or_else r (first t told xs)) parts.0 ∙ first_front t told xs ys parts.1
+    let parts = none-both (holds t told asking) (first_unmet_ask t told (xs ++ ys)) none in
+    ap (λ (r : Option Refusal). or_else r (first_unmet_ask t told xs)) parts.0 ∙ first_front t told xs ys parts.1
 
 -- the last ask alone is refused, where it is told of another thing
-late : (t : Table) (old now : Told) (front : List Asking) (last : Asking) (cause : Refusal)
-    → first t old (front ++ last ∷ []) ≡ None → first t now front ≡ first t old front → holds t now last ≡ Some cause
-    → first t now (front ++ last ∷ []) ≡ Some cause
+late : (t : RunTable) (old now : Told) (front : List Asking) (last : Asking) (cause : Refusal)
+    → first_unmet_ask t old (front ++ last ∷ []) ≡ None → first_unmet_ask t now front ≡ first_unmet_ask t old front → holds t now last ≡ Some cause
+    → first_unmet_ask t now (front ++ last ∷ []) ≡ Some cause
 late t old now front last cause none same fails = joined front none same
   where
-    joined : (xs : List Asking) → first t old (xs ++ last ∷ []) ≡ None → first t now xs ≡ first t old xs
-        → first t now (xs ++ last ∷ []) ≡ Some cause
+    joined : (xs : List Asking) → first_unmet_ask t old (xs ++ last ∷ []) ≡ None → first_unmet_ask t now xs ≡ first_unmet_ask t old xs
+        → first_unmet_ask t now (xs ++ last ∷ []) ≡ Some cause
     joined [] none same = ap (λ (r : Option Refusal). or_else r None) fails
     joined (asking ∷ xs) none same =
-        let parts = none-both (holds t old asking) (first t old (xs ++ last ∷ [])) none in
-        let front_none : first t old (asking ∷ xs) ≡ None = first_front t old (asking ∷ xs) (last ∷ []) none in
-        let now_none : first t now (asking ∷ xs) ≡ None = same ∙ front_none in
-        let parts' = none-both (holds t now asking) (first t now xs) now_none in
-        ap (λ (r : Option Refusal). or_else r (first t now (xs ++ last ∷ []))) parts'.0
+        let parts = none-both (holds t old asking) (first_unmet_ask t old (xs ++ last ∷ [])) none in
+        let front_none : first_unmet_ask t old (asking ∷ xs) ≡ None = first_front t old (asking ∷ xs) (last ∷ []) none in
+        let now_none : first_unmet_ask t now (asking ∷ xs) ≡ None = same ∙ front_none in
+        let parts' = none-both (holds t now asking) (first_unmet_ask t now xs) now_none in
+        ap (λ (r : Option Refusal). or_else r (first_unmet_ask t now (xs ++ last ∷ []))) parts'.0
         ∙ joined xs parts.1 (parts'.1 ∙ sym (first_front t old xs (last ∷ []) parts.1))
 
 -- what the files tell at the last ask is then the answer
-module _ (t : Table) (told now : Told) (cause : Refusal) where
-  answered : (c : Cmd) → refusal_of t told c ≡ None → first t now (asks_of c) ≡ Some cause → refusal_of t now c ≡ Some cause
-  unfolding refusal_of
+module _ (t : RunTable) (told now : Told) (cause : Refusal) where
+  answered : (c : Cmd) → refusal_to t told c ≡ None → first_unmet_ask t now (asks_of c) ≡ Some cause → refusal_to t now c ≡ Some cause
+  unfolding refusal_to
   answered c none asks =
       let built = none-both (unbuilt c) _ none in
       let turn = none-both (out_of_turn (negotiates c) t.negotiated) _ built.1 in
       let behind : Option Refusal = refusal_behind t now c in
-      ap (λ (r : Option Refusal). or_else r (or_else (out_of_turn (negotiates c) t.negotiated) (or_else (first t now (asks_of c)) behind))) built.0
-      ∙ ap (λ (r : Option Refusal). or_else r (or_else (first t now (asks_of c)) behind)) turn.0
+      ap (λ (r : Option Refusal). or_else r (or_else (out_of_turn (negotiates c) t.negotiated) (or_else (first_unmet_ask t now (asks_of c)) behind))) built.0
+      ∙ ap (λ (r : Option Refusal). or_else r (or_else (first_unmet_ask t now (asks_of c)) behind)) turn.0
       ∙ ap (λ (r : Option Refusal). or_else r behind) asks
 
-  none_first : (c : Cmd) → refusal_of t told c ≡ None → first t told (asks_of c) ≡ None
-  unfolding refusal_of
+  none_first : (c : Cmd) → refusal_to t told c ≡ None → first_unmet_ask t told (asks_of c) ≡ None
+  unfolding refusal_to
   none_first c none =
       let built = none-both (unbuilt c) _ none in
       let turn = none-both (out_of_turn (negotiates c) t.negotiated) _ built.1 in
-      (none-both (first t told (asks_of c)) (refusal_behind t told c) turn.1).0
+      (none-both (first_unmet_ask t told (asks_of c)) (refusal_behind t told c) turn.1).0
 
-  pub file_fails : (id : List ℕ) (c : CreateFile (List ℕ)) → refusal_of t told (makes t told id c) ≡ None → told_at look.File now.stopped ≡ Some cause
-      → refusal_of t now (makes t told id c) ≡ Some cause
+  pub file_fails : (id : List ℕ) (c : CreateFile (List ℕ)) → refusal_to t told (makes t told id c) ≡ None → told_at look.File now.stopped ≡ Some cause
+      → refusal_to t now (makes t told id c) ≡ Some cause
   unfolding asks_of holds
   file_fails id c none fails =
       answered (makes t told id c) none
@@ -188,8 +188,8 @@ module _ (t : Table) (told now : Told) (cause : Refusal) where
       ∷ []
 
   pub format_fails : (id : List ℕ) (c : CreateQcow2 (List ℕ))
-      → refusal_of t told (command.BlockdevCreate (record { job_id = id; options = created.Qcow2 c })) ≡ None → told_at look.Format now.stopped ≡ Some cause
-      → refusal_of t now (command.BlockdevCreate (record { job_id = id; options = created.Qcow2 c })) ≡ Some cause
+      → refusal_to t told (command.BlockdevCreate (record { job_id = id; options = created.Qcow2 c })) ≡ None → told_at look.Format now.stopped ≡ Some cause
+      → refusal_to t now (command.BlockdevCreate (record { job_id = id; options = created.Qcow2 c })) ≡ Some cause
   unfolding asks_of holds
   format_fails id c none fails =
       let formats : Cmd = command.BlockdevCreate (record { job_id = id; options = created.Qcow2 c }) in
@@ -197,8 +197,8 @@ module _ (t : Table) (told now : Told) (cause : Refusal) where
       (late t told now (format_front id c) (ask.Files look.Format) cause (none_first formats none) refl fails)
 
 -- a driver that creates nothing is refused
-pub unknown_refused : (t : Table) (told : Told) (id : List ℕ)
-    → refusal_of t told (command.BlockdevCreate (record { job_id = id; options = created.Unknown })) ≡ None → ⊥
+pub unknown_refused : (t : RunTable) (told : Told) (id : List ℕ)
+    → refusal_to t told (command.BlockdevCreate (record { job_id = id; options = created.Unknown })) ≡ None → ⊥
 unfolding asks_of
 unknown_refused t told id none =
     let asks = asked t told (command.BlockdevCreate (record { job_id = id; options = created.Unknown })) none in

@@ -14,11 +14,11 @@ use Rattle.qmp_codec.specs.declared.nodes.CreateFile.{CreateFile}
 use Rattle.qmp_codec.specs.declared.nodes.Created.{Created}
 use Rattle.qmp_codec.specs.declared.nodes.Created.TheVariants as created
 use Rattle.qmp_codec.specs.declared.command.Command.TheVariants as command
-use Rattle.qmp_rules.specs.Answers.{refusal_of}
+use Rattle.qmp_rules.specs.Answers.{refusal_to}
 use Rattle.qmp_rules.specs.Asks.{holds, stands_for, told_at}
 use Rattle.qmp_rules.specs.Looks.{create_told, too_long, stop_at}
 use Rattle.qmp_asks.specs.Naming.{is_file_name}
-use Rattle.qmp_rules.specs.Table.{Table, node_at}
+use Rattle.qmp_rules.specs.Table.{RunTable, node_by_id}
 use Rattle.qmp_asks.specs.Values.{amount_or}
 use Rattle.qmp_asks.specs.declared.ask.Ask.TheVariants as ask
 use Rattle.qmp_rules.specs.declared.rows.NodeRecord.{NodeRecord}
@@ -28,7 +28,7 @@ use Rattle.flat_machine.specs.State.{filename_of}
 use Rattle.flat_machine.proofs.Asked.{not-refused}
 use Rattle.flat_machine.proofs.Finds.{same-bytes_eq}
 use Rattle.blk_nodes.specs.Joined.{IsFile}
-use Rattle.blk_nodes.specs.Nodes.{Nodes, DeviceState, row_at, kind_of}
+use Rattle.blk_nodes.specs.Nodes.{Nodes, DeviceSeen, row_at, driver_kind}
 use Rattle.blk_nodes.specs.declared.row.Driver.{Driver}
 use Rattle.blk_nodes.specs.declared.row.Driver.TheVariants.{File, Raw, Qcow2, CopyOnRead}
 use Rattle.blk_nodes.specs.declared.row.Row.{Row}
@@ -62,7 +62,7 @@ out-parts name o is = by_tests (bytes_eq name o.name) refl o.returned refl is
     by_tests false same r back passes = absurd (let bad : ⊥ = cc passes in bad)
 
 -- no device of a file is out for which no node stands
-pub closed_in : (t : Table) (nodes : Nodes) (opened : List Opened) (name : List ℕ) → AreOut t nodes opened → list_any (stands_for name) t.nodes ≡ false
+pub closed_in : (t : RunTable) (nodes : Nodes) (opened : List Opened) (name : List ℕ) → AreOut t nodes opened → list_any (stands_for name) t.nodes ≡ false
     → IsTrue (is_out name opened) → ⊥
 closed_in t nodes opened name out none is =
     let open' = out-some name opened is in
@@ -70,20 +70,20 @@ closed_in t nodes opened name out none is =
     by_device open'.0 open'.1 open'.2 parts.0 (device_numbered nodes.devices open'.0) refl (out.all open'.0 open'.1 open'.2 parts.1)
   where
     by_node : (node : ℕ) → filename_of t node ≡ Some name → ⊥
-    by_node node named = by_row (node_at t node) refl named
+    by_node node named = by_row (node_by_id t node) refl named
       where
-        by_row : (row : Option NodeRecord) → node_at t node ≡ row → option_and_then (λ (r : NodeRecord). r.filename) row ≡ Some name → ⊥
+        by_row : (row : Option NodeRecord) → node_by_id t node ≡ row → option_and_then (λ (r : NodeRecord). r.filename) row ≡ Some name → ⊥
         by_row None at bad = let e : ⊥ = cc bad in e
         by_row (Some row) at stands =
             let found = find-Some (λ (r : NodeRecord). r.id == node) t.nodes row at in
             let bad = sym none ∙ list_any-there (stands_for name) t.nodes row found.0 (named-stands name row stands) in
             let e : ⊥ = cc bad in e
 
-    by_device : (k : ℕ) (o : Opened) → slice_get opened k ≡ Some o → name ≡ o.name → (found : Option DeviceState) → device_numbered nodes.devices k ≡ found
+    by_device : (k : ℕ) (o : Opened) → slice_get opened k ≡ Some o → name ≡ o.name → (found : Option DeviceSeen) → device_numbered nodes.devices k ≡ found
         → IsSome found → ⊥
     by_device k o at same None found some = let e : ⊥ = cc some in e
     by_device k o at same (Some d) found some =
-        let there = find-Some (λ (x : DeviceState). x.number.0 == k) nodes.devices d found in
+        let there = find-Some (λ (x : DeviceSeen). x.number.0 == k) nodes.devices d found in
         let number : d.number.0 ≡ k = eqb-true d.number.0 k there.1 in
         let is_out = out.each d there.0 in
         let one : Some is_out.opening ≡ Some o = sym is_out.there ∙ ap (slice_get opened) number ∙ at in
@@ -104,14 +104,14 @@ room_for c room quiet = ltb-false room (amount_or 0 (Some c.size)) (by_test (nat
 
 -- ---- images
 
-file_kind : (driver : Driver) → kind_of driver ≡ kinds.Protocol → driver ≡ File
+file_kind : (driver : Driver) → driver_kind driver ≡ kinds.Protocol → driver ≡ File
 file_kind File is = refl
 file_kind (Raw part) is = absurd (let bad : ⊥ = cc is in bad)
 file_kind (Qcow2 image) is = absurd (let bad : ⊥ = cc is in bad)
 file_kind CopyOnRead is = absurd (let bad : ⊥ = cc is in bad)
 
 -- a `file` node of the table is one of the nodes
-pub file_of_table : (t : Table) (nodes : Nodes) → AreNodesOf t nodes → (row : NodeRecord) → node_at t row.id ≡ Some row → row.kind ≡ kinds.Protocol → IsFile nodes row.id
+pub file_of_table : (t : RunTable) (nodes : Nodes) → AreNodesOf t nodes → (row : NodeRecord) → node_by_id t row.id ≡ Some row → row.kind ≡ kinds.Protocol → IsFile nodes row.id
 file_of_table t nodes alike row at kind = by_own (row_at nodes row.id) refl (subst (λ (r : Option NodeRecord). AreAlike r (row_at nodes row.id)) at (alike.rows row.id))
   where
     by_own : (own : Option Row) → row_at nodes row.id ≡ own → AreAlike (Some row) own → IsFile nodes row.id
@@ -134,7 +134,7 @@ new_name name is =
     not-true false is' = refl
     not-true true is' = absurd (let e : ⊥ = cc is' in e)
 
-names_new : (t : Table) (told : Told) (name : Option (List ℕ)) → holds t told (ask.FileNamed (codes "backing-file") name) ≡ None → ForSome name IsNewName
+names_new : (t : RunTable) (told : Told) (name : Option (List ℕ)) → holds t told (ask.FileNamed (codes "backing-file") name) ≡ None → ForSome name IsNewName
 unfolding holds
 names_new t told None none = λ x is. absurd (let e : ⊥ = cc is in e)
 names_new t told (Some name) none = λ x is.
@@ -143,9 +143,9 @@ names_new t told (Some name) none = λ x is.
 
 -- ---- all of it
 
-module _ (t : Table) (x : Ground) (belong : Belong t x) (id : List ℕ) where
+module _ (t : RunTable) (x : Ground) (belong : Belong t x) (id : List ℕ) where
   pub can_create : (options : Created (List ℕ))
-      → refusal_of t (create_told options x.store.room) (command.BlockdevCreate (record { job_id = id; options = options })) ≡ None
+      → refusal_to t (create_told options x.store.room) (command.BlockdevCreate (record { job_id = id; options = options })) ≡ None
       → CanCreate t options x
   can_create (created.File c) none =
       let asked = file_asked t (create_told (created.File c) x.store.room) id c none in

@@ -10,10 +10,10 @@ use Rattle.blk_bitmaps.specs.declared.row.Bitmap.{Bitmap}
 use Rattle.blk_graph.proofs.Members.{Contains-filter}
 use Rattle.qmp_codec.specs.Commands.{Cmd}
 use Rattle.qmp_codec.specs.declared.command.Command.TheVariants as command
-use Rattle.qmp_rules.specs.Answers.{Answer, answer, refusal_of, untold}
+use Rattle.qmp_rules.specs.Answers.{Answer, answer, refusal_to, told_none}
 use Rattle.qmp_rules.specs.Changes.{changed, all_changed}
-use Rattle.qmp_rules.specs.Edits.{edits_of, goes_with_node, file_under, uses, with_inline, row_gone, of_row}
-use Rattle.qmp_rules.specs.Table.{Table, id_named}
+use Rattle.qmp_rules.specs.Edits.{edits_of, goes_with_node, file_under, file_uses, with_inline, row_gone, of_row}
+use Rattle.qmp_rules.specs.Table.{RunTable, id_named}
 use Rattle.qmp_rules.specs.declared.change.Change.{Change}
 use Rattle.qmp_rules.specs.declared.change.Change.TheVariants.{UseFile, RemoveNode}
 use Rattle.qmp_rules.specs.declared.rows.NodeRecord.{NodeRecord}
@@ -23,15 +23,15 @@ use Rattle.flat_machine.specs.Performing.{Removes, AllPerformed}
 use Rattle.flat_machine.specs.State.{State}
 use Rattle.flat_machine.specs.Wiring.{StandsFor, TableAtRest}
 use Rattle.flat_machine.proofs.BitmapRows.{follow-gone, follow-left, follow-none, leaves_bitmaps}
-use Rattle.blk_nodes.specs.Dropping.{without}
+use Rattle.blk_nodes.specs.Dropping.{nodes_without}
 use Rattle.blk_nodes.specs.Contents.{Unfolds}
 use Rattle.blk_nodes.specs.Joined.{IsJoined}
-use Rattle.blk_nodes.specs.Nodes.{DeviceState, device_in}
+use Rattle.blk_nodes.specs.Nodes.{DeviceSeen, device_in}
 use Rattle.world_parts.specs.Coherent.{IsWholeWorld}
 use Rattle.world_commands.specs.Counting.{RunsOn}
 use Rattle.world_commands.specs.Carrying.{opened_names}
-use Rattle.world_parts.specs.Deleting.{name_under, with_back, Ground, ground_of, left, all_left, going, CanLeave, HasLeft, HaveLeft, without_node, made_with, with_node_below, Belong, IsDeleted}
-use Rattle.world_parts.specs.Face.{Face, contents_of}
+use Rattle.world_parts.specs.Deleting.{name_under, with_back, Ground, ground_of, left, all_left, going, CanLeave, HasLeft, HaveLeft, after_deletion, made_with, with_node_below, Belong, IsDeleted}
+use Rattle.world_parts.specs.Face.{WorldSeen, contents_of}
 use Rattle.world_parts.specs.Handling.{bitmaps_but, bitmaps_left, bitmaps_named}
 use Rattle.world_commands.proofs.Belonging.{belong_of}
 use Rattle.world_commands.proofs.CarryPlain.{quiet-self}
@@ -50,15 +50,15 @@ use Rattle.world_commands.proofs.Placed.{placed, answer-is, CarriedUntold, carri
 
 -- ---- one node goes
 
-module _ (w : Face) (node : ℕ) (goes : Goes w) (can : CanLeave w.table (ground_of w) node) (has : HasLeft (ground_of w) node) where
-  abbrev v : Face
-  v = without_node node w
+module _ (w : WorldSeen) (node : ℕ) (goes : Goes w) (can : CanLeave w.table (ground_of w) node) (has : HasLeft (ground_of w) node) where
+  abbrev v : WorldSeen
+  v = after_deletion node w
 
   -- the store and the nodes of the world that is left are what is left of them
   pub same_ground : left w.table node (ground_of w) ≡ ground_of v
   same_ground = by_device (device_in w.nodes.devices node) refl
     where
-      by_device : (found : Option DeviceState) → device_in w.nodes.devices node ≡ found → left w.table node (ground_of w) ≡ ground_of v
+      by_device : (found : Option DeviceSeen) → device_in w.nodes.devices node ≡ found → left w.table node (ground_of w) ≡ ground_of v
       by_device None is = rw is refl
       by_device (Some d) is = rw is refl
 
@@ -113,10 +113,10 @@ module _ (w : Face) (node : ℕ) (goes : Goes w) (can : CanLeave w.table (ground
             files = files;
             told = is;
           } in
-          step_removes w node tells can has s (ap (λ (t : Table). t.nodes) same) (ap (λ (t : Table). t.edges) same)
+          step_removes w node tells can has s (ap (λ (t : RunTable). t.nodes) same) (ap (λ (t : RunTable). t.edges) same)
 
 -- where another table has the same rows the node can go too
-can_with : (t u : Table) (x : Ground) (node : ℕ) → Parts u x → CanLeave t x node → CanLeave u x node
+can_with : (t u : RunTable) (x : Ground) (node : ℕ) → Parts u x → CanLeave t x node → CanLeave u x node
 can_with t u x node parts can = record { there = can.there; lone = can.lone; out = λ d is. device_out u x parts node d is }
 
 -- ---- the node and the file node that was made with it
@@ -125,7 +125,7 @@ abbrev pub removals : List ℕ → List Change
 removals nodes = map (λ node. RemoveNode node) nodes
 
 -- these nodes have gone, and this is what is left of the ground
-record AreGone (w v : Face) (nodes : List ℕ) (x : Ground) : Type 0 where
+record AreGone (w v : WorldSeen) (nodes : List ℕ) (x : Ground) : Type 0 where
   goes : Goes v
   runs : RunsOn w v
   counts : KeepsCounts w v
@@ -133,8 +133,8 @@ record AreGone (w v : Face) (nodes : List ℕ) (x : Ground) : Type 0 where
   performed : (s : State) → is_some w.files ≡ true → s.table ≡ w.table → AllPerformed s (removals nodes) (contents_of w) (contents_of v)
 
 -- one, whose file has its name by a table of the same rows
-one_gone : (w : Face) (t : Table) (node : ℕ) → Goes w → CanLeave t (ground_of w) node → HasLeft (ground_of w) node → name_under t node ≡ name_under w.table node
-    → AreGone w (without_node node w) (node ∷ []) (left t node (ground_of w))
+one_gone : (w : WorldSeen) (t : RunTable) (node : ℕ) → Goes w → CanLeave t (ground_of w) node → HasLeft (ground_of w) node → name_under t node ≡ name_under w.table node
+    → AreGone w (after_deletion node w) (node ∷ []) (left t node (ground_of w))
 one_gone w t node goes can has named =
     let can' = can_with t w.table (ground_of w) node goes.parts can in
     record {
@@ -142,48 +142,48 @@ one_gone w t node goes can has named =
       runs = runs_left w node goes.parts goes.tell has;
       counts = counts_left w node goes.parts goes.tell has;
       ground_is =
-          ap (λ (name : List ℕ). let x : Ground = record { store = with_back name (device_in w.nodes.devices node) (ground_of w).store; nodes = without node w.nodes } in x) named
+          ap (λ (name : List ℕ). let x : Ground = record { store = with_back name (device_in w.nodes.devices node) (ground_of w).store; nodes = nodes_without node w.nodes } in x) named
           ∙ same_ground w node goes can' has;
-      performed = λ s told same. (contents_of (without_node node w), removes_left w node goes can' has s told same, quiet-self (contents_of (without_node node w)));
+      performed = λ s told same. (contents_of (after_deletion node w), removes_left w node goes can' has s told same, quiet-self (contents_of (after_deletion node w)));
     }
 
-two_gone : (w : Face) (t : Table) (node file : ℕ) → Goes w → CanLeave t (ground_of w) node → HasLeft (ground_of w) node → name_under t node ≡ name_under w.table node
+two_gone : (w : WorldSeen) (t : RunTable) (node file : ℕ) → Goes w → CanLeave t (ground_of w) node → HasLeft (ground_of w) node → name_under t node ≡ name_under w.table node
     → CanLeave t (left t node (ground_of w)) file → HasLeft (left t node (ground_of w)) file → name_under t file ≡ name_under (changed w.table (RemoveNode node)) file
-    → AreGone w (without_node file (without_node node w)) (node ∷ file ∷ []) (left t file (left t node (ground_of w)))
+    → AreGone w (after_deletion file (after_deletion node w)) (node ∷ file ∷ []) (left t file (left t node (ground_of w)))
 two_gone w t node file goes can has named can_file has_file named_file =
     let first = one_gone w t node goes can has named in
-    let then : Face = without_node node w in
+    let then : WorldSeen = after_deletion node w in
     let second = one_gone then t file first.goes (subst (λ (x : Ground). CanLeave t x file) first.ground_is can_file)
     (subst (λ (x : Ground). HasLeft x file) first.ground_is has_file) named_file in
     record {
       goes = second.goes;
-      runs = runs-then w then (without_node file then) first.runs second.runs;
-      counts = keeps-then w then (without_node file then) first.counts second.counts;
+      runs = runs-then w then (after_deletion file then) first.runs second.runs;
+      counts = keeps-then w then (after_deletion file then) first.counts second.counts;
       ground_is = ap (left t file) first.ground_is ∙ second.ground_is;
       performed = λ s told same. (
         contents_of then,
         removes_left w node goes (can_with t w.table (ground_of w) node goes.parts can) has s told same,
-        second.performed (stepped s (RemoveNode node)) (first.runs.told ∙ told) (ap (λ (u : Table). changed u (RemoveNode node)) same),
+        second.performed (stepped s (RemoveNode node)) (first.runs.told ∙ told) (ap (λ (u : RunTable). changed u (RemoveNode node)) same),
       );
     }
 
 -- ---- names of openings
 
-left_names : (t : Table) (node : ℕ) (x : Ground) → opened_names (left t node x).store.opened ≡ opened_names x.store.opened
+left_names : (t : RunTable) (node : ℕ) (x : Ground) → opened_names (left t node x).store.opened ≡ opened_names x.store.opened
 left_names t node x = by_device (device_in x.nodes.devices node)
   where
-    by_device : (found : Option DeviceState) → opened_names (with_back (name_under t node) found x.store).opened ≡ opened_names x.store.opened
+    by_device : (found : Option DeviceSeen) → opened_names (with_back (name_under t node) found x.store).opened ≡ opened_names x.store.opened
     by_device None = refl
     by_device (Some d) = same-back (λ (o : Opened). o.name) (λ o count. refl) (name_under t node) d.faults x.store.opened
 
-all_left_names : (t : Table) (nodes : List ℕ) (x : Ground) → opened_names (all_left t nodes x).store.opened ≡ opened_names x.store.opened
+all_left_names : (t : RunTable) (nodes : List ℕ) (x : Ground) → opened_names (all_left t nodes x).store.opened ≡ opened_names x.store.opened
 all_left_names t [] x = refl
 all_left_names t (node ∷ nodes) x = all_left_names t nodes (left t node x) ∙ left_names t node x
 
 -- ---- a deletion
 
-module _ (w : Face) (whole : IsWholeWorld w) (joined : IsJoined w.nodes) (unfolds : Unfolds w.nodes)
-    (name : List ℕ) (none : refusal_of w.table untold (command.BlockdevDel name) ≡ None) (x : Ground) (deleted : IsDeleted w.table name (ground_of w) x) where
+module _ (w : WorldSeen) (whole : IsWholeWorld w) (joined : IsJoined w.nodes) (unfolds : Unfolds w.nodes)
+    (name : List ℕ) (none : refusal_to w.table told_none (command.BlockdevDel name) ≡ None) (x : Ground) (deleted : IsDeleted w.table name (ground_of w) x) where
   abbrev c : Cmd
   c = command.BlockdevDel name
 
@@ -202,11 +202,11 @@ module _ (w : Face) (whole : IsWholeWorld w) (joined : IsJoined w.nodes) (unfold
   can : CanLeave w.table (ground_of w) node
   can =
       first_can w.table (ground_of w) joined belong node
-      (free_by w.table (ground_of w) belong name (del_asked w.table untold name none) node (ap (option_map (λ (r : NodeRecord). r.id)) deleted.found))
+      (free_by w.table (ground_of w) belong name (del_asked w.table told_none name none) node (ap (option_map (λ (r : NodeRecord). r.id)) deleted.found))
 
   -- ---- the file is used first
 
-  abbrev then : Option (List ℕ) → Face
+  abbrev then : Option (List ℕ) → WorldSeen
   then file = record w { table = used w.table file }
 
   goes_then : (file : Option (List ℕ)) → Goes (then file)
@@ -222,15 +222,15 @@ module _ (w : Face) (whole : IsWholeWorld w) (joined : IsJoined w.nodes) (unfold
   -- ---- the nodes go
 
   -- what is known in the end
-  record IsEnd (v : Face) (nodes : List ℕ) : Type 0 where
+  record IsEnd (v : WorldSeen) (nodes : List ℕ) : Type 0 where
     goes : Goes v
     runs : RunsOn w v
     counts : KeepsCounts w v
     ground_is : x ≡ ground_of v
     performed : (s : State) → is_some w.files ≡ true → s.table ≡ w.table
-        → AllPerformed s (uses (file_under w.table row) ++ removals nodes) (contents_of w) (contents_of v)
+        → AllPerformed s (file_uses (file_under w.table row) ++ removals nodes) (contents_of w) (contents_of v)
 
-  ended : (v : Face) (nodes : List ℕ) → AreGone (then (file_under w.table row)) v nodes x → IsEnd v nodes
+  ended : (v : WorldSeen) (nodes : List ℕ) → AreGone (then (file_under w.table row)) v nodes x → IsEnd v nodes
   ended v nodes gone = record {
     goes = gone.goes;
     runs = runs-then w (then (file_under w.table row)) v (runs_then (file_under w.table row)) gone.runs;
@@ -240,9 +240,9 @@ module _ (w : Face) (whole : IsWholeWorld w) (joined : IsJoined w.nodes) (unfold
         (gone.performed (state_used s (file_under w.table row)) told (table_used s w.table (file_under w.table row) same));
   }
 
-  abbrev last : Option ℕ → Face
-  last None = without_node node (then (file_under w.table row))
-  last (Some file) = without_node file (without_node node (then (file_under w.table row)))
+  abbrev last : Option ℕ → WorldSeen
+  last None = after_deletion node (then (file_under w.table row))
+  last (Some file) = after_deletion file (after_deletion node (then (file_under w.table row)))
 
   end_by : (made : Option ℕ) → made_with w.table node ≡ made → IsEnd (last made) (with_node_below node made)
   end_by None is =
@@ -269,12 +269,12 @@ module _ (w : Face) (whole : IsWholeWorld w) (joined : IsJoined w.nodes) (unfold
       by_row None = refl
       by_row (Some r) = refl
 
-  edits : (answer w.table untold c).changes ≡ uses (file_under w.table row) ++ removals (with_node_below node (made_with w.table node))
+  edits : (answer w.table told_none c).changes ≡ file_uses (file_under w.table row) ++ removals (with_node_below node (made_with w.table node))
   unfolding edits_of
   edits =
-      ap (λ (a : Answer). a.changes) (answer-is w.table untold c None none)
+      ap (λ (a : Answer). a.changes) (answer-is w.table told_none c None none)
       ∙ ap (of_row (row_gone w.table)) deleted.found
-      ∙ ap (λ (more : List Change). uses (file_under w.table row) ++ more) (sym inline_is)
+      ∙ ap (λ (more : List Change). file_uses (file_under w.table row) ++ more) (sym inline_is)
 
   last_table : (made : Option ℕ) → (last made).table ≡ all_changed (used w.table (file_under w.table row)) (removals (with_node_below node made))
   last_table None = refl
@@ -292,13 +292,13 @@ module _ (w : Face) (whole : IsWholeWorld w) (joined : IsJoined w.nodes) (unfold
   last_drains None = refl
   last_drains (Some file) = refl
 
-  abbrev final : Face
+  abbrev final : WorldSeen
   final = last (made_with w.table node)
 
   end : IsEnd final (with_node_below node (made_with w.table node))
   end = end_by (made_with w.table node) refl
 
-  final_table : final.table ≡ all_changed w.table (answer w.table untold c).changes
+  final_table : final.table ≡ all_changed w.table (answer w.table told_none c).changes
   final_table =
       last_table (made_with w.table node)
       ∙ sym (changed_used w.table (file_under w.table row) (removals (with_node_below node (made_with w.table node))))
@@ -318,24 +318,24 @@ module _ (w : Face) (whole : IsWholeWorld w) (joined : IsJoined w.nodes) (unfold
   abbrev bitmaps : List Bitmap
   bitmaps = bitmaps_but (with_node_below node (made_with w.table node)) w.bitmaps
 
-  gone_follow : (nodes : List ℕ) (t : Table) (rows : List Bitmap) → AreBitmapsOf t.bitmaps rows → FollowChanges t rows (bitmaps_but nodes rows) (removals nodes)
+  gone_follow : (nodes : List ℕ) (t : RunTable) (rows : List Bitmap) → AreBitmapsOf t.bitmaps rows → FollowChanges t rows (bitmaps_but nodes rows) (removals nodes)
   gone_follow [] t rows was = follow-none t rows was
   gone_follow (n ∷ nodes) t rows was =
       follow-gone t rows was n (bitmaps_but nodes (filter (λ row. not (row.node == n)) rows)) (removals nodes)
       (λ left. gone_follow nodes (changed t (RemoveNode n)) (filter (λ row. not (row.node == n)) rows) left)
 
-  used_leaves : (file : Option (List ℕ)) → list_all leaves_bitmaps (uses file) ≡ true
+  used_leaves : (file : Option (List ℕ)) → list_all leaves_bitmaps (file_uses file) ≡ true
   used_leaves None = refl
   used_leaves (Some file) = refl
 
-  follow : FollowChanges w.table w.bitmaps bitmaps (answer w.table untold c).changes
+  follow : FollowChanges w.table w.bitmaps bitmaps (answer w.table told_none c).changes
   follow =
       subst (λ (changes : List Change). FollowChanges w.table w.bitmaps bitmaps changes) (sym edits)
-      (follow-left (uses (file_under w.table row)) w.table w.bitmaps bitmaps (removals (with_node_below node (made_with w.table node))) (used_leaves (file_under w.table row)) whole.bitmaps
-      (λ kept. gone_follow (with_node_below node (made_with w.table node)) (all_changed w.table (uses (file_under w.table row))) w.bitmaps kept))
+      (follow-left (file_uses (file_under w.table row)) w.table w.bitmaps bitmaps (removals (with_node_below node (made_with w.table node))) (used_leaves (file_under w.table row)) whole.bitmaps
+      (λ kept. gone_follow (with_node_below node (made_with w.table node)) (all_changed w.table (file_uses (file_under w.table row))) w.bitmaps kept))
 
   -- the world with these
-  abbrev final_with : Face
+  abbrev final_with : WorldSeen
   final_with = record final { bitmaps = bitmaps }
 
   runs_with : RunsOn w final → RunsOn w final_with
@@ -359,9 +359,9 @@ module _ (w : Face) (whole : IsWholeWorld w) (joined : IsJoined w.nodes) (unfold
       (λ o s told shows. subst (λ (changes : List Change). AllPerformed s changes (contents_of w) (contents_of final)) (sym edits)
       (end.performed s told shows.table.table_is))
 
-  pub deleted_carried : (u : Table) → u ≡ all_changed w.table (answer w.table untold c).changes → (b : List Bitmap) → b ≡ bitmaps_left None w.table c w.bitmaps
+  pub deleted_carried : (u : RunTable) → u ≡ all_changed w.table (answer w.table told_none c).changes → (b : List Bitmap) → b ≡ bitmaps_left None w.table c w.bitmaps
       → CarriedUntold w (record (placed w x u) { bitmaps = b }) c None × IsWholeWorld (record (placed w x u) { bitmaps = b })
-      × FollowChanges w.table w.bitmaps b (answer w.table untold c).changes
+      × FollowChanges w.table w.bitmaps b (answer w.table told_none c).changes
   deleted_carried u is b left =
       let placed_is : final ≡ placed w x u =
       last_placed (made_with w.table node)
@@ -370,12 +370,12 @@ module _ (w : Face) (whole : IsWholeWorld w) (joined : IsJoined w.nodes) (unfold
       let same_id : id_named w.table name ≡ Some node = ap (option_map (λ (r : NodeRecord). r.id)) deleted.found in
       let same_rows : b ≡ bitmaps = left ∙ ap (λ (found : Option ℕ). bitmaps_named w.table found w.bitmaps) same_id in
       let same : final_with ≡ record (placed w x u) { bitmaps = b } =
-      ap (λ (v : Face). let f : Face = record v { bitmaps = bitmaps } in f) placed_is
-      ∙ ap (λ (rows : List Bitmap). let f : Face = record (placed w x u) { bitmaps = rows } in f) (sym same_rows) in
-      let listed : AreBitmapsOf final.table.bitmaps bitmaps = subst (λ (t : Table). AreBitmapsOf t.bitmaps bitmaps) (sym final_table) follow.listed in
+      ap (λ (v : WorldSeen). let f : WorldSeen = record v { bitmaps = bitmaps } in f) placed_is
+      ∙ ap (λ (rows : List Bitmap). let f : WorldSeen = record (placed w x u) { bitmaps = rows } in f) (sym same_rows) in
+      let listed : AreBitmapsOf final.table.bitmaps bitmaps = subst (λ (t : RunTable). AreBitmapsOf t.bitmaps bitmaps) (sym final_table) follow.listed in
       let whole_then : IsWholeWorld final_with =
       record { coherent = coherent_of final end.goes rest; tell = end.goes.tell; counted = end.goes.counted; bitmaps = listed } in (
-        subst (λ (v : Face). CarriedUntold w v c None) same final_carried,
+        subst (λ (v : WorldSeen). CarriedUntold w v c None) same final_carried,
         subst IsWholeWorld same whole_then,
-        subst (λ (rows : List Bitmap). FollowChanges w.table w.bitmaps rows (answer w.table untold c).changes) (sym same_rows) follow,
+        subst (λ (rows : List Bitmap). FollowChanges w.table w.bitmaps rows (answer w.table told_none c).changes) (sym same_rows) follow,
       )

@@ -8,16 +8,16 @@ use Rattle.blk_base.specs.declared.file.File.{File}
 use Rattle.blk_base.specs.declared.file.Opened.{Opened}
 use Rattle.blk_graph.proofs.Members.{Contains-filter, find-Some}
 use Rattle.blk_history.specs.Fold.{With}
-use Rattle.blk_nodes.specs.Dropping.{without, other_devices}
-use Rattle.blk_nodes.specs.Nodes.{DeviceState, is_of, device_in}
+use Rattle.blk_nodes.specs.Dropping.{nodes_without, other_devices}
+use Rattle.blk_nodes.specs.Nodes.{DeviceSeen, is_device_of, device_in}
 use Rattle.blk_nodes.proofs.Dropped.{none_gone}
 use Rattle.qmp_rules.specs.Changes.{changed}
 use Rattle.qmp_rules.specs.declared.change.Change.TheVariants.{RemoveNode}
 use Rattle.flat_machine.specs.Licence.{Counts}
 use Rattle.world_parts.specs.Coherent.{AreOut, DevicesTell}
 use Rattle.world_commands.specs.Counting.{RunsOn, IsLater, HaveNotFallen}
-use Rattle.world_parts.specs.Deleting.{TellsFlush, name_under, with_back, ground_of, HasLeft, without_node}
-use Rattle.world_parts.specs.Face.{Face, device_numbered, count_of_opening, counts_from, counts_now}
+use Rattle.world_parts.specs.Deleting.{TellsFlush, name_under, with_back, ground_of, HasLeft, after_deletion}
+use Rattle.world_parts.specs.Face.{WorldSeen, device_numbered, count_of_opening, counts_from, counts_now}
 use Rattle.world_parts.specs.Steps.{StoreSeen}
 use Rattle.world_commands.proofs.CountLemmas.{counts-at, goes-on, numbered, same-devices, not-fallen, with-of}
 use Rattle.world_commands.proofs.CountsKept.{KeepsCounts, counts-equal, length-counts}
@@ -27,7 +27,7 @@ use Rattle.world_commands.proofs.DeletedSteps.{Parts}
 use Rattle.world_parts.proofs.RunOpenings.{length-back}
 
 -- the opening of a count
-pub counted-at : (devices : List DeviceState) (opened : List Opened) (first n count : ℕ) → slice_get (counts_from devices first opened) n ≡ Some count
+pub counted-at : (devices : List DeviceSeen) (opened : List Opened) (first n count : ℕ) → slice_get (counts_from devices first opened) n ≡ Some count
     → (o : Opened) × (slice_get opened n ≡ Some o) × (count_of_opening devices (first + n) o ≡ count)
 counted-at devices [] first n count is = absurd (let bad : ⊥ = cc is in bad)
 counted-at devices (o ∷ opened) first zero count is =
@@ -52,13 +52,13 @@ told-back name None limit flushed (Some files) tells flush = absurd (false≢tru
 told-back name (Some bytes) limit None (Some files) tells flush = absurd (false≢true (flush refl))
 told-back name (Some bytes) limit (Some f) (Some files) tells flush = refl
 
-module _ (w : Face) (node : ℕ) (parts : Parts w.table (ground_of w)) (tell : DevicesTell w.files w.nodes.devices) (has : HasLeft (ground_of w) node) where
-  abbrev v : Face
-  v = without_node node w
+module _ (w : WorldSeen) (node : ℕ) (parts : Parts w.table (ground_of w)) (tell : DevicesTell w.files w.nodes.devices) (has : HasLeft (ground_of w) node) where
+  abbrev v : WorldSeen
+  v = after_deletion node w
 
   -- ---- a node with a device
 
-  module _ (d : DeviceState) (is : device_in w.nodes.devices node ≡ Some d) where
+  module _ (d : DeviceSeen) (is : device_in w.nodes.devices node ≡ Some d) where
     abbrev name : List ℕ
     name = name_under w.table node
 
@@ -66,13 +66,13 @@ module _ (w : Face) (node : ℕ) (parts : Parts w.table (ground_of w)) (tell : D
     back = with_back name (Some d) (ground_of w).store
 
     there : Contains w.nodes.devices d
-    there = (find-Some (is_of node) w.nodes.devices d is).0
+    there = (find-Some (is_device_of node) w.nodes.devices d is).0
 
     of : d.node ≡ node
-    of = eqb-true d.node node (find-Some (is_of node) w.nodes.devices d is).1
+    of = eqb-true d.node node (find-Some (is_device_of node) w.nodes.devices d is).1
 
     -- the openings that are out are those of the devices that are left
-    out : AreOut (changed w.table (RemoveNode node)) (without node w.nodes) back.opened
+    out : AreOut (changed w.table (RemoveNode node)) (nodes_without node w.nodes) back.opened
     out = out_left w.table w.nodes w.opened node parts.joined parts.out d is
 
     here : slice_get back.opened d.number.0 ≡ Some (record (was w.table w.nodes w.opened node parts.joined parts.out d is).opening { returned = Some d.faults })
@@ -110,20 +110,20 @@ module _ (w : Face) (node : ℕ) (parts : Parts w.table (ground_of w)) (tell : D
         → device_numbered (other_devices node w.nodes.devices) n ≡ device_numbered w.nodes.devices n
     left_there n o at none apart = by_device (device_numbered w.nodes.devices n) refl (parts.out.all n o at none)
       where
-        by_device : (found : Option DeviceState) → device_numbered w.nodes.devices n ≡ found → IsSome found
+        by_device : (found : Option DeviceSeen) → device_numbered w.nodes.devices n ≡ found → IsSome found
             → device_numbered (other_devices node w.nodes.devices) n ≡ device_numbered w.nodes.devices n
         by_device None e some = absurd (false≢true some)
         by_device (Some x) e some =
-            let found = find-Some (λ (y : DeviceState). y.number.0 == n) w.nodes.devices x e in
+            let found = find-Some (λ (y : DeviceSeen). y.number.0 == n) w.nodes.devices x e in
             let number : x.number.0 ≡ n = eqb-true x.number.0 n found.1 in
-            let differs : x.node ≢ node = λ same. apart (sym number ∙ ap (λ (y : DeviceState). y.number.0) (one x found.0 same)) in
+            let differs : x.node ≢ node = λ same. apart (sym number ∙ ap (λ (y : DeviceSeen). y.number.0) (one x found.0 same)) in
             let kept : Contains (other_devices node w.nodes.devices) x =
-            kept-in (λ (y : DeviceState). not (is_of node y)) w.nodes.devices x found.0 (ap not (ne_eqb x.node node differs)) in
+            kept-in (λ (y : DeviceSeen). not (is_device_of node y)) w.nodes.devices x found.0 (ap not (ne_eqb x.node node differs)) in
             ap (device_numbered (other_devices node w.nodes.devices)) (sym number)
             ∙ numbered (other_devices node w.nodes.devices) x out.once kept
             ∙ sym e
           where
-            one : (x : DeviceState) → Contains w.nodes.devices x → x.node ≡ node → x ≡ d
+            one : (x : DeviceSeen) → Contains w.nodes.devices x → x.node ≡ node → x ≡ d
             one x at' same = one_of w.table w.nodes w.opened node parts.joined parts.out node x d at' there same of
 
     -- each count stays
@@ -164,7 +164,7 @@ module _ (w : Face) (node : ℕ) (parts : Parts w.table (ground_of w)) (tell : D
             same_count (Some c) e = rw e refl
             same_count None e =
                 let same = left_there n o at e apart in
-                rw (e, zero_first) (ap (λ (found : Option DeviceState). unwrap_or (option_map (λ (x : DeviceState). x.faults) found) o.faults) same)
+                rw (e, zero_first) (ap (λ (found : Option DeviceSeen). unwrap_or (option_map (λ (x : DeviceSeen). x.faults) found) o.faults) same)
 
     counts_back : HaveNotFallen (counts_now w).devices (counts_from (other_devices node w.nodes.devices) 0 back.opened)
     counts_back n count at =
@@ -181,15 +181,15 @@ module _ (w : Face) (node : ℕ) (parts : Parts w.table (ground_of w)) (tell : D
 
   -- ---- a node with a device or without one
 
-  abbrev gone : Option DeviceState → Face
+  abbrev gone : Option DeviceSeen → WorldSeen
   gone found = record w {
     files = (with_back (name_under w.table node) found (ground_of w).store).files;
     opened = (with_back (name_under w.table node) found (ground_of w).store).opened;
-    nodes = without node w.nodes;
+    nodes = nodes_without node w.nodes;
     table = changed w.table (RemoveNode node);
   }
 
-  runs_by : (found : Option DeviceState) → device_in w.nodes.devices node ≡ found → RunsOn w (gone found)
+  runs_by : (found : Option DeviceSeen) → device_in w.nodes.devices node ≡ found → RunsOn w (gone found)
   runs_by None is = record {
     told = refl;
     room = refl;
@@ -197,7 +197,7 @@ module _ (w : Face) (node : ℕ) (parts : Parts w.table (ground_of w)) (tell : D
     earlier = refl;
     store = omega arith;
     openings = λ n o at. with-of (slice_get w.opened n) o (IsLater o) at (goes-on o);
-    devices = subst (λ (ds : List DeviceState). HaveNotFallen (counts_now w).devices (counts_from ds 0 w.opened)) (sym (none_gone node w.nodes.devices is))
+    devices = subst (λ (ds : List DeviceSeen). HaveNotFallen (counts_now w).devices (counts_from ds 0 w.opened)) (sym (none_gone node w.nodes.devices is))
         (not-fallen w.nodes.devices w.nodes.devices (same-devices w.nodes.devices) w.opened 0);
   }
   runs_by (Some d) is = record {
@@ -210,9 +210,9 @@ module _ (w : Face) (node : ℕ) (parts : Parts w.table (ground_of w)) (tell : D
     devices = counts_back d is;
   }
 
-  keeps_by : (found : Option DeviceState) → device_in w.nodes.devices node ≡ found → KeepsCounts w (gone found)
+  keeps_by : (found : Option DeviceSeen) → device_in w.nodes.devices node ≡ found → KeepsCounts w (gone found)
   keeps_by None is = record {
-    now = ap (λ (ds : List DeviceState). let c : Counts = record { store = w.faults; devices = counts_from ds 0 w.opened } in c)
+    now = ap (λ (ds : List DeviceSeen). let c : Counts = record { store = w.faults; devices = counts_from ds 0 w.opened } in c)
         (none_gone node w.nodes.devices is);
     many = refl;
   }
@@ -230,4 +230,4 @@ module _ (w : Face) (node : ℕ) (parts : Parts w.table (ground_of w)) (tell : D
   -- the devices that are left tell
   pub tell_left : DevicesTell v.files v.nodes.devices
   tell_left some d there =
-      tell (sym runs_left.told ∙ some) d (Contains-filter (λ (x : DeviceState). not (is_of node x)) w.nodes.devices d there).0
+      tell (sym runs_left.told ∙ some) d (Contains-filter (λ (x : DeviceSeen). not (is_device_of node x)) w.nodes.devices d there).0

@@ -14,18 +14,18 @@ use Rattle.blk_graph.proofs.ChildLemmas.{child-without}
 use Rattle.blk_graph.proofs.Members.{Contains-filter, Contains-map, map-Contains, find-Some}
 use Rattle.blk_graph.proofs.NodeLemmas.{no_child_from_None}
 use Rattle.blk_graph.proofs.RefreshLemmas.{child_of-refreshed}
-use Rattle.qmp_rules.specs.Changes.{changed, without_row}
+use Rattle.qmp_rules.specs.Changes.{changed, without_record}
 use Rattle.qmp_rules.specs.Edits.{goes_with_node}
-use Rattle.qmp_rules.specs.Table.{Table, node_at, kinds_of, first_into, id_named}
+use Rattle.qmp_rules.specs.Table.{RunTable, node_by_id, kinds_of, first_into, id_named}
 use Rattle.qmp_rules.specs.declared.rows.NodeRecord.{NodeRecord}
 use Rattle.qmp_rules.specs.declared.change.Change.TheVariants.{RemoveNode}
 use Rattle.flat_machine.specs.Wiring.{AreApart}
 use Rattle.flat_machine.specs.State.{filename_of}
 use Rattle.flat_machine.proofs.Finds.{bytes_eq-same}
 use Rattle.flat_machine.proofs.Tables.{refreshed-old}
-use Rattle.blk_nodes.specs.Dropping.{without}
+use Rattle.blk_nodes.specs.Dropping.{nodes_without}
 use Rattle.blk_nodes.specs.Joined.{IsJoined}
-use Rattle.blk_nodes.specs.Nodes.{DeviceState, is_of, device_in, row_at}
+use Rattle.blk_nodes.specs.Nodes.{DeviceSeen, is_device_of, device_in, row_at}
 use Rattle.blk_nodes.specs.declared.row.Row.{Row}
 use Rattle.world_parts.specs.Coherent.{AreAlike, AreNodesOf, AreOut}
 use Rattle.world_parts.specs.Deleting.{name_under, with_back, Ground, left, CanLeave, HasLeft, made_with, Belong, IsLoneNode, Deletes}
@@ -35,37 +35,37 @@ use Rattle.world_commands.proofs.KeptDrives.{IsEntered, KeepsEntered}
 
 -- ---- table, nodes and openings
 
-pub record Parts (t : Table) (x : Ground) : Type 0 where
+pub record Parts (t : RunTable) (x : Ground) : Type 0 where
   pub joined : IsJoined x.nodes
   pub alike : AreNodesOf t x.nodes
   pub apart : AreApart t
   pub out : AreOut t x.nodes x.store.opened
 
-pub parts_of : (t : Table) (x : Ground) → IsJoined x.nodes → Belong t x → Parts t x
+pub parts_of : (t : RunTable) (x : Ground) → IsJoined x.nodes → Belong t x → Parts t x
 parts_of t x joined belong =
     record { joined = joined; alike = belong.alike; apart = belong.apart; out = belong.out }
 
 -- a device is out under the name of its node's file
-pub device_out : (t : Table) (x : Ground) → Parts t x → (node : ℕ) (d : DeviceState) → device_in x.nodes.devices node ≡ Some d
+pub device_out : (t : RunTable) (x : Ground) → Parts t x → (node : ℕ) (d : DeviceSeen) → device_in x.nodes.devices node ≡ Some d
     → IsTrue (is_out (name_under t node) x.store.opened)
 device_out t x parts node d is =
-    let found = find-Some (is_of node) x.nodes.devices d is in
+    let found = find-Some (is_device_of node) x.nodes.devices d is in
     let o = parts.out.each d found.0 in
     let named : filename_of t node ≡ Some o.opening.name = ap (filename_of t) (sym (eqb-true d.node node found.1)) ∙ o.named in
     let called : name_under t node ≡ o.opening.name = ap (λ (n : Option (List ℕ)). unwrap_or n []) named in
     let out : is_out_as (name_under t node) o.opening ≡ true = rw (called, o.out, bytes_eq-same o.opening.name) refl in
     out_there (name_under t node) x.store.opened d.number.0 o.opening o.there out
 
-module _ (t : Table) (x : Ground) (node : ℕ) (parts : Parts t x) (can : CanLeave t x node) (has : HasLeft x node) where
-  abbrev now : Table
+module _ (t : RunTable) (x : Ground) (node : ℕ) (parts : Parts t x) (can : CanLeave t x node) (has : HasLeft x node) where
+  abbrev now : RunTable
   now = changed t (RemoveNode node)
 
   small : node < 64
   small = parts.joined.sound.small node can.there
 
   -- the openings that are left
-  openings_left : (found : Option DeviceState) → device_in x.nodes.devices node ≡ found
-      → AreOut now (without node x.nodes) (with_back (name_under t node) found x.store).opened
+  openings_left : (found : Option DeviceSeen) → device_in x.nodes.devices node ≡ found
+      → AreOut now (nodes_without node x.nodes) (with_back (name_under t node) found x.store).opened
   openings_left None is = out_same t x.nodes x.store.opened node parts.joined parts.out is
   openings_left (Some d) is = out_left t x.nodes x.store.opened node parts.joined parts.out d is
 
@@ -88,11 +88,11 @@ module _ (t : Table) (x : Ground) (node : ℕ) (parts : Parts t x) (can : CanLea
   entered_left = record {
     devices = λ g. refl;
     drives = λ g.
-        child_of-refreshed (kinds_of (without_row node t.nodes)) (GuestOf g) Drive (without_parent (Node node) t.edges)
+        child_of-refreshed (kinds_of (without_record node t.nodes)) (GuestOf g) Drive (without_parent (Node node) t.edges)
         ∙ child-without (Node node) (GuestOf g) Drive t.edges (λ bad. let e : ⊥ = cc bad in e);
     rows = λ other here. row_stays t node other (differs other here);
     children = λ other role here.
-        child_of-refreshed (kinds_of (without_row node t.nodes)) (Node other) role (without_parent (Node node) t.edges)
+        child_of-refreshed (kinds_of (without_record node t.nodes)) (Node other) role (without_parent (Node node) t.edges)
         ∙ child-without (Node node) (Node other) role t.edges (λ bad. differs other here (let e : other ≡ node = cc bad in e));
   }
     where
@@ -100,9 +100,9 @@ module _ (t : Table) (x : Ground) (node : ℕ) (parts : Parts t x) (can : CanLea
       differs other here same = unentered here.edge here.there (here.leads ∙ same)
 
   -- a node that nothing but it led to can go next
-  module _ (next : ℕ) (differs : next ≢ node) (there : HasNode (without node x.nodes).graph next)
+  module _ (next : ℕ) (differs : next ≢ node) (there : HasNode (nodes_without node x.nodes).graph next)
       (sole : (e : Edge) → Contains t.edges e → e.child ≡ next → e.parent ≡ Node node) where
-    none_left : (e : Edge) → Contains (without node x.nodes).graph.edges e → e.child ≡ next → ⊥
+    none_left : (e : Edge) → Contains (nodes_without node x.nodes).graph.edges e → e.child ≡ next → ⊥
     none_left e at leads =
         let old = refreshed-old x.nodes.graph.kinds (without_parent (Node node) x.nodes.graph.edges) e at in
         let kept = Contains-filter (λ (y : Edge). not (same_parent y.parent (Node node))) x.nodes.graph.edges old.edge old.there in
@@ -117,7 +117,7 @@ module _ (t : Table) (x : Ground) (node : ℕ) (parts : Parts t x) (can : CanLea
       there = there;
       lone =
           ap (option_map (λ (e : Edge). e.parent))
-          (find_none (λ (e : Edge). e.child == next) (without node x.nodes).graph.edges
+          (find_none (λ (e : Edge). e.child == next) (nodes_without node x.nodes).graph.edges
           (λ e at. ne_eqb e.child next (λ same. none_left e at same)));
       out = λ d is.
           let out : IsTrue (is_out (name_under now next) (left t node x).store.opened) = device_out now (left t node x) parts_left next d is in
@@ -126,9 +126,9 @@ module _ (t : Table) (x : Ground) (node : ℕ) (parts : Parts t x) (can : CanLea
 
 -- ---- the nodes of a deletion
 
-module _ (t : Table) (x : Ground) (joined : IsJoined x.nodes) (belong : Belong t x) where
+module _ (t : RunTable) (x : Ground) (joined : IsJoined x.nodes) (belong : Belong t x) where
   -- a node of the table is one of the nodes
-  there_by : (id : ℕ) (row : NodeRecord) → node_at t id ≡ Some row → HasNode x.nodes.graph id
+  there_by : (id : ℕ) (row : NodeRecord) → node_by_id t id ≡ Some row → HasNode x.nodes.graph id
   there_by id row is = joined.only id (by_rows (row_at x.nodes id) (subst (λ (r : Option NodeRecord). AreAlike r (row_at x.nodes id)) is (belong.alike.rows id)))
     where
       by_rows : (own : Option Row) → AreAlike (Some row) own → IsSome own
@@ -171,21 +171,21 @@ module _ (t : Table) (x : Ground) (joined : IsJoined x.nodes) (belong : Belong t
     pub file_can : CanLeave t (left t node x) file
     file_can =
         let under = belong.inline made.0 node made.1 made.2 in
-        let row_is : node_at t file ≡ Some made.0 = ap (node_at t) (sym made.3) ∙ belong.apart made.0 made.1 in
+        let row_is : node_by_id t file ≡ Some made.0 = ap (node_by_id t) (sym made.3) ∙ belong.apart made.0 made.1 in
         next_can t x node (parts_of t x joined belong) can has file file_differs (has_left (there_by file made.0 row_is) file_differs)
         (λ e there leads. under.sole e there (leads ∙ sym made.3))
       where
         -- a node is still there
-        has_left : HasNode x.nodes.graph file → file ≢ node → HasNode (without node x.nodes).graph file
+        has_left : HasNode x.nodes.graph file → file ≢ node → HasNode (nodes_without node x.nodes).graph file
         has_left there differs =
             let r = Contains-map (λ (n : NodeRow). n.id) x.nodes.graph.nodes file there in
             let other : not (r.0.id == node) ≡ true = ap not (ne_eqb r.0.id node (λ same. differs (r.2 ∙ same))) in
-            subst (Contains (ids (without node x.nodes).graph)) (sym r.2)
+            subst (Contains (ids (nodes_without node x.nodes).graph)) (sym r.2)
             (map-Contains (λ (n : NodeRow). n.id) (other_nodes node x.nodes.graph.nodes) r.0
             (kept-in (λ (n : NodeRow). not (n.id == node)) x.nodes.graph.nodes r.0 r.1 other))
 
 -- the node of a name that a deletion names
-pub free_by : (t : Table) (x : Ground) → Belong t x → (name : List ℕ) → Deletes t name → (node : ℕ) → id_named t name ≡ Some node → IsLoneNode t node
+pub free_by : (t : RunTable) (x : Ground) → Belong t x → (name : List ℕ) → Deletes t name → (node : ℕ) → id_named t name ≡ Some node → IsLoneNode t node
 free_by t x belong name deletes node is =
     let row : NodeRecord = deletes.row in
     let there = (find-Some (λ (r : NodeRecord). bytes_eq r.name name) t.nodes row deletes.found).0 in
@@ -193,6 +193,6 @@ free_by t x belong name deletes node is =
     let id : row.id ≡ node = cc same in
     record {
       row = row;
-      there = ap (node_at t) (sym id) ∙ belong.apart row there;
+      there = ap (node_by_id t) (sym id) ∙ belong.apart row there;
       lone = ap (λ (n : ℕ). first_into n t.edges) (sym id) ∙ deletes.lone;
     }

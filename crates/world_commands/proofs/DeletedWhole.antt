@@ -12,17 +12,17 @@ use Rattle.flat_machine.specs.Performing.{Removes}
 use Rattle.flat_machine.specs.Wiring.{StandsFor, AreFileNodes, StandAlone}
 use Rattle.flat_machine.specs.State.{State}
 use Rattle.blk_nodes.specs.Contents.{disk_of, Unfolds}
-use Rattle.blk_nodes.specs.Dropping.{without}
-use Rattle.blk_nodes.specs.Nodes.{DeviceState, AreTold, is_of, device_in, row_at}
+use Rattle.blk_nodes.specs.Dropping.{nodes_without}
+use Rattle.blk_nodes.specs.Nodes.{DeviceSeen, AreTold, is_device_of, device_in, row_at}
 use Rattle.blk_nodes.specs.declared.row.Row.{Row}
-use Rattle.world_parts.specs.Deleting.{TellsFlush, ground_of, left, CanLeave, HasLeft, without_node}
-use Rattle.world_parts.specs.Face.{Face, contents_of}
+use Rattle.world_parts.specs.Deleting.{TellsFlush, ground_of, left, CanLeave, HasLeft, after_deletion}
+use Rattle.world_parts.specs.Face.{WorldSeen, contents_of}
 use Rattle.world_commands.proofs.DeletedContents.{files_left, removes, no_disk}
 use Rattle.world_commands.proofs.DeletedParts.{nodes_left}
 use Rattle.world_commands.proofs.DeletedSteps.{Parts, parts_left}
 
 -- what is true of a world that tells its files
-pub record Tells (w : Face) : Type 0 where
+pub record Tells (w : WorldSeen) : Type 0 where
   pub parts : Parts w.table (ground_of w)
   pub unfolds : Unfolds w.nodes
   pub alone : StandAlone w.table
@@ -31,27 +31,27 @@ pub record Tells (w : Face) : Type 0 where
   pub files : List StoreFile
   pub told : w.files ≡ Some files
 
-module _ (w : Face) (node : ℕ) (tells : Tells w) (can : CanLeave w.table (ground_of w) node) (has : HasLeft (ground_of w) node) where
-  abbrev v : Face
-  v = without_node node w
+module _ (w : WorldSeen) (node : ℕ) (tells : Tells w) (can : CanLeave w.table (ground_of w) node) (has : HasLeft (ground_of w) node) where
+  abbrev v : WorldSeen
+  v = after_deletion node w
 
   parts : Parts w.table (ground_of w)
   parts = tells.parts
 
-  flushed : (d : DeviceState) → device_in w.nodes.devices node ≡ Some d → is_some d.is_flushed ≡ true
+  flushed : (d : DeviceSeen) → device_in w.nodes.devices node ≡ Some d → is_some d.is_flushed ≡ true
   flushed d is =
       let tell : TellsFlush (Some d) = subst TellsFlush is has.flush in
-      tell (tells.all d (find-Some (is_of node) w.nodes.devices d is).0)
+      tell (tells.all d (find-Some (is_device_of node) w.nodes.devices d is).0)
 
   -- other nodes read as before, those that aren't there too
-  disks : (other : ℕ) → other ≢ node → disk_of (without node w.nodes) other ≡ disk_of w.nodes other
-  disks other apart = by_row (row_at (without node w.nodes) other) refl
+  disks : (other : ℕ) → other ≢ node → disk_of (nodes_without node w.nodes) other ≡ disk_of w.nodes other
+  disks other apart = by_row (row_at (nodes_without node w.nodes) other) refl
     where
-      same : row_at (without node w.nodes) other ≡ row_at w.nodes other
+      same : row_at (nodes_without node w.nodes) other ≡ row_at w.nodes other
       same = get_or-set_other w.nodes.rows node other None None apart
 
-      by_row : (row : Option Row) → row_at (without node w.nodes) other ≡ row → disk_of (without node w.nodes) other ≡ disk_of w.nodes other
-      by_row None is = no_disk (without node w.nodes) other is ∙ sym (no_disk w.nodes other (sym same ∙ is))
+      by_row : (row : Option Row) → row_at (nodes_without node w.nodes) other ≡ row → disk_of (nodes_without node w.nodes) other ≡ disk_of w.nodes other
+      by_row None is = no_disk (nodes_without node w.nodes) other is ∙ sym (no_disk w.nodes other (sym same ∙ is))
       by_row (Some row) is = has.disks other (has.joined.only other (rw is refl))
 
   -- the node goes as the flat machine says
@@ -72,7 +72,7 @@ module _ (w : Face) (node : ℕ) (tells : Tells w) (can : CanLeave w.table (grou
   files_told : (files : List StoreFile) × (v.files ≡ Some files)
   files_told = by_device (device_in w.nodes.devices node) refl
     where
-      by_device : (found : Option DeviceState) → device_in w.nodes.devices node ≡ found → (files : List StoreFile) × (v.files ≡ Some files)
+      by_device : (found : Option DeviceSeen) → device_in w.nodes.devices node ≡ found → (files : List StoreFile) × (v.files ≡ Some files)
       by_device None is = (tells.files, rw is tells.told)
       by_device (Some d) is =
           let f = files_left w node parts.joined tells.unfolds parts.alike parts.apart tells.alone tells.drivers tells.all parts.out tells.files tells.told flushed d is in
@@ -82,7 +82,7 @@ module _ (w : Face) (node : ℕ) (tells : Tells w) (can : CanLeave w.table (grou
   same_ground : left w.table node (ground_of w) ≡ ground_of v
   same_ground = by_device (device_in w.nodes.devices node) refl
     where
-      by_device : (found : Option DeviceState) → device_in w.nodes.devices node ≡ found → left w.table node (ground_of w) ≡ ground_of v
+      by_device : (found : Option DeviceSeen) → device_in w.nodes.devices node ≡ found → left w.table node (ground_of w) ≡ ground_of v
       by_device None is = rw is refl
       by_device (Some d) is = rw is refl
 
@@ -92,7 +92,7 @@ module _ (w : Face) (node : ℕ) (tells : Tells w) (can : CanLeave w.table (grou
     unfolds = has.unfolds;
     alone = λ name a b over_a over_b. tells.alone name a b (stood name a over_a) (stood name b over_b);
     drivers = λ name row over. tells.drivers name row (stood name row over);
-    all = λ d there. tells.all d (Contains-filter (λ (x : DeviceState). not (is_of node x)) w.nodes.devices d there).0;
+    all = λ d there. tells.all d (Contains-filter (λ (x : DeviceSeen). not (is_device_of node x)) w.nodes.devices d there).0;
     files = files_told.0;
     told = files_told.1;
   }

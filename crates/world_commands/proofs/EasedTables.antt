@@ -10,7 +10,7 @@ use Rattle.blk_graph.specs.Edits.{child_of}
 use Rattle.blk_graph.proofs.Members.{find-Some}
 use Rattle.qmp_codec.specs.declared.words.ImageFormat.{ImageFormat}
 use Rattle.qmp_rules.specs.Changes.{changed, node_changed, unsettled, lost_with, stands_over}
-use Rattle.qmp_rules.specs.Table.{Table, node_at}
+use Rattle.qmp_rules.specs.Table.{RunTable, node_by_id}
 use Rattle.qmp_rules.specs.declared.change.Change.TheVariants.{KeepId, MakeFile, FormatFile, SpoilFile, UseFile}
 use Rattle.qmp_rules.specs.declared.rows.NodeRecord.{NodeRecord}
 use Rattle.flat_machine.specs.State.{filename_of}
@@ -24,7 +24,7 @@ use Rattle.world_commands.proofs.KeptDrives.{IsEntered, KeepsEntered}
 abbrev pub OnlyUnsettles : (NodeRecord → NodeRecord) → Type 0
 OnlyUnsettles f = (row : NodeRecord) → (f row ≡ row) ⊎ (f row ≡ unsettled row)
 
-pub record IsEased (t now : Table) : Type 0 where
+pub record IsEased (t now : RunTable) : Type 0 where
   pub f : NodeRecord → NodeRecord
   pub only : OnlyUnsettles f
   pub rows : now.nodes ≡ map f t.nodes
@@ -33,7 +33,7 @@ pub record IsEased (t now : Table) : Type 0 where
   pub guests : now.guests ≡ t.guests
   pub jobs : now.jobs ≡ t.jobs
 
-module _ (t now : Table) (e : IsEased t now) where
+module _ (t now : RunTable) (e : IsEased t now) where
   -- what doesn't speak of flat disks is the same of both rows
   same_of : {A : Type 0} (g : NodeRecord → A) → ((row : NodeRecord) → g (unsettled row) ≡ g row) → (row : NodeRecord) → g (e.f row) ≡ g row
   same_of g blind row = elim (e.only row) [ inl same ↦ ap g same | inr lost ↦ ap g lost ∙ blind row ]
@@ -41,7 +41,7 @@ module _ (t now : Table) (e : IsEased t now) where
   id_same : (row : NodeRecord) → (e.f row).id ≡ row.id
   id_same = same_of (λ row. row.id) (λ row. refl)
 
-  pub eased_at : (id : ℕ) → node_at now id ≡ option_map e.f (node_at t id)
+  pub eased_at : (id : ℕ) → node_by_id now id ≡ option_map e.f (node_by_id t id)
   eased_at id =
       ap (find (λ (row : NodeRecord). row.id == id)) e.rows
       ∙ find-map (λ (row : NodeRecord). row.id == id) e.f (λ row. ap (λ (n : ℕ). n == id) (id_same row)) t.nodes
@@ -49,7 +49,7 @@ module _ (t now : Table) (e : IsEased t now) where
   pub filename_eased : (id : ℕ) → filename_of now id ≡ filename_of t id
   filename_eased id =
       ap (λ (row : Option NodeRecord). option_and_then (λ (r : NodeRecord). r.filename) row) (eased_at id)
-      ∙ by_row (node_at t id)
+      ∙ by_row (node_by_id t id)
     where
       by_row : (row : Option NodeRecord) → option_and_then (λ (r : NodeRecord). r.filename) (option_map e.f row) ≡ option_and_then (λ (r : NodeRecord). r.filename) row
       by_row None = refl
@@ -82,7 +82,7 @@ module _ (t now : Table) (e : IsEased t now) where
   nodes_of_eased nodes is = record {
     listed = is.listed ∙ sym (listed_eased t.nodes) ∙ ap (map node_row) (sym e.rows);
     edges = is.edges ∙ sym e.edges;
-    rows = λ id. subst (λ (row : Option NodeRecord). AreAlike row (row_at nodes id)) (sym (eased_at id)) (alike_eased (node_at t id) (row_at nodes id) (is.rows id));
+    rows = λ id. subst (λ (row : Option NodeRecord). AreAlike row (row_at nodes id)) (sym (eased_at id)) (alike_eased (node_by_id t id) (row_at nodes id) (is.rows id));
   }
 
   pub out_eased : (nodes : Nodes) (opened : List Opened) → AreOut t nodes opened → AreOut now nodes opened
@@ -108,11 +108,11 @@ module _ (t now : Table) (e : IsEased t now) where
   entered_eased fixed = record {
     devices = λ g. ap (find (λ device. device.number == g)) e.devices;
     drives = λ g. ap (child_of (GuestOf g) Drive) e.edges;
-    rows = λ node here. eased_at node ∙ by_row node here (node_at t node) refl;
+    rows = λ node here. eased_at node ∙ by_row node here (node_by_id t node) refl;
     children = λ node role here. ap (child_of (Node node) role) e.edges;
   }
     where
-      by_row : (node : ℕ) → IsEntered t node → (row : Option NodeRecord) → node_at t node ≡ row → option_map e.f row ≡ row
+      by_row : (node : ℕ) → IsEntered t node → (row : Option NodeRecord) → node_by_id t node ≡ row → option_map e.f row ≡ row
       by_row node here None at = refl
       by_row node here (Some row) at =
           let found = find-Some (λ (r : NodeRecord). r.id == node) t.nodes row at in
@@ -125,8 +125,8 @@ map-same : (rows : List NodeRecord) → rows ≡ map (λ row. row) rows
 map-same [] = refl
 map-same (row ∷ rows) = ap (λ (rs : List NodeRecord). row ∷ rs) (map-same rows)
 
-module _ (t : Table) where
-  pub kept_rows : (now : Table) → now.nodes ≡ t.nodes → now.edges ≡ t.edges → now.devices ≡ t.devices → now.guests ≡ t.guests → now.jobs ≡ t.jobs → IsEased t now
+module _ (t : RunTable) where
+  pub kept_rows : (now : RunTable) → now.nodes ≡ t.nodes → now.edges ≡ t.edges → now.devices ≡ t.devices → now.guests ≡ t.guests → now.jobs ≡ t.jobs → IsEased t now
   kept_rows now nodes edges devices guests jobs = record {
     f = λ row. row;
     only = λ row. inl refl;

@@ -9,7 +9,7 @@ use Rattle.blk_graph.specs.declared.kind.NodeKind.{NodeKind}
 use Rattle.blk_graph.proofs.Members.{Contains-filter, Contains-map, map-Contains}
 use Rattle.blk_graph.proofs.RefreshLemmas.{refreshed-by, ruled-same}
 use Rattle.qmp_rules.specs.Changes.{changed}
-use Rattle.qmp_rules.specs.Table.{Table}
+use Rattle.qmp_rules.specs.Table.{RunTable}
 use Rattle.qmp_rules.specs.declared.change.Change.TheVariants.{RemoveNode}
 use Rattle.qmp_rules.specs.declared.rows.Device.{Device}
 use Rattle.world_parts.specs.Coherent.{AskToWrite}
@@ -32,13 +32,13 @@ guest_edge kinds edges =
 
 -- ---- guests that may write ask to
 
-pub asks_left : (t : Table) (node : ℕ) → AskToWrite t → AskToWrite (changed t (RemoveNode node))
+pub asks_left : (t : RunTable) (node : ℕ) → AskToWrite t → AskToWrite (changed t (RemoveNode node))
 unfolding changed
 asks_left t node asks g device edge at writes there from =
     let old = guest_edge _ _ edge g there from in
     asks g device edge at writes (Contains-filter (λ (e : Edge). not (same_parent e.parent (Node node))) t.edges edge old).0 from
 
-pub asks_eased : (t now : Table) → IsEased t now → AskToWrite t → AskToWrite now
+pub asks_eased : (t now : RunTable) → IsEased t now → AskToWrite t → AskToWrite now
 asks_eased t now e asks g device edge at writes there from =
     asks g device edge (sym (ap (find (λ (d : Device). d.number == g)) e.devices) ∙ at) writes
     (subst (λ (edges : List Edge). Contains edges edge) e.edges there) from

@@ -4,9 +4,9 @@ use Rattle.std.specs.Prelude.{Result, IfOk, OnOk, OnErr}
 use Rattle.blk_bitmaps.specs.declared.row.Bitmap.{Bitmap}
 use Rattle.qmp_codec.specs.Commands.{Cmd}
 use Rattle.qmp_codec.specs.declared.command.Command.TheVariants as command
-use Rattle.qmp_rules.specs.Answers.{Answer, answer, command_edits, left_by, refusal_of, returned, untold}
+use Rattle.qmp_rules.specs.Answers.{Answer, answer, command_edits, left_by, refusal_to, returned, told_none}
 use Rattle.qmp_rules.specs.Changes.{all_changed}
-use Rattle.qmp_rules.specs.Table.{Table}
+use Rattle.qmp_rules.specs.Table.{RunTable}
 use Rattle.qmp_rules.specs.Prepared.{IsStoppedFor}
 use Rattle.qmp_rules.specs.declared.judge.PrepareStop.{PrepareStop}
 use Rattle.qmp_rules.specs.declared.judge.PrepareStop.TheVariants.{Refused, NoMemory}
@@ -18,7 +18,7 @@ use Rattle.flat_machine.specs.Recording.{dirty_after}
 use Rattle.world_commands.specs.Carrying.{IsCarriedAs, IsPutBackBy, prints_counts}
 use Rattle.world_parts.specs.Coherent.{IsWholeWorld}
 use Rattle.world_parts.specs.Deleting.{Ground, ground_of}
-use Rattle.world_parts.specs.Face.{Face, dirty_of}
+use Rattle.world_parts.specs.Face.{WorldSeen, dirty_of}
 use Rattle.world_parts.specs.Handling.{DoneIf, IsHandled, IsUntouched, SaysRefusal, bitmaps_left, is_deletion, IsDeletedBy}
 use Rattle.world_commands.specs.Leaving.{LeavesBitmaps}
 use Rattle.world_parts.specs.Saying.{IsSaid}
@@ -28,11 +28,11 @@ use Rattle.world_commands.proofs.Placed.{answer-is, CarriedUntold, placed, place
 
 -- ---- its answer
 
-module _ (given : List ℕ) (t : Table) (c : Cmd) (u : Table) (done undone : Type 0) (text : List ℕ) where
-  pub handled_accepted : refusal_of t untold c ≡ None → u ≡ all_changed t (command_edits t untold c) → done → IsSaid given (Ok (returned t untold c)) text
+module _ (given : List ℕ) (t : RunTable) (c : Cmd) (u : RunTable) (done undone : Type 0) (text : List ℕ) where
+  pub handled_accepted : refusal_to t told_none c ≡ None → u ≡ all_changed t (command_edits t told_none c) → done → IsSaid given (Ok (returned t told_none c)) text
       → IsHandled given t c u done undone text
   handled_accepted none table did said =
-      let is = answer-is t untold c None none in
+      let is = answer-is t told_none c None none in
       record {
         refusal = None;
         judged = none;
@@ -41,10 +41,10 @@ module _ (given : List ℕ) (t : Table) (c : Cmd) (u : Table) (done undone : Typ
         said = subst (λ (a : Answer). IsSaid given a.reply text) (sym is) said;
       }
 
-  pub handled_refused : (cause : Refusal) → refusal_of t untold c ≡ Some cause → left_by t c cause ≡ [] → u ≡ t → undone → IsSaid given (Err cause) text
+  pub handled_refused : (cause : Refusal) → refusal_to t told_none c ≡ Some cause → left_by t c cause ≡ [] → u ≡ t → undone → IsSaid given (Err cause) text
       → IsHandled given t c u done undone text
   handled_refused cause some nothing table kept said =
-      let is = answer-is t untold c (Some cause) some in
+      let is = answer-is t told_none c (Some cause) some in
       record {
         refusal = Some cause;
         judged = some;
@@ -56,20 +56,20 @@ module _ (given : List ℕ) (t : Table) (c : Cmd) (u : Table) (done undone : Typ
 -- ---- what it leaves of the world
 
 -- a refusal leaves all as it was
-pub refused_placed : (w : Face) (c : Cmd) (cause : Refusal) → opens_nothing c ≡ true → prints_counts c ≡ false → refusal_of w.table untold c ≡ Some cause → left_by w.table c cause ≡ []
-    → (x : Ground) (u : Table) → x ≡ ground_of w → u ≡ all_changed w.table (answer w.table untold c).changes → IsWholeWorld w
+pub refused_placed : (w : WorldSeen) (c : Cmd) (cause : Refusal) → opens_nothing c ≡ true → prints_counts c ≡ false → refusal_to w.table told_none c ≡ Some cause → left_by w.table c cause ≡ []
+    → (x : Ground) (u : RunTable) → x ≡ ground_of w → u ≡ all_changed w.table (answer w.table told_none c).changes → IsWholeWorld w
     → CarriedUntold w (placed w x u) c (Some cause) × IsWholeWorld (placed w x u)
 refused_placed w c cause opens silent some nothing x u ground table whole =
     let kept : u ≡ w.table =
-    table ∙ ap (λ (a : Answer). all_changed w.table a.changes) (answer-is w.table untold c (Some cause) some) ∙ ap (all_changed w.table) nothing in
+    table ∙ ap (λ (a : Answer). all_changed w.table a.changes) (answer-is w.table told_none c (Some cause) some) ∙ ap (all_changed w.table) nothing in
     let same = placed_same w x u ground kept in (
-      subst (λ (v : Face). CarriedUntold w v c (Some cause)) same (refused_by w c cause opens silent some nothing),
+      subst (λ (v : WorldSeen). CarriedUntold w v c (Some cause)) same (refused_by w c cause opens silent some nothing),
       subst IsWholeWorld same whole,
     )
 
 -- its text is the answer's
-pub said_as : (w : Face) (given : List ℕ) (v : Face) (text : List ℕ) (c : Cmd) (refusal : Option Refusal) → CarriedUntold w v c refusal
-    → IsSaid given (answer w.table untold c).reply text → dirty_of v ≡ dirty_after w.table (dirty_of w) (answer w.table untold c).changes
+pub said_as : (w : WorldSeen) (given : List ℕ) (v : WorldSeen) (text : List ℕ) (c : Cmd) (refusal : Option Refusal) → CarriedUntold w v c refusal
+    → IsSaid given (answer w.table told_none c).reply text → dirty_of v ≡ dirty_after w.table (dirty_of w) (answer w.table told_none c).changes
     → LeavesBitmaps w.table c refusal w.bitmaps v.bitmaps → IsCarriedAs w v given c text
 said_as w given v text c refusal carried said dirty bitmaps = record {
   refusal = refusal;
@@ -80,19 +80,19 @@ said_as w given v text c refusal carried said dirty bitmaps = record {
 }
 
 -- the world on other ground, with another table and other bitmaps
-abbrev pub replaced : Face → Ground → Table → List Bitmap → Face
+abbrev pub replaced : WorldSeen → Ground → RunTable → List Bitmap → WorldSeen
 replaced w x u b = record (placed w x u) { bitmaps = b }
 
-module _ (w : Face) (whole : IsWholeWorld w) (joined : IsJoined w.nodes) (unfolds : Unfolds w.nodes)
-    (given : List ℕ) (x : Ground) (u : Table) (b : List Bitmap) (text : List ℕ) where
+module _ (w : WorldSeen) (whole : IsWholeWorld w) (joined : IsJoined w.nodes) (unfolds : Unfolds w.nodes)
+    (given : List ℕ) (x : Ground) (u : RunTable) (b : List Bitmap) (text : List ℕ) where
   pub deletion_carried : (c : Cmd) → is_deletion c ≡ true → IsHandled given w.table c u (IsDeletedBy w.table c (ground_of w) x) (x ≡ ground_of w) text
-      → b ≡ bitmaps_left (refusal_of w.table untold c) w.table c w.bitmaps
+      → b ≡ bitmaps_left (refusal_to w.table told_none c) w.table c w.bitmaps
       → IsCarriedAs w (replaced w x u b) given c text × IsWholeWorld (replaced w x u b)
   deletion_carried (command.BlockdevDel name) is handled left =
       by_refusal handled.refusal handled.judged handled.done_is
       (left ∙ ap (λ (found : Option Refusal). bitmaps_left found w.table (command.BlockdevDel name) w.bitmaps) handled.judged)
     where
-      by_refusal : (refusal : Option Refusal) → refusal_of w.table untold (command.BlockdevDel name) ≡ refusal
+      by_refusal : (refusal : Option Refusal) → refusal_to w.table told_none (command.BlockdevDel name) ≡ refusal
           → DoneIf refusal (IsDeletedBy w.table (command.BlockdevDel name) (ground_of w) x) (x ≡ ground_of w)
           → b ≡ bitmaps_left refusal w.table (command.BlockdevDel name) w.bitmaps
           → IsCarriedAs w (replaced w x u b) given (command.BlockdevDel name) text × IsWholeWorld (replaced w x u b)
@@ -101,8 +101,8 @@ module _ (w : Face) (whole : IsWholeWorld w) (joined : IsJoined w.nodes) (unfold
           (said_as w given (replaced w x u b) text (command.BlockdevDel name) None all.0 handled.said all.2.dirty (record { new = None; is_new = tt; are = left }), all.1)
       by_refusal (Some cause) some ground left =
           let all = refused_placed w (command.BlockdevDel name) cause refl refl some refl x u ground handled.table whole in
-          let nothing : (answer w.table untold (command.BlockdevDel name)).changes ≡ [] =
-          ap (λ (a : Answer). a.changes) (answer-is w.table untold (command.BlockdevDel name) (Some cause) some) in
+          let nothing : (answer w.table told_none (command.BlockdevDel name)).changes ≡ [] =
+          ap (λ (a : Answer). a.changes) (answer-is w.table told_none (command.BlockdevDel name) (Some cause) some) in
           let carried : IsCarriedAs w (placed w x u) given (command.BlockdevDel name) text =
           said_as w given (placed w x u) text (command.BlockdevDel name) (Some cause) all.0 handled.said (sym (ap (dirty_after w.table (dirty_of w)) nothing)) refl in (
             subst (λ (rows : List Bitmap). IsCarriedAs w (replaced w x u rows) given (command.BlockdevDel name) text) (sym left) carried,
@@ -113,19 +113,19 @@ module _ (w : Face) (whole : IsWholeWorld w) (joined : IsJoined w.nodes) (unfold
 -- ---- answers of a call
 
 -- for want of memory all is as it was
-pub untouched_whole : (w : Face) (x : Ground) (u : Table) → IsWholeWorld w → IsUntouched w.table u (x ≡ ground_of w)
+pub untouched_whole : (w : WorldSeen) (x : Ground) (u : RunTable) → IsWholeWorld w → IsUntouched w.table u (x ≡ ground_of w)
     → IsWholeWorld (placed w x u)
 untouched_whole w x u whole kept =
     subst IsWholeWorld (placed_same w x u kept.kept kept.table) whole
 
 module _ {A E : Type 0} (r : Result A E) (text : A → List ℕ) where
   -- refused as it was not prepared
-  pub handled_stop : (given : List ℕ) (t : Table) (c : Cmd) (u : Table) (done undone : Type 0) (stop : PrepareStop) → IsStoppedFor (refusal_of t untold c) stop
+  pub handled_stop : (given : List ℕ) (t : RunTable) (c : Cmd) (u : RunTable) (done undone : Type 0) (stop : PrepareStop) → IsStoppedFor (refusal_to t told_none c) stop
       → IfOk r (λ a. SaysRefusal given stop (text a)) → u ≡ t → undone → ((cause : Refusal) → left_by t c cause ≡ [])
       → IfOk r (λ a. IsHandled given t c u done undone (text a))
   handled_stop given t c u done undone stop for_this said table kept nothing = by_result r said
     where
-      by_stop : (a : A) (stop : PrepareStop) → IsStoppedFor (refusal_of t untold c) stop → SaysRefusal given stop (text a) → IsHandled given t c u done undone (text a)
+      by_stop : (a : A) (stop : PrepareStop) → IsStoppedFor (refusal_to t told_none c) stop → SaysRefusal given stop (text a) → IsHandled given t c u done undone (text a)
       by_stop a (Refused cause) some said = handled_refused given t c u done undone (text a) cause some (nothing cause) table kept said
       by_stop a NoMemory some said = absurd said
 
@@ -133,28 +133,28 @@ module _ {A E : Type 0} (r : Result A E) (text : A → List ℕ) where
       by_result (Ok a) said = by_stop a stop for_this said
       by_result (Err e) said = said
 
-  pub untouched_back : (w : Face) (c : Cmd) (x : Ground) (u : Table) → OnErr r (IsUntouched w.table u (x ≡ ground_of w)) → OnErr r (IsPutBackBy w (placed w x u) c)
+  pub untouched_back : (w : WorldSeen) (c : Cmd) (x : Ground) (u : RunTable) → OnErr r (IsUntouched w.table u (x ≡ ground_of w)) → OnErr r (IsPutBackBy w (placed w x u) c)
   untouched_back w c x u kept = by_result r kept
     where
       by_result : (r : Result A E) → OnErr r (IsUntouched w.table u (x ≡ ground_of w)) → OnErr r (IsPutBackBy w (placed w x u) c)
       by_result (Ok a) kept = kept
-      by_result (Err e) kept = subst (λ (f : Face). IsPutBackBy w f c) (placed_same w x u kept.kept kept.table) (put_back_by w c)
+      by_result (Err e) kept = subst (λ (f : WorldSeen). IsPutBackBy w f c) (placed_same w x u kept.kept kept.table) (put_back_by w c)
 
 -- ---- deletions
 
-pub deletion_leaves : (t : Table) (c : Cmd) (cause : Refusal) → is_deletion c ≡ true → left_by t c cause ≡ []
+pub deletion_leaves : (t : RunTable) (c : Cmd) (cause : Refusal) → is_deletion c ≡ true → left_by t c cause ≡ []
 deletion_leaves t (command.BlockdevCreate c) cause is = absurd (let bad : ⊥ = cc is in bad)
 deletion_leaves t c cause is = refl
 
-module _ (w : Face) (whole : IsWholeWorld w) (joined : IsJoined w.nodes) (unfolds : Unfolds w.nodes)
-    (given : List ℕ) (x : Ground) (u : Table) (b : List Bitmap) (c : Cmd) (is : is_deletion c ≡ true) {A E : Type 0} (r : Result A E) (text : A → List ℕ)
+module _ (w : WorldSeen) (whole : IsWholeWorld w) (joined : IsJoined w.nodes) (unfolds : Unfolds w.nodes)
+    (given : List ℕ) (x : Ground) (u : RunTable) (b : List Bitmap) (c : Cmd) (is : is_deletion c ≡ true) {A E : Type 0} (r : Result A E) (text : A → List ℕ)
     (handled : IfOk r (λ a. IsHandled given w.table c u (IsDeletedBy w.table c (ground_of w) x) (x ≡ ground_of w) (text a)))
-    (left : OnOk r (b ≡ bitmaps_left (refusal_of w.table untold c) w.table c w.bitmaps)) where
+    (left : OnOk r (b ≡ bitmaps_left (refusal_to w.table told_none c) w.table c w.bitmaps)) where
   pub deletion_texts : IfOk r (λ a. IsCarriedAs w (replaced w x u b) given c (text a))
   deletion_texts = by_result r handled left
     where
       by_result : (r : Result A E) → IfOk r (λ a. IsHandled given w.table c u (IsDeletedBy w.table c (ground_of w) x) (x ≡ ground_of w) (text a))
-          → OnOk r (b ≡ bitmaps_left (refusal_of w.table untold c) w.table c w.bitmaps)
+          → OnOk r (b ≡ bitmaps_left (refusal_to w.table told_none c) w.table c w.bitmaps)
           → IfOk r (λ a. IsCarriedAs w (replaced w x u b) given c (text a))
       by_result (Ok a) handled left = (deletion_carried w whole joined unfolds given x u b (text a) c is handled left).0
       by_result (Err e) handled left = handled
@@ -163,15 +163,15 @@ module _ (w : Face) (whole : IsWholeWorld w) (joined : IsJoined w.nodes) (unfold
   deletion_whole kept same = by_result r handled left kept same
     where
       by_result : (r : Result A E) → IfOk r (λ a. IsHandled given w.table c u (IsDeletedBy w.table c (ground_of w) x) (x ≡ ground_of w) (text a))
-          → OnOk r (b ≡ bitmaps_left (refusal_of w.table untold c) w.table c w.bitmaps)
+          → OnOk r (b ≡ bitmaps_left (refusal_to w.table told_none c) w.table c w.bitmaps)
           → OnErr r (IsUntouched w.table u (x ≡ ground_of w)) → OnErr r (b ≡ w.bitmaps) → IsWholeWorld (replaced w x u b)
       by_result (Ok a) handled left kept same = (deletion_carried w whole joined unfolds given x u b (text a) c is handled left).1
       by_result (Err e) handled left kept same =
           subst (λ (rows : List Bitmap). IsWholeWorld (replaced w x u rows)) (sym same) (untouched_whole w x u whole kept)
 
-pub deletion_back : {A E : Type 0} (r : Result A E) (text : A → List ℕ) (w : Face) (c : Cmd) (x : Ground) (u : Table) (b : List Bitmap)
+pub deletion_back : {A E : Type 0} (r : Result A E) (text : A → List ℕ) (w : WorldSeen) (c : Cmd) (x : Ground) (u : RunTable) (b : List Bitmap)
     → OnErr r (IsUntouched w.table u (x ≡ ground_of w)) → OnErr r (b ≡ w.bitmaps) → OnErr r (IsPutBackBy w (replaced w x u b) c)
 deletion_back (Ok a) text w c x u b kept same = kept
 deletion_back (Err e) text w c x u b kept same =
     subst (λ (rows : List Bitmap). IsPutBackBy w (replaced w x u rows) c) (sym same)
-    (subst (λ (f : Face). IsPutBackBy w f c) (placed_same w x u kept.kept kept.table) (put_back_by w c))
+    (subst (λ (f : WorldSeen). IsPutBackBy w f c) (placed_same w x u kept.kept kept.table) (put_back_by w c))

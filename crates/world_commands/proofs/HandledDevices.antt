@@ -4,8 +4,8 @@ use Rattle.std.specs.Prelude.{Result, IfOk, OnErr}
 use Rattle.qmp_codec.specs.Commands.{Cmd}
 use Rattle.qmp_codec.specs.declared.command.Command.TheVariants as command
 use Rattle.qmp_codec.specs.declared.nodes.DeviceAdd.{DeviceAdd}
-use Rattle.qmp_rules.specs.Answers.{answer, left_by, refusal_of, untold}
-use Rattle.qmp_rules.specs.Table.{Table}
+use Rattle.qmp_rules.specs.Answers.{answer, left_by, refusal_to, told_none}
+use Rattle.qmp_rules.specs.Table.{RunTable}
 use Rattle.qmp_rules.specs.declared.refusal.Refusal.{Refusal}
 use Rattle.blk_nodes.specs.Joined.{IsJoined}
 use Rattle.blk_nodes.specs.Nodes.{Nodes}
@@ -13,37 +13,37 @@ use Rattle.world_commands.specs.Carrying.{IsCarriedAs, IsPutBackBy}
 use Rattle.world_parts.specs.Coherent.{IsWholeWorld}
 use Rattle.world_parts.specs.Deleting.{Ground, ground_of}
 use Rattle.flat_machine.specs.Recording.{dirty_after}
-use Rattle.world_parts.specs.Face.{Face, dirty_of}
+use Rattle.world_parts.specs.Face.{WorldSeen, dirty_of}
 use Rattle.world_commands.proofs.BitmapsLeft.{left-dirty}
 use Rattle.world_parts.specs.Handling.{DoneIf, IsAttachedBy, IsHandled, IsUntouched, is_attachment}
 use Rattle.world_commands.proofs.AttachedCarried.{attachment_done}
 use Rattle.world_commands.proofs.Handled.{refused_placed, said_as}
 use Rattle.world_commands.proofs.Placed.{put_back_by}
 
-pub attachment_leaves : (t : Table) (c : Cmd) (cause : Refusal) → is_attachment c ≡ true → left_by t c cause ≡ []
+pub attachment_leaves : (t : RunTable) (c : Cmd) (cause : Refusal) → is_attachment c ≡ true → left_by t c cause ≡ []
 attachment_leaves t (command.BlockdevCreate c) cause is = absurd (let bad : ⊥ = cc is in bad)
 attachment_leaves t c cause is = refl
 
 -- nodes and table are others
-abbrev pub rewired_so : Face → Nodes → Table → Face
+abbrev pub rewired_so : WorldSeen → Nodes → RunTable → WorldSeen
 rewired_so w nodes u = record w { nodes = nodes; table = u }
 
-abbrev pub ground_with : Face → Nodes → Ground
+abbrev pub ground_with : WorldSeen → Nodes → Ground
 ground_with w nodes = record { store = (ground_of w).store; nodes = nodes }
 
-same_ground : (w : Face) (now : Nodes) → now ≡ w.nodes → ground_with w now ≡ ground_of w
+same_ground : (w : WorldSeen) (now : Nodes) → now ≡ w.nodes → ground_with w now ≡ ground_of w
 same_ground w now same = ap (ground_with w) same
 
-module _ (w : Face) (whole : IsWholeWorld w) (joined : IsJoined w.nodes) (given : List ℕ) (now : Nodes) (after : IsJoined now)
-    (u : Table) where
-  kept_so : (c : DeviceAdd (List ℕ)) → dirty_of (rewired_so w now u) ≡ dirty_after w.table (dirty_of w) (answer w.table untold (command.DeviceAdd c)).changes
-  kept_so c = left-dirty w (rewired_so w now u) untold (command.DeviceAdd c) refl refl whole.bitmaps
+module _ (w : WorldSeen) (whole : IsWholeWorld w) (joined : IsJoined w.nodes) (given : List ℕ) (now : Nodes) (after : IsJoined now)
+    (u : RunTable) where
+  kept_so : (c : DeviceAdd (List ℕ)) → dirty_of (rewired_so w now u) ≡ dirty_after w.table (dirty_of w) (answer w.table told_none (command.DeviceAdd c)).changes
+  kept_so c = left-dirty w (rewired_so w now u) told_none (command.DeviceAdd c) refl refl whole.bitmaps
 
   attachment_carried : (c : Cmd) (text : List ℕ) → is_attachment c ≡ true → IsHandled given w.table c u (IsAttachedBy u c w.nodes now) (now ≡ w.nodes) text
       → IsCarriedAs w (rewired_so w now u) given c text × IsWholeWorld (rewired_so w now u)
   attachment_carried (command.DeviceAdd c) text is handled = by_refusal handled.refusal handled.judged handled.done_is
     where
-      by_refusal : (refusal : Option Refusal) → refusal_of w.table untold (command.DeviceAdd c) ≡ refusal
+      by_refusal : (refusal : Option Refusal) → refusal_to w.table told_none (command.DeviceAdd c) ≡ refusal
           → DoneIf refusal (IsAttachedBy u (command.DeviceAdd c) w.nodes now) (now ≡ w.nodes)
           → IsCarriedAs w (rewired_so w now u) given (command.DeviceAdd c) text × IsWholeWorld (rewired_so w now u)
       by_refusal None none done =
@@ -81,4 +81,4 @@ module _ (w : Face) (whole : IsWholeWorld w) (joined : IsJoined w.nodes) (given 
       where
         by_result : (r : Result A E) → OnErr r (IsUntouched w.table u (now ≡ w.nodes)) → OnErr r (IsPutBackBy w (rewired_so w now u) c)
         by_result (Ok a) kept = kept
-        by_result (Err e) kept = subst (λ (f : Face). IsPutBackBy w f c) (untouched kept) (put_back_by w c)
+        by_result (Err e) kept = subst (λ (f : WorldSeen). IsPutBackBy w f c) (untouched kept) (put_back_by w c)

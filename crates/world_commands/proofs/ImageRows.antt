@@ -15,15 +15,15 @@ use Rattle.blk_graph.specs.declared.kind.Kind.TheVariants as kinds
 use Rattle.blk_graph.specs.Edits.{child_of}
 use Rattle.blk_graph.proofs.Members.{find-Some}
 use Rattle.qmp_rules.specs.declared.rows.NodeRecord.{NodeRecord}
-use Rattle.qmp_rules.specs.Table.{Table, node_at, child}
+use Rattle.qmp_rules.specs.Table.{RunTable, node_by_id, child}
 use Rattle.blk_nodes.specs.Joined.{IsJoined, IsFile, IsOverlay, HasBelow}
-use Rattle.blk_nodes.specs.Nodes.{Nodes, DeviceState, row_at, device_in, file_of, kind_of}
+use Rattle.blk_nodes.specs.Nodes.{Nodes, DeviceSeen, row_at, device_in, file_of, driver_kind}
 use Rattle.blk_nodes.specs.Writing.{StaysMapped}
 use Rattle.blk_nodes.specs.declared.row.Driver.{Driver}
 use Rattle.blk_nodes.specs.declared.row.Driver.TheVariants as drivers
 use Rattle.blk_nodes.specs.declared.row.Row.{Row}
 use Rattle.flat_machine.specs.State.{filename_of}
-use Rattle.flat_machine.specs.Changed.{file_of as file_of_row}
+use Rattle.flat_machine.specs.Changed.{own_filename}
 use Rattle.flat_machine.specs.Writing.{written_file}
 use Rattle.flat_machine.specs.Wiring.{TableStands}
 use Rattle.flat_machine.specs.Imaging.{maps_some, is_qcow2_at}
@@ -81,7 +81,7 @@ still_mapped before after image now was opened is opened_now header keeps some =
 
 -- ---- the image of a qcow2 node
 
-pub record HasImageFile (t : Table) (nodes : Nodes) (node : ℕ) (name : List ℕ) : Type 0 where
+pub record HasImageFile (t : RunTable) (nodes : Nodes) (node : ℕ) (name : List ℕ) : Type 0 where
   pub file : ℕ
   pub row : Row
   pub image : Known
@@ -90,18 +90,18 @@ pub record HasImageFile (t : Table) (nodes : Nodes) (node : ℕ) (name : List �
   pub over_it : node_over t name ≡ Some file
   pub has_device : IsSome (device_in nodes.devices file)
   pub opened : IsOpen image
-  pub known : (device : DeviceState) (bytes : List ℕ) → device_in nodes.devices file ≡ Some device → device.content ≡ Some bytes
+  pub known : (device : DeviceSeen) (bytes : List ℕ) → device_in nodes.devices file ≡ Some device → device.content ≡ Some bytes
       → IsImageOf bytes image
 
-module _ (t : Table) (nodes : Nodes) (alike : AreNodesOf t nodes) (joined : IsJoined nodes) (stands : TableStands t) where
-  row-by : (node : ℕ) (record' : NodeRecord) → node_at t node ≡ Some record' → (found : Option Row) → row_at nodes node ≡ found
+module _ (t : RunTable) (nodes : Nodes) (alike : AreNodesOf t nodes) (joined : IsJoined nodes) (stands : TableStands t) where
+  row-by : (node : ℕ) (record' : NodeRecord) → node_by_id t node ≡ Some record' → (found : Option Row) → row_at nodes node ≡ found
       → (row : Row) × (row_at nodes node ≡ Some row) × IsRowOf record' row
   row-by node record' at None e =
-      absurd (subst (λ (a : Option NodeRecord). AreAlike a None) at (subst (AreAlike (node_at t node)) e (alike.rows node)))
+      absurd (subst (λ (a : Option NodeRecord). AreAlike a None) at (subst (AreAlike (node_by_id t node)) e (alike.rows node)))
   row-by node record' at (Some row) e =
-      (row, e, subst (λ (a : Option NodeRecord). AreAlike a (Some row)) at (subst (AreAlike (node_at t node)) e (alike.rows node)))
+      (row, e, subst (λ (a : Option NodeRecord). AreAlike a (Some row)) at (subst (AreAlike (node_by_id t node)) e (alike.rows node)))
 
-  qcow2-driver : (driver : Driver) → kind_of driver ≡ kinds.Qcow2 → (image : Known) × (driver ≡ drivers.Qcow2 image)
+  qcow2-driver : (driver : Driver) → driver_kind driver ≡ kinds.Qcow2 → (image : Known) × (driver ≡ drivers.Qcow2 image)
   qcow2-driver drivers.File is = absurd (let bad : ⊥ = cc is in bad)
   qcow2-driver (drivers.Raw part) is = absurd (let bad : ⊥ = cc is in bad)
   qcow2-driver (drivers.Qcow2 image) is = (image, refl)
@@ -156,7 +156,7 @@ module _ (t : Table) (nodes : Nodes) (alike : AreNodesOf t nodes) (joined : IsJo
           by_name None e bad = absurd (let no : ⊥ = cc bad in no)
           by_name (Some name) e some = (name, e)
 
-      at-file : (file : ℕ) → IsFile nodes file → (found : Option NodeRecord) → node_at t file ≡ found
+      at-file : (file : ℕ) → IsFile nodes file → (found : Option NodeRecord) → node_by_id t file ≡ found
           → (name : List ℕ) × (filename_of t file ≡ Some name)
       at-file file is None e =
           absurd (subst (λ (b : Option Row). AreAlike None b) is.there (subst (λ (a : Option NodeRecord). AreAlike a (row_at nodes file)) e (alike.rows file)))
@@ -164,17 +164,17 @@ module _ (t : Table) (nodes : Nodes) (alike : AreNodesOf t nodes) (joined : IsJo
           let like : IsRowOf under is.row =
           subst (λ (b : Option Row). AreAlike (Some under) b) is.there (subst (λ (a : Option NodeRecord). AreAlike a (row_at nodes file)) e (alike.rows file)) in
           let there = find-Some (λ (r : NodeRecord). r.id == file) t.nodes under e in
-          let named = named-by under (stands.names under there.0 (like.kind ∙ ap kind_of is.driver)) in
+          let named = named-by under (stands.names under there.0 (like.kind ∙ ap driver_kind is.driver)) in
           (named.0, ap (option_and_then (λ (r : NodeRecord). r.filename)) e ∙ named.1)
 
-      by_file : (file : ℕ) → child t node FileRole ≡ Some file → IsFile nodes file → (own : NodeRecord) → node_at t node ≡ Some own
+      by_file : (file : ℕ) → child t node FileRole ≡ Some file → IsFile nodes file → (own : NodeRecord) → node_by_id t node ≡ Some own
           → own.kind ≡ kinds.Qcow2 → (name : List ℕ) × (written_file t node ≡ Some name)
       by_file file below is own at kind =
-          let named = at-file file is (node_at t file) refl in
+          let named = at-file file is (node_by_id t file) refl in
           let id_is : own.id ≡ node = eqb-true own.id node (find-Some (λ (r : NodeRecord). r.id == node) t.nodes own at).1 in
           (named.0, written-by named.0 own at kind id_is (ap (option_and_then (filename_of t)) (ap (λ (n : ℕ). child t n FileRole) id_is ∙ below) ∙ named.1))
         where
-          written-by : (name : List ℕ) (own : NodeRecord) → node_at t node ≡ Some own → own.kind ≡ kinds.Qcow2 → own.id ≡ node
+          written-by : (name : List ℕ) (own : NodeRecord) → node_by_id t node ≡ Some own → own.kind ≡ kinds.Qcow2 → own.id ≡ node
               → option_and_then (filename_of t) (child t own.id FileRole) ≡ Some name → written_file t node ≡ Some name
           written-by name own at kind id_is is =
-              ap (option_and_then (λ (r : NodeRecord). file_of_row t r r.kind)) at ∙ ap (file_of_row t own) kind ∙ is
+              ap (option_and_then (λ (r : NodeRecord). own_filename t r r.kind)) at ∙ ap (own_filename t own) kind ∙ is

@@ -10,46 +10,46 @@ use Rattle.blk_graph.proofs.ChildLemmas.{child-edge}
 use Rattle.blk_history.specs.Disk.{span_of}
 use Rattle.blk_history.specs.Fold.{With}
 use Rattle.qmp_rules.specs.Chains.{filter_role, filtered, disk_from, disk_node}
-use Rattle.qmp_rules.specs.Table.{Table, node_at, device_at, child}
+use Rattle.qmp_rules.specs.Table.{RunTable, node_by_id, device_by_number, child}
 use Rattle.qmp_rules.specs.declared.rows.NodeRecord.{NodeRecord}
 use Rattle.flat_machine.specs.Agreement.{HasDisk}
-use Rattle.flat_machine.specs.State.{Guest, drive_of, size_of}
+use Rattle.flat_machine.specs.State.{Guest, drive_of, size_by_id}
 use Rattle.world_parts.specs.Coherent.{HaveDrives, AreOnDisks, AreOnWritable, AreWithin}
 
 -- an edge leads to the node
-pub record IsEntered (t : Table) (node : ℕ) : Type 0 where
+pub record IsEntered (t : RunTable) (node : ℕ) : Type 0 where
   pub edge : Edge
   pub there : Contains t.edges edge
   pub leads : edge.child ≡ node
 
-pub drive-entered : (t : Table) (g node : ℕ) → drive_of t g ≡ Some node → IsEntered t node
+pub drive-entered : (t : RunTable) (g node : ℕ) → drive_of t g ≡ Some node → IsEntered t node
 drive-entered t g node is = let e = child-edge (GuestOf g) Drive t.edges node is in record { edge = e.edge; there = e.there; leads = e.to }
 
-filtered-entered : (t : Table) (node below : ℕ) → filtered t node ≡ Some below → IsEntered t below
-filtered-entered t node below is = by_role (option_and_then (λ (row : NodeRecord). filter_role row.kind) (node_at t node)) is
+filtered-entered : (t : RunTable) (node below : ℕ) → filtered t node ≡ Some below → IsEntered t below
+filtered-entered t node below is = by_role (option_and_then (λ (row : NodeRecord). filter_role row.kind) (node_by_id t node)) is
   where
     by_role : (role : Option Role) → option_and_then (child t node) role ≡ Some below → IsEntered t below
     by_role None bad = absurd (let e : ⊥ = cc bad in e)
     by_role (Some role) at = let e = child-edge (Node node) role t.edges below at in record { edge = e.edge; there = e.there; leads = e.to }
 
 -- such nodes, their children and all drives are in another table as they are
-pub record KeepsEntered (t now : Table) : Type 0 where
-  pub devices : (g : ℕ) → device_at now g ≡ device_at t g
+pub record KeepsEntered (t now : RunTable) : Type 0 where
+  pub devices : (g : ℕ) → device_by_number now g ≡ device_by_number t g
   pub drives : (g : ℕ) → drive_of now g ≡ drive_of t g
-  pub rows : (node : ℕ) → IsEntered t node → node_at now node ≡ node_at t node
+  pub rows : (node : ℕ) → IsEntered t node → node_by_id now node ≡ node_by_id t node
   pub children : (node : ℕ) (role : Role) → IsEntered t node → child now node role ≡ child t node role
 
-module _ (t now : Table) (keeps : KeepsEntered t now) where
+module _ (t now : RunTable) (keeps : KeepsEntered t now) where
   filtered-same : (node : ℕ) → IsEntered t node → filtered now node ≡ filtered t node
   filtered-same node here =
       ap (λ (row : Option NodeRecord). option_and_then (child now node) (option_and_then (λ (r : NodeRecord). filter_role r.kind) row)) (keeps.rows node here)
-      ∙ by_role (option_and_then (λ (r : NodeRecord). filter_role r.kind) (node_at t node))
+      ∙ by_role (option_and_then (λ (r : NodeRecord). filter_role r.kind) (node_by_id t node))
     where
       by_role : (role : Option Role) → option_and_then (child now node) role ≡ option_and_then (child t node) role
       by_role None = refl
       by_role (Some role) = keeps.children node role here
 
-  at_child : (more : ℕ) (table : Table) (node : ℕ) (below : Option ℕ) → filtered table node ≡ below
+  at_child : (more : ℕ) (table : RunTable) (node : ℕ) (below : Option ℕ) → filtered table node ≡ below
       → disk_from (suc more) table node ≡ elim below as (λ _. ℕ) [ None ↦ node | Some under ↦ disk_from more table under ]
   at_child more table node below is = ap (λ (b : Option ℕ). elim b as (λ _. ℕ) [ None ↦ node | Some under ↦ disk_from more table under ]) is
 
@@ -90,7 +90,7 @@ module _ (t now : Table) (keeps : KeepsEntered t now) where
       let old : drive_of t g ≡ Some node = sym (keeps.drives g) ∙ is in
       let here = drive-entered t g node old in
       subst (λ (row : Option NodeRecord). With row HasDisk)
-      (sym (ap (node_at now) (disk-same node here) ∙ keeps.rows (disk_node t node) (disk-entered node here))) (are g node old)
+      (sym (ap (node_by_id now) (disk-same node here) ∙ keeps.rows (disk_node t node) (disk-entered node here))) (are g node old)
 
   pub writable_kept : AreOnWritable t → AreOnWritable now
   writable_kept are g node device there writes is =
@@ -101,13 +101,13 @@ module _ (t now : Table) (keeps : KeepsEntered t now) where
   pub within_kept : (guests : List Guest) → AreWithin t guests → AreWithin now guests
   within_kept guests are g f flies = by_drive (drive_of t g) refl (are g f flies)
     where
-      by_drive : (drive : Option ℕ) → drive_of t g ≡ drive → With (option_map (disk_node t) drive) (λ node. end_of (span_of f.op) ≤ size_of t node)
-          → With (option_map (disk_node now) (drive_of now g)) (λ node. end_of (span_of f.op) ≤ size_of now node)
+      by_drive : (drive : Option ℕ) → drive_of t g ≡ drive → With (option_map (disk_node t) drive) (λ node. end_of (span_of f.op) ≤ size_by_id t node)
+          → With (option_map (disk_node now) (drive_of now g)) (λ node. end_of (span_of f.op) ≤ size_by_id now node)
       by_drive None is bad = absurd bad
       by_drive (Some node) is fit =
           let here = drive-entered t g node is in
           let disk : ℕ = disk_node t node in
-          subst (λ (drive : Option ℕ). With (option_map (disk_node now) drive) (λ n. end_of (span_of f.op) ≤ size_of now n)) (sym (keeps.drives g ∙ is))
-          (subst (λ (n : ℕ). end_of (span_of f.op) ≤ size_of now n) (sym (disk-same node here))
+          subst (λ (drive : Option ℕ). With (option_map (disk_node now) drive) (λ n. end_of (span_of f.op) ≤ size_by_id now n)) (sym (keeps.drives g ∙ is))
+          (subst (λ (n : ℕ). end_of (span_of f.op) ≤ size_by_id now n) (sym (disk-same node here))
           (subst (λ (n : ℕ). end_of (span_of f.op) ≤ n)
           (sym (ap (λ (row : Option NodeRecord). unwrap_or (option_map (λ (r : NodeRecord). r.size) row) 0) (keeps.rows disk (disk-entered node here)))) fit))

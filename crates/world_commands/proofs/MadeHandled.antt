@@ -4,7 +4,7 @@ use Rattle.std.specs.Prelude.{Result, IfOk}
 use Rattle.qmp_codec.specs.declared.nodes.BlockdevCreate.{BlockdevCreate}
 use Rattle.qmp_codec.specs.declared.nodes.Created.{Created}
 use Rattle.qmp_asks.specs.Asking.{Asking, place, same_look}
-use Rattle.qmp_rules.specs.Asks.{first, holds, told_at}
+use Rattle.qmp_rules.specs.Asks.{first_unmet_ask, holds, told_at}
 use Rattle.qmp_asks.specs.CommandAsks.{asks_of}
 use Rattle.qmp_rules.specs.Looks.{create_told, stop_at, too_long}
 use Rattle.qmp_rules.specs.Prepared.{IsStoppedFor}
@@ -19,15 +19,15 @@ use Rattle.qmp_asks.specs.declared.look.Look.{Look}
 use Rattle.qmp_asks.specs.declared.look.Look.TheVariants as look
 use Rattle.qmp_rules.specs.declared.told.Stopped.{Stopped}
 use Rattle.qmp_rules.proofs.PlaceLemmas.{has_place}
-use Rattle.world_commands.specs.Carrying.{is_failed}
+use Rattle.world_commands.specs.Carrying.{is_io_refusal}
 use Rattle.world_parts.specs.Handling.{SaysRefusal}
 use Rattle.qmp_codec.specs.Commands.{Cmd}
 use Rattle.qmp_codec.specs.declared.command.Command.TheVariants as command
 use Rattle.qmp_codec.specs.declared.nodes.Created.TheVariants as created
-use Rattle.qmp_rules.specs.Answers.{Answer, command_edits, left_by, out_of_turn, refusal_of, returned}
+use Rattle.qmp_rules.specs.Answers.{Answer, command_edits, left_by, out_of_turn, refusal_to, returned}
 use Rattle.qmp_rules.specs.Changes.{all_changed}
 use Rattle.qmp_rules.specs.Edits.{edits_of, spoiled}
-use Rattle.qmp_rules.specs.Table.{Table}
+use Rattle.qmp_rules.specs.Table.{RunTable}
 use Rattle.qmp_rules.specs.declared.change.Change.{Change}
 use Rattle.qmp_rules.specs.declared.refusal.Refusal.{Refusal}
 use Rattle.qmp_rules.specs.declared.told.Told.{Told}
@@ -42,18 +42,18 @@ use Rattle.world_commands.proofs.CreatedReady.{can_create}
 use Rattle.world_commands.proofs.Placed.{answer-is}
 
 -- it can be carried out
-pub creation_can : (t : Table) (x : Ground) (c : Cmd) → Belong t x → is_creation c ≡ true → refusal_of t (told_first c x.store.room) c ≡ None → CanCreateBy t c x
+pub creation_can : (t : RunTable) (x : Ground) (c : Cmd) → Belong t x → is_creation c ≡ true → refusal_to t (told_first c x.store.room) c ≡ None → CanCreateBy t c x
 creation_can t x (command.BlockdevCreate c) belong is none = can_create t x belong c.job_id c.options none
 creation_can t x c belong is none = absurd (let bad : ⊥ = cc is in bad)
 
 -- a failure makes fewer changes
-pub creation_fewer : (t : Table) (told : Told) (c : Cmd) → is_creation c ≡ true → length (spoiled_by t c) ≤ length (command_edits t told c)
+pub creation_fewer : (t : RunTable) (told : Told) (c : Cmd) → is_creation c ≡ true → length (spoiled_by t c) ≤ length (command_edits t told c)
 unfolding edits_of
 creation_fewer t told (command.BlockdevCreate c) is = fewer_spoiled t c
 creation_fewer t told c is = absurd (let bad : ⊥ = cc is in bad)
 
 -- the texts are those that were made before
-module _ {A E : Type 0} (r : Result A E) (text : A → List ℕ) (given : List ℕ) (t : Table) (told : Told) (c : Cmd) (old now : Ground) (u : Table)
+module _ {A E : Type 0} (r : Result A E) (text : A → List ℕ) (given : List ℕ) (t : RunTable) (told : Told) (c : Cmd) (old now : Ground) (u : RunTable)
     (edits left : List Change) (accepted back : List ℕ) (said : IsSaid given (Ok (returned t told c)) accepted) (ends : EndsRefusals given back) where
   one : (x : List ℕ) → IsMadeNow t c old now u edits accepted x ⊎ IsSpoiledNow t c old now u left back x
       → IsMadeSaying given t told c old now u edits x ⊎ IsSpoiledSaying given t c old now u left x
@@ -71,60 +71,60 @@ module _ {A E : Type 0} (r : Result A E) (text : A → List ℕ) (given : List �
 
 -- ---- what is refused before any call is no failed call
 
-module _ (t : Table) (told : Told) (quiet : (s : Stopped) → told.stopped ≡ Some s → is_failed s.refusal ≡ false) where
-  files-quiet : (what : Look) (stopped : Option Stopped) → told.stopped ≡ stopped → (cause : Refusal) → told_at what stopped ≡ Some cause → is_failed cause ≡ false
+module _ (t : RunTable) (told : Told) (quiet : (s : Stopped) → told.stopped ≡ Some s → is_io_refusal s.refusal ≡ false) where
+  files-quiet : (what : Look) (stopped : Option Stopped) → told.stopped ≡ stopped → (cause : Refusal) → told_at what stopped ≡ Some cause → is_io_refusal cause ≡ false
   files-quiet what None is cause bad = absurd (let e : ⊥ = cc bad in e)
   files-quiet what (Some s) is cause at = by_test (same_look what s.look) at
     where
-      by_test : (b : Bool) → refused b s.refusal ≡ Some cause → is_failed cause ≡ false
-      by_test true same = let e : s.refusal ≡ cause = cc same in subst (λ (r : Refusal). is_failed r ≡ false) e (quiet s is)
+      by_test : (b : Bool) → refused b s.refusal ≡ Some cause → is_io_refusal cause ≡ false
+      by_test true same = let e : s.refusal ≡ cause = cc same in subst (λ (r : Refusal). is_io_refusal r ≡ false) e (quiet s is)
       by_test false bad = absurd (let e : ⊥ = cc bad in e)
 
-  ask-quiet : (a : Asking) (cause : Refusal) → holds t told a ≡ Some cause → is_failed cause ≡ false
+  ask-quiet : (a : Asking) (cause : Refusal) → holds t told a ≡ Some cause → is_io_refusal cause ≡ false
   unfolding holds
   ask-quiet (ask.Files what) cause here = files-quiet what told.stopped refl cause here
   ask-quiet a cause here = placed-quiet cause (place a) (has_place t told a tt cause here)
 
-  asks-quiet : (asks : List Asking) (cause : Refusal) → first t told asks ≡ Some cause → is_failed cause ≡ false
+  asks-quiet : (asks : List Asking) (cause : Refusal) → first_unmet_ask t told asks ≡ Some cause → is_io_refusal cause ≡ false
   asks-quiet [] cause is = absurd (let e : ⊥ = cc is in e)
-  asks-quiet (a ∷ asks) cause is = elim (either-of (holds t told a) (first t told asks) cause is) [
+  asks-quiet (a ∷ asks) cause is = elim (either-of (holds t told a) (first_unmet_ask t told asks) cause is) [
     | inl here ↦ ask-quiet a cause here
     | inr later ↦ asks-quiet asks cause later
   ]
 
-  pub creation-quiet : (c : BlockdevCreate (List ℕ)) (cause : Refusal) → refusal_of t told (command.BlockdevCreate c) ≡ Some cause → is_failed cause ≡ false
-  unfolding refusal_of
+  pub creation-quiet : (c : BlockdevCreate (List ℕ)) (cause : Refusal) → refusal_to t told (command.BlockdevCreate c) ≡ Some cause → is_io_refusal cause ≡ false
+  unfolding refusal_to
   creation-quiet c cause is = elim (either-of (out_of_turn false t.negotiated) _ cause is) [
     | inl turn ↦ turn-quiet false t.negotiated cause turn
-    | inr asked ↦ elim (either-of (first t told (asks_of (command.BlockdevCreate c))) None cause asked) [
+    | inr asked ↦ elim (either-of (first_unmet_ask t told (asks_of (command.BlockdevCreate c))) None cause asked) [
       | inl found ↦ asks-quiet (asks_of (command.BlockdevCreate c)) cause found
       | inr bad ↦ absurd (let e : ⊥ = cc bad in e)
     ]
   ]
 
-pub first-quiet : (options : Created (List ℕ)) (room : ℕ) (s : Stopped) → (create_told options room).stopped ≡ Some s → is_failed s.refusal ≡ false
+pub first-quiet : (options : Created (List ℕ)) (room : ℕ) (s : Stopped) → (create_told options room).stopped ≡ Some s → is_io_refusal s.refusal ≡ false
 unfolding create_told
 first-quiet (created.File c) room s is = by_test (nat_lt room (amount_or 0 (Some c.size))) is
   where
-    by_test : (b : Bool) → stop_at look.File (too_long c.filename b) None ≡ Some s → is_failed s.refusal ≡ false
-    by_test true is' = let e : record { look = look.File; refusal = refusal.File c.filename TooLong } ≡ s = cc is' in subst (λ (x : Stopped). is_failed x.refusal ≡ false) e refl
+    by_test : (b : Bool) → stop_at look.File (too_long c.filename b) None ≡ Some s → is_io_refusal s.refusal ≡ false
+    by_test true is' = let e : record { look = look.File; refusal = refusal.File c.filename TooLong } ≡ s = cc is' in subst (λ (x : Stopped). is_io_refusal x.refusal ≡ false) e refl
     by_test false bad = absurd (let e : ⊥ = cc bad in e)
 first-quiet (created.Qcow2 c) room s bad = absurd (let e : ⊥ = cc bad in e)
 first-quiet created.Unknown room s bad = absurd (let e : ⊥ = cc bad in e)
 
-pub left-none : (t : Table) (c : BlockdevCreate (List ℕ)) (cause : Refusal) → is_failed cause ≡ false → left_by t (command.BlockdevCreate c) cause ≡ []
+pub left-none : (t : RunTable) (c : BlockdevCreate (List ℕ)) (cause : Refusal) → is_io_refusal cause ≡ false → left_by t (command.BlockdevCreate c) cause ≡ []
 left-none t c (refusal.Io source count) bad = absurd (let e : ⊥ = cc bad in e)
 left-none t c (refusal.NoSpace dev) bad = absurd (let e : ⊥ = cc bad in e)
 left-none t c _ is = refl
 
-pub left-some : (t : Table) (c : BlockdevCreate (List ℕ)) (cause : Refusal) → FitsWords cause → left_by t (command.BlockdevCreate c) cause ≡ spoiled t c.options
+pub left-some : (t : RunTable) (c : BlockdevCreate (List ℕ)) (cause : Refusal) → FitsWords cause → left_by t (command.BlockdevCreate c) cause ≡ spoiled t c.options
 left-some t c (refusal.Io source count) fits = refl
 left-some t c (refusal.NoSpace dev) fits = refl
 left-some t c _ fits = absurd fits
 
 -- a call that failed is what refuses
-pub fails-so : (t : Table) (id : List ℕ) (options : Created (List ℕ)) (room : ℕ) (cause : Refusal) → refusal_of t (create_told options room) (command.BlockdevCreate (record { job_id = id; options = options })) ≡ None
-    → refusal_of t (record (create_told options room) { stopped = Some (record { look = look_of options; refusal = cause }) }) (command.BlockdevCreate (record { job_id = id; options = options })) ≡ Some cause
+pub fails-so : (t : RunTable) (id : List ℕ) (options : Created (List ℕ)) (room : ℕ) (cause : Refusal) → refusal_to t (create_told options room) (command.BlockdevCreate (record { job_id = id; options = options })) ≡ None
+    → refusal_to t (record (create_told options room) { stopped = Some (record { look = look_of options; refusal = cause }) }) (command.BlockdevCreate (record { job_id = id; options = options })) ≡ Some cause
 fails-so t id (created.File c) room cause none =
     file_fails t (create_told (created.File c) room) (record (create_told (created.File c) room) { stopped = Some (record { look = look.File; refusal = cause }) }) cause id c none refl
 fails-so t id (created.Qcow2 c) room cause none =
@@ -133,8 +133,8 @@ fails-so t id created.Unknown room cause none = absurd (unknown_refused t (creat
 
 -- ---- answers of a call
 
-module _ (given : List ℕ) (t : Table) (told : Told) (old now : Ground) (u : Table) (text : List ℕ) where
-  made-as : (c : BlockdevCreate (List ℕ)) → told ≡ create_told c.options old.store.room → refusal_of t told (command.BlockdevCreate c) ≡ None
+module _ (given : List ℕ) (t : RunTable) (told : Told) (old now : Ground) (u : RunTable) (text : List ℕ) where
+  made-as : (c : BlockdevCreate (List ℕ)) → told ≡ create_told c.options old.store.room → refusal_to t told (command.BlockdevCreate c) ≡ None
       → IsMadeSaying given t told (command.BlockdevCreate c) old now u (command_edits t told (command.BlockdevCreate c)) text
       ⊎ IsSpoiledSaying given t (command.BlockdevCreate c) old now u (spoiled t c.options) text
       → IsAnswerMade given t (command.BlockdevCreate c) old now u text
@@ -151,8 +151,8 @@ module _ (given : List ℕ) (t : Table) (told : Told) (old now : Ground) (u : Ta
   made-as c first none (inr failed) =
       let cmd : Cmd = command.BlockdevCreate c in
       let then : Told = told_failed cmd old.store.room failed.cause in
-      let accepted : refusal_of t (create_told c.options old.store.room) cmd ≡ None = subst (λ (x : Told). refusal_of t x cmd ≡ None) first none in
-      let some : refusal_of t then cmd ≡ Some failed.cause = fails-so t c.job_id c.options old.store.room failed.cause accepted in
+      let accepted : refusal_to t (create_told c.options old.store.room) cmd ≡ None = subst (λ (x : Told). refusal_to t x cmd ≡ None) first none in
+      let some : refusal_to t then cmd ≡ Some failed.cause = fails-so t c.job_id c.options old.store.room failed.cause accepted in
       let is = answer-is t then cmd (Some failed.cause) some in
       record {
         told = then;
@@ -166,7 +166,7 @@ module _ (given : List ℕ) (t : Table) (told : Told) (old now : Ground) (u : Ta
         said = subst (λ (a : Answer). IsSaid given a.reply text) (sym is) failed.said;
       }
 
-  refused-as : (c : BlockdevCreate (List ℕ)) → told ≡ create_told c.options old.store.room → (stop : PrepareStop) → IsStoppedFor (refusal_of t told (command.BlockdevCreate c)) stop
+  refused-as : (c : BlockdevCreate (List ℕ)) → told ≡ create_told c.options old.store.room → (stop : PrepareStop) → IsStoppedFor (refusal_to t told (command.BlockdevCreate c)) stop
       → SaysRefusal given stop text → u ≡ t → now ≡ old → IsAnswerMade given t (command.BlockdevCreate c) old now u text
   refused-as c first NoMemory for_this said table ground = absurd said
   refused-as c first (Refused cause) some said table ground =
@@ -181,8 +181,8 @@ module _ (given : List ℕ) (t : Table) (told : Told) (old now : Ground) (u : Ta
         said = subst (λ (a : Answer). IsSaid given a.reply text) (sym is) said;
       }
 
-module _ {A E : Type 0} (r : Result A E) (text : A → List ℕ) (given : List ℕ) (t : Table) (told : Told) (old now : Ground) (u : Table) where
-  pub made_ok : (c : Cmd) (edits left : List Change) → is_creation c ≡ true → told ≡ told_first c old.store.room → refusal_of t told c ≡ None
+module _ {A E : Type 0} (r : Result A E) (text : A → List ℕ) (given : List ℕ) (t : RunTable) (told : Told) (old now : Ground) (u : RunTable) where
+  pub made_ok : (c : Cmd) (edits left : List Change) → is_creation c ≡ true → told ≡ told_first c old.store.room → refusal_to t told c ≡ None
       → edits ≡ command_edits t told c → left ≡ spoiled_by t c
       → IfOk r (λ a. IsMadeSaying given t told c old now u edits (text a) ⊎ IsSpoiledSaying given t c old now u left (text a))
       → IfOk r (λ a. IsAnswerMade given t c old now u (text a))
@@ -200,7 +200,7 @@ module _ {A E : Type 0} (r : Result A E) (text : A → List ℕ) (given : List �
       by_result (Err e) ended = ended
   made_ok c edits left is first none edits_are left_are ended = absurd (let bad : ⊥ = cc is in bad)
 
-  pub made_stop : (c : Cmd) (stop : PrepareStop) → is_creation c ≡ true → told ≡ told_first c old.store.room → IsStoppedFor (refusal_of t told c) stop
+  pub made_stop : (c : Cmd) (stop : PrepareStop) → is_creation c ≡ true → told ≡ told_first c old.store.room → IsStoppedFor (refusal_to t told c) stop
       → IfOk r (λ a. SaysRefusal given stop (text a)) → u ≡ t → now ≡ old → IfOk r (λ a. IsAnswerMade given t c old now u (text a))
   made_stop (command.BlockdevCreate c) stop is first for_this said table ground = by_result r said
     where

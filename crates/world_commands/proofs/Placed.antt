@@ -10,10 +10,10 @@ use Rattle.blk_history.specs.Fold.{With}
 use Rattle.qmp_codec.specs.Commands.{Cmd}
 use Rattle.qmp_codec.specs.Lines.{Stop}
 use Rattle.qmp_codec.specs.declared.command.Command.TheVariants as command
-use Rattle.qmp_rules.specs.Answers.{Answer, answer, answer_by, command_edits, left_by, refusal_of, untold}
+use Rattle.qmp_rules.specs.Answers.{Answer, answer, answer_by, command_edits, left_by, refusal_to, told_none}
 use Rattle.qmp_rules.specs.Changes.{changed, all_changed}
-use Rattle.qmp_rules.specs.Edits.{uses}
-use Rattle.qmp_rules.specs.Table.{Table, device_at}
+use Rattle.qmp_rules.specs.Edits.{file_uses}
+use Rattle.qmp_rules.specs.Table.{RunTable, device_by_number}
 use Rattle.qmp_rules.specs.declared.change.Change.{Change}
 use Rattle.qmp_rules.specs.declared.change.Change.TheVariants.{UseFile}
 use Rattle.qmp_rules.specs.declared.refusal.Refusal.{Refusal}
@@ -36,7 +36,7 @@ use Rattle.world_parts.specs.Coherent.{HaveDrives, AreOnDisks, AskToWrite, AreOn
 use Rattle.world_commands.specs.Comes.{ShowsState}
 use Rattle.world_commands.specs.Counting.{HidesNoFault, RunsOn}
 use Rattle.world_parts.specs.Deleting.{Ground, ground_of}
-use Rattle.world_parts.specs.Face.{Face, contents_of}
+use Rattle.world_parts.specs.Face.{WorldSeen, contents_of}
 use Rattle.world_commands.specs.Leaving.{Leaves, LeavesBack, clean_told}
 use Rattle.world_parts.specs.Looking.{Site, StoreIsBack}
 use Rattle.world_parts.specs.Staging.{site_of}
@@ -51,7 +51,7 @@ use Rattle.world_commands.proofs.GuestEdges.{asks_eased}
 use Rattle.world_commands.proofs.KeptDrives.{KeepsEntered, drives_kept, disks_kept, within_kept, writable_kept}
 
 -- the world on other ground, with another table
-abbrev pub placed : Face → Ground → Table → Face
+abbrev pub placed : WorldSeen → Ground → RunTable → WorldSeen
 placed w x t = record w {
   files = x.store.files;
   opened = x.store.opened;
@@ -63,34 +63,34 @@ placed w x t = record w {
 
 -- ---- answers
 
-pub answer-is : (t : Table) (told : Told) (c : Cmd) (first : Option Refusal) → refusal_of t told c ≡ first → answer t told c ≡ answer_by t told c first
+pub answer-is : (t : RunTable) (told : Told) (c : Cmd) (first : Option Refusal) → refusal_to t told c ≡ first → answer t told c ≡ answer_by t told c first
 unfolding answer
 answer-is t told c first is = ap (answer_by t told c) is
 
 -- what is accepted leaves a table at rest
-pub rests_by : (w : Face) (u : Table) (c : Cmd) → refusal_of w.table untold c ≡ None → u ≡ all_changed w.table (answer w.table untold c).changes
+pub rests_by : (w : WorldSeen) (u : RunTable) (c : Cmd) → refusal_to w.table told_none c ≡ None → u ≡ all_changed w.table (answer w.table told_none c).changes
     → TableAtRest w.table → TableAtRest u
 rests_by w u c none is was =
-    let changes : u ≡ all_changed w.table (command_edits w.table untold c) =
-    is ∙ ap (λ (a : Answer). all_changed w.table a.changes) (answer-is w.table untold c None none) in
-    subst TableAtRest (sym changes) (command_rests w.table untold untold c was none).1
+    let changes : u ≡ all_changed w.table (command_edits w.table told_none c) =
+    is ∙ ap (λ (a : Answer). all_changed w.table a.changes) (answer-is w.table told_none c None none) in
+    subst TableAtRest (sym changes) (command_rests w.table told_none told_none c was none).1
 
 -- ---- commands that open and make no file
 
 -- it is carried out, and was told nothing
-abbrev pub CarriedUntold : Face → Face → Cmd → Option Refusal → Type 0
-CarriedUntold w v c refusal = (carried : IsCarried w v c refusal) × (carried.told ≡ untold)
+abbrev pub CarriedUntold : WorldSeen → WorldSeen → Cmd → Option Refusal → Type 0
+CarriedUntold w v c refusal = (carried : IsCarried w v c refusal) × (carried.told ≡ told_none)
 
-pub carried_by : (w v : Face) (c : Cmd) → opens_nothing c ≡ true → prints_counts c ≡ false → refusal_of w.table untold c ≡ None
-    → v.table ≡ all_changed w.table (answer w.table untold c).changes → v.progress ≡ w.progress → v.drains ≡ w.drains
+pub carried_by : (w v : WorldSeen) (c : Cmd) → opens_nothing c ≡ true → prints_counts c ≡ false → refusal_to w.table told_none c ≡ None
+    → v.table ≡ all_changed w.table (answer w.table told_none c).changes → v.progress ≡ w.progress → v.drains ≡ w.drains
     → AreCalm w.table w.progress.guests (drained_by w.table c) → opened_names v.opened ≡ opened_names w.opened → RunsOn w v
-    → HidesNoFault w v None → Leaves w.table (clean_told untold) c None v.table (site_of w) (site_of v)
+    → HidesNoFault w v None → Leaves w.table (clean_told told_none) c None v.table (site_of w) (site_of v)
     → (IsCoherent w.table w.nodes w.opened w.progress → IsCoherent v.table v.nodes v.opened v.progress)
-    → ((o : Opening) (s : State) → is_some w.files ≡ true → ShowsState o s w → AllPerformed s (answer w.table untold c).changes (contents_of w) (contents_of v))
+    → ((o : Opening) (s : State) → is_some w.files ≡ true → ShowsState o s w → AllPerformed s (answer w.table told_none c).changes (contents_of w) (contents_of v))
     → CarriedUntold w v c None
 carried_by w v c opens silent none table progress drains calm names runs hides site coherent performed =
     let carried : IsCarried w v c None = record {
-      told = untold;
+      told = told_none;
       counts = λ prints. absurd (false≢true (sym silent ∙ prints));
       by_files = tt;
       maps = maps_nothing w.table w.nodes c [] opens;
@@ -110,12 +110,12 @@ carried_by w v c opens silent none table progress drains calm names runs hides s
     (carried, refl)
 
 -- a refusal that leaves nothing behind
-pub refused_by : (w : Face) (c : Cmd) (cause : Refusal) → opens_nothing c ≡ true → prints_counts c ≡ false → refusal_of w.table untold c ≡ Some cause → left_by w.table c cause ≡ []
+pub refused_by : (w : WorldSeen) (c : Cmd) (cause : Refusal) → opens_nothing c ≡ true → prints_counts c ≡ false → refusal_to w.table told_none c ≡ Some cause → left_by w.table c cause ≡ []
     → CarriedUntold w w c (Some cause)
 refused_by w c cause opens silent some nothing =
-    let changes : (answer w.table untold c).changes ≡ [] = ap (λ (a : Answer). a.changes) (answer-is w.table untold c (Some cause) some) ∙ nothing in
+    let changes : (answer w.table told_none c).changes ≡ [] = ap (λ (a : Answer). a.changes) (answer-is w.table told_none c (Some cause) some) ∙ nothing in
     let carried : IsCarried w w c (Some cause) = record {
-      told = untold;
+      told = told_none;
       counts = λ prints. absurd (false≢true (sym silent ∙ prints));
       by_files = tt;
       maps = maps_nothing w.table w.nodes c [] opens;
@@ -127,7 +127,7 @@ refused_by w c cause opens silent some nothing =
       runs = runs-devices w w refl refl refl refl refl refl (same-devices w.nodes.devices);
       hides = subst (HidesNoFault w w) (sym (quiet_fault (Some cause) (λ other is. table_quiet w.table c other (some ∙ is)))) (hides-same w w refl refl refl);
       opens = plain_opens c opens w.opened w.opened refl;
-      site = quiet-leaves w.table (clean_told untold) c cause w.table (site_of w) opens;
+      site = quiet-leaves w.table (clean_told told_none) c cause w.table (site_of w) opens;
       cause = quiet_cause w w c (Some cause) opens (λ other is. table_quiet w.table c other (some ∙ is));
       coherent = λ was. was;
       shows = λ told o s shows. told_nothing o s w w c opens (λ prints. absurd (false≢true (sym silent ∙ prints))) shows
@@ -136,7 +136,7 @@ refused_by w c cause opens silent some nothing =
     (carried, refl)
 
 -- want of memory
-pub put_back : (w : Face) → IsPutBack w w
+pub put_back : (w : WorldSeen) → IsPutBack w w
 put_back w = record {
   table = refl;
   progress = refl;
@@ -155,26 +155,26 @@ looks-itself : (at : Option Opens) (s : StoreInRun) → StoreIsBack at s s
 looks-itself None s = refl
 looks-itself (Some at) s = inl refl
 
-back-itself : (t : Table) (c : Cmd) (x : Site) → LeavesBack t c x x
+back-itself : (t : RunTable) (c : Cmd) (x : Site) → LeavesBack t c x x
 back-itself t (command.BlockdevAdd c) x = inl (record { store = looks-itself (opens c.driver) x.store; kept = refl })
 back-itself t _ x = refl
 
 -- before the command called anything
-pub put_back_by : (w : Face) (c : Cmd) → IsPutBackBy w w c
+pub put_back_by : (w : WorldSeen) (c : Cmd) → IsPutBackBy w w c
 unfolding put_back
 put_back_by w c = record { back = put_back w; site = back-itself w.table c (site_of w); failed = tt }
 
-pub put_back_in : (w : Face) (line : Result Cmd Stop) → IsPutBackIn w w line
+pub put_back_in : (w : WorldSeen) (line : Result Cmd Stop) → IsPutBackIn w w line
 put_back_in w (Ok c) = put_back_by w c
 put_back_in w (Err why) = refl
 
-pub placed_same : (w : Face) (x : Ground) (u : Table) → x ≡ ground_of w → u ≡ w.table → w ≡ placed w x u
+pub placed_same : (w : WorldSeen) (x : Ground) (u : RunTable) → x ≡ ground_of w → u ≡ w.table → w ≡ placed w x u
 placed_same w x u ground table = ap (λ (y : Ground). placed w y w.table) (sym ground) ∙ ap (placed w x) (sym table)
 
 -- ---- between events and within them
 
 -- what belongs together while nodes go, too
-pub record Goes (w : Face) : Type 0 where
+pub record Goes (w : WorldSeen) : Type 0 where
   pub parts : Parts w.table (ground_of w)
   pub unfolds : Unfolds w.nodes
   pub tell : DevicesTell w.files w.nodes.devices
@@ -190,7 +190,7 @@ pub record Goes (w : Face) : Type 0 where
   pub alone : StandAlone w.table
   pub drivers : AreFileNodes w.table
 
-pub goes_of : (w : Face) → IsWholeWorld w → IsJoined w.nodes → Unfolds w.nodes → Goes w
+pub goes_of : (w : WorldSeen) → IsWholeWorld w → IsJoined w.nodes → Unfolds w.nodes → Goes w
 goes_of w whole joined unfolds =
     let is = whole.coherent in
     record {
@@ -210,7 +210,7 @@ goes_of w whole joined unfolds =
       drivers = is.table.stands.drivers;
     }
 
-pub coherent_of : (w : Face) → Goes w → TableAtRest w.table → IsCoherent w.table w.nodes w.opened w.progress
+pub coherent_of : (w : WorldSeen) → Goes w → TableAtRest w.table → IsCoherent w.table w.nodes w.opened w.progress
 coherent_of w goes rest = record {
   table = rest;
   drives = goes.drives;
@@ -226,20 +226,20 @@ coherent_of w goes rest = record {
 }
 
 -- a guest's device is the same
-pub allowed_same : (t now : Table) (guests : List Guest) → ((g : ℕ) → device_at now g ≡ device_at t g) → AreAllowed t guests → AreAllowed now guests
+pub allowed_same : (t now : RunTable) (guests : List Guest) → ((g : ℕ) → device_by_number now g ≡ device_by_number t g) → AreAllowed t guests → AreAllowed now guests
 allowed_same t now guests same are g f flies =
     subst (λ (device : Option Device). With device (λ d. IsForbidden f.op d.read_only → ⊥)) (sym (same g)) (are g f flies)
 
 -- ---- a file is used
 
-pub shape_used : (t : Table) (name : List ℕ) → HasShape t (changed t (UseFile name))
+pub shape_used : (t : RunTable) (name : List ℕ) → HasShape t (changed t (UseFile name))
 unfolding changed
 shape_used t name = record { nodes = refl; edges = refl; devices = refl; guests = refl; jobs = refl }
 
-pub shape_same : (t : Table) → HasShape t t
+pub shape_same : (t : RunTable) → HasShape t t
 shape_same t = record { nodes = refl; edges = refl; devices = refl; guests = refl; jobs = refl }
 
-module _ (t now : Table) (shape : HasShape t now) where
+module _ (t now : RunTable) (shape : HasShape t now) where
   pub entered_shape : KeepsEntered t now
   entered_shape = record {
     devices = λ g. ap (find (λ (device : Device). device.number == g)) shape.devices;
@@ -249,14 +249,14 @@ module _ (t now : Table) (shape : HasShape t now) where
   }
 
   -- nodes read and files hold the same
-  pub quiet_shape : (w : Face) → w.table ≡ t → IsQuiet (contents_of w) (contents_of (record w { table = now }))
+  pub quiet_shape : (w : WorldSeen) → w.table ≡ t → IsQuiet (contents_of w) (contents_of (record w { table = now }))
   quiet_shape w is = record {
     nodes = λ node but. refl;
     files = λ name but. rw (shape.nodes, is) refl;
   }
 
 -- the table and the state behind these changes
-abbrev pub used : Table → Option (List ℕ) → Table
+abbrev pub used : RunTable → Option (List ℕ) → RunTable
 used t None = t
 used t (Some file) = changed t (UseFile file)
 
@@ -264,25 +264,25 @@ abbrev pub state_used : State → Option (List ℕ) → State
 state_used s None = s
 state_used s (Some file) = stepped s (UseFile file)
 
-pub shape_by : (t : Table) (file : Option (List ℕ)) → HasShape t (used t file)
+pub shape_by : (t : RunTable) (file : Option (List ℕ)) → HasShape t (used t file)
 shape_by t None = shape_same t
 shape_by t (Some file) = shape_used t file
 
-pub table_used : (s : State) (t : Table) (file : Option (List ℕ)) → s.table ≡ t → (state_used s file).table ≡ used t file
+pub table_used : (s : State) (t : RunTable) (file : Option (List ℕ)) → s.table ≡ t → (state_used s file).table ≡ used t file
 table_used s t None same = same
-table_used s t (Some file) same = ap (λ (u : Table). changed u (UseFile file)) same
+table_used s t (Some file) same = ap (λ (u : RunTable). changed u (UseFile file)) same
 
-pub changed_used : (t : Table) (file : Option (List ℕ)) (changes : List Change) → all_changed t (uses file ++ changes) ≡ all_changed (used t file) changes
+pub changed_used : (t : RunTable) (file : Option (List ℕ)) (changes : List Change) → all_changed t (file_uses file ++ changes) ≡ all_changed (used t file) changes
 changed_used t None changes = refl
 changed_used t (Some file) changes = refl
 
-pub performed_used : (w : Face) (s : State) (file : Option (List ℕ)) (changes : List Change) (now : Contents)
-    → AllPerformed (state_used s file) changes (contents_of (record w { table = used w.table file })) now → AllPerformed s (uses file ++ changes) (contents_of w) now
+pub performed_used : (w : WorldSeen) (s : State) (file : Option (List ℕ)) (changes : List Change) (now : Contents)
+    → AllPerformed (state_used s file) changes (contents_of (record w { table = used w.table file })) now → AllPerformed s (file_uses file ++ changes) (contents_of w) now
 performed_used w s None changes now did = did
 performed_used w s (Some file) changes now did =
     (contents_of (record w { table = changed w.table (UseFile file) }), quiet_shape w.table (changed w.table (UseFile file)) (shape_used w.table file) w refl, did)
 
-pub goes_shape : (w : Face) (now : Table) → HasShape w.table now → IsEased w.table now → Goes w → Goes (record w { table = now })
+pub goes_shape : (w : WorldSeen) (now : RunTable) → HasShape w.table now → IsEased w.table now → Goes w → Goes (record w { table = now })
 goes_shape w now shape e goes =
     let keeps = entered_shape w.table now shape in
     record {

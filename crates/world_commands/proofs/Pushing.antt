@@ -7,7 +7,7 @@ use Rattle.blk_history.specs.Fold.{run}
 use Rattle.blk_history.specs.declared.event.Event.{Event}
 use Rattle.blk_history.proofs.Folds.{run-push, each-push}
 use Rattle.flat_machine.specs.State.{State, Dirty, Guest}
-use Rattle.qmp_rules.specs.Table.{Table, opening_table}
+use Rattle.qmp_rules.specs.Table.{RunTable, opening_table}
 use Rattle.flat_machine.specs.Machine.{after, replay}
 use Rattle.flat_machine.specs.Legal.{Fits}
 use Rattle.flat_machine.specs.Marks.{AreCalm, Drained, marks_of}
@@ -17,20 +17,20 @@ use Rattle.flat_machine.specs.Comes.{IsHistoryOf, guest_step}
 use Rattle.flat_machine.specs.Imaging.{ImagesAreSound}
 use Rattle.flat_machine.specs.declared.opening.Opening.{Opening}
 use Rattle.world_parts.specs.Coherent.{IsCoherent}
-use Rattle.world_parts.specs.Face.{Face, dirty_of, first_counts, counts_now, held}
+use Rattle.world_parts.specs.Face.{WorldSeen, dirty_of, first_counts, counts_now, held}
 use Rattle.world_commands.specs.Comes.{Comes, ShowsState}
 use Rattle.world_commands.specs.Tabling.{IsTableBy, AreTablesBy}
 
 -- the table after one more entry
-tables-push : (guests : List Guest) (t : Table) (ds : List Dirty) (es : List Event) (e : Event) (mid now : Table) (between left : List Dirty) → AreTablesBy guests t ds es mid between
+tables-push : (guests : List Guest) (t : RunTable) (ds : List Dirty) (es : List Event) (e : Event) (mid now : RunTable) (between left : List Dirty) → AreTablesBy guests t ds es mid between
     → IsTableBy (run guest_step guests es) mid between e now left → AreTablesBy guests t ds (es ++ e ∷ []) now left
 tables-push guests t ds [] e mid now between left same by =
-    (now, left, subst (λ (u : Table). IsTableBy guests u ds e now left) same.0 (subst (λ (us : List Dirty). IsTableBy guests mid us e now left) same.1 by), (refl, refl))
+    (now, left, subst (λ (u : RunTable). IsTableBy guests u ds e now left) same.0 (subst (λ (us : List Dirty). IsTableBy guests mid us e now left) same.1 by), (refl, refl))
 tables-push guests t ds (x ∷ es) e mid now between left tables by =
     (tables.0, tables.1, tables.2, tables-push (guest_step guests x) tables.0 tables.1 es e mid now between left tables.3 by)
 
 -- what one more entry has to be
-pub record Pushes (o : Opening) (w v : Face) (e : Event) : Type 0 where
+pub record Pushes (o : Opening) (w v : WorldSeen) (e : Event) : Type 0 where
   pub events : v.progress.log.events ≡ w.progress.log.events ++ e ∷ []
   pub names : v.table.guests ≡ w.table.guests
   pub told : is_some v.files ≡ is_some w.files
@@ -43,7 +43,7 @@ pub record Pushes (o : Opening) (w v : Face) (e : Event) : Type 0 where
   pub sound : is_some v.files ≡ true → ImagesAreSound v.table (held v)
   pub fits : is_some w.files ≡ true → (s : State) → ShowsState o s w → Fits s e × AreCalm s.table s.guests (marks_of s e) × ShowsState o (after s e) v
 
-pub comes-push : (o : Opening) (w v : Face) (e : Event) → Comes o w → Pushes o w v e → Comes o v
+pub comes-push : (o : Opening) (w v : WorldSeen) (e : Event) → Comes o w → Pushes o w v e → Comes o v
 comes-push o w v e comes pushes = record {
   history = record {
     guests_are = pushes.names ∙ comes.history.guests_are;
@@ -84,7 +84,7 @@ licensed-quiet opening now es e none was =
 
 -- ---- drains: nothing that a world shows depends on which stand
 
-shows-drains : (o : Opening) (s : State) (w : Face) (drains : Drained) → ShowsState o s w → ShowsState o s (record w { drains = drains })
+shows-drains : (o : Opening) (s : State) (w : WorldSeen) (drains : Drained) → ShowsState o s w → ShowsState o s (record w { drains = drains })
 shows-drains o s w drains is = record {
   stands = is.stands;
   dirty = is.dirty;
@@ -94,7 +94,7 @@ shows-drains o s w drains is = record {
   images = λ node. record { noted = (is.images node).noted; mapped = (is.images node).mapped };
 }
 
-pub comes-drains : (o : Opening) (w : Face) (drains : Drained) → Comes o w → Comes o (record w { drains = drains })
+pub comes-drains : (o : Opening) (w : WorldSeen) (drains : Drained) → Comes o w → Comes o (record w { drains = drains })
 comes-drains o w drains is = record {
   history = is.history;
   counted = is.counted;

@@ -22,11 +22,11 @@ use Rattle.flat_machine.proofs.Resting.{beside_rests}
 use Rattle.flat_machine.specs.declared.opening.Opening.{Opening}
 use Rattle.world_parts.specs.declared.admission.Admission.{Admission}
 use Rattle.world_parts.specs.declared.admission.Admission.TheVariants.{Admitted, Refused as NotAdmitted, Held, Away}
-use Rattle.world_parts.specs.Progress.{Progress, ended_in, done_by, done_at, flight_at, with_admission, with_refusal, with_retirement, with_entry}
-use Rattle.world_parts.specs.Face.{Face, dirty_of, seen_state}
+use Rattle.world_parts.specs.Progress.{Progress, ended_in, actor_done, requests_done, flight_at, with_admission, with_refusal, with_retirement, with_bare_entry}
+use Rattle.world_parts.specs.Face.{WorldSeen, dirty_of, seen_state}
 use Rattle.world_commands.specs.Comes.{Comes, ShowsState}
 use Rattle.world_commands.specs.Tabling.{IsTableBy}
-use Rattle.world_parts.specs.Steps.{onward, after_admission, IsAnswered, after_wait, after_end, IsActorIdle}
+use Rattle.world_parts.specs.Steps.{with_history, after_admission, IsAnswered, after_wait, after_actor_end, IsActorIdle}
 use Rattle.world_parts.proofs.InStep.{ended-push}
 use Rattle.world_commands.proofs.Coherence.{coherent-admission, coherent-end, coherent-same}
 use Rattle.world_commands.proofs.Judging.{judged-inside, judged-allowed}
@@ -38,7 +38,7 @@ use Rattle.world_commands.proofs.Pushing.{comes-push, licensed-quiet}
 pub stands-onward : (s : State) (guests : List Guest) (ended : List ℕ) → StandsAtRest s → StandsAtRest (record s { guests = guests; ended = ended })
 stands-onward s guests ended is = beside_rests s (record s { guests = guests; ended = ended }) refl refl refl refl (λ node has. has) is
 
-pub shows-onward : (o : Opening) (s : State) (w : Face) (p : Progress) (guests : List Guest) (ended : List ℕ) → ShowsState o s w → guests ≡ p.guests → ended ≡ ended_in p.log.events
+pub shows-onward : (o : Opening) (s : State) (w : WorldSeen) (p : Progress) (guests : List Guest) (ended : List ℕ) → ShowsState o s w → guests ≡ p.guests → ended ≡ ended_in p.log.events
     → ShowsState o (record s { guests = guests; ended = ended }) (record w { progress = p })
 shows-onward o s w p guests ended shows are ends = record {
   stands = stands-onward s guests ended shows.stands;
@@ -56,7 +56,7 @@ shows-onward o s w p guests ended shows are ends = record {
 }
 
 -- an entry that names no fault and marks no disk
-pub quiet : (o : Opening) (w : Face) (p : Progress) (e : Event) → Comes o w → p.log.events ≡ w.progress.log.events ++ e ∷ [] → p.guests ≡ guest_step w.progress.guests e
+pub quiet : (o : Opening) (w : WorldSeen) (p : Progress) (e : Event) → Comes o w → p.log.events ≡ w.progress.log.events ++ e ∷ [] → p.guests ≡ guest_step w.progress.guests e
     → IsTableBy w.progress.guests w.table (dirty_of w) e w.table (dirty_of w)
     → (IsCoherent w.table w.nodes w.opened w.progress → IsCoherent w.table w.nodes w.opened p)
     → named_in e ≡ None → ((s : State) → marks_of s e ≡ []) → ((s : State) → ShowsState o s w → Fits s e × ShowsState o (after s e) (record w { progress = p })) → Comes o (record w { progress = p })
@@ -76,41 +76,41 @@ quiet o w p e comes events guests table coherent names marks fits = comes-push o
 })
 
 -- the guests and the ends that the world shows are the replay's
-judged : (o : Opening) (s : State) (w : Face) (g r : ℕ) (P : Bool → ℕ → Type 0) → ShowsState o s w → IsNextJudged (seen_state w) g r P → IsNextJudged s g r P
+judged : (o : Opening) (s : State) (w : WorldSeen) (g r : ℕ) (P : Bool → ℕ → Type 0) → ShowsState o s w → IsNextJudged (seen_state w) g r P → IsNextJudged s g r P
 judged o s w g r P shows is = rw (shows.guests.ended_are, shows.guests.guests_are, shows.table.table_is) is
 
 -- ---- admissions
 
-admission-kept : (o : Opening) (w : Face) (g : ℕ) (op : Op) → IsNextJudged (seen_state w) g (done_at w.progress.guests g) (CanAdmit op) → Comes o w → Comes o (onward w (with_admission g op))
+admission-kept : (o : Opening) (w : WorldSeen) (g : ℕ) (op : Op) → IsNextJudged (seen_state w) g (requests_done w.progress.guests g) (CanAdmit op) → Comes o w → Comes o (with_history w (with_admission g op))
 admission-kept o w g op is comes =
-    quiet o w (with_admission g op w.progress) (Admit g (done_at w.progress.guests g) op) comes refl refl (refl, refl)
-    (λ was. coherent-admission _ _ _ _ was g op (judged-inside w g (done_at w.progress.guests g) op is) (judged-allowed w g (done_at w.progress.guests g) op is)) refl (λ s. refl)
+    quiet o w (with_admission g op w.progress) (Admit g (requests_done w.progress.guests g) op) comes refl refl (refl, refl)
+    (λ was. coherent-admission _ _ _ _ was g op (judged-inside w g (requests_done w.progress.guests g) op is) (judged-allowed w g (requests_done w.progress.guests g) op is)) refl (λ s. refl)
     (λ s shows. (
-      (shows.table.rest, judged o s w g (done_at w.progress.guests g) (CanAdmit op) shows is),
+      (shows.table.rest, judged o s w g (requests_done w.progress.guests g) (CanAdmit op) shows is),
       shows-onward o s w (with_admission g op w.progress) (change g (admitted op) s.guests) s.ended shows (ap (change g (admitted op)) shows.guests.guests_are)
-          (shows.guests.ended_are ∙ sym (ended-push w.progress.log.events (Admit g (done_at w.progress.guests g) op) refl)),
+          (shows.guests.ended_are ∙ sym (ended-push w.progress.log.events (Admit g (requests_done w.progress.guests g) op) refl)),
     ))
 
-refusal-kept : (o : Opening) (w : Face) (g : ℕ) (op : Op) (why : Refused) → IsNextJudged (seen_state w) g (done_at w.progress.guests g) (λ access size. IsRefusedFor op access size why)
-    → Comes o w → Comes o (onward w (with_refusal g op why))
+refusal-kept : (o : Opening) (w : WorldSeen) (g : ℕ) (op : Op) (why : Refused) → IsNextJudged (seen_state w) g (requests_done w.progress.guests g) (λ access size. IsRefusedFor op access size why)
+    → Comes o w → Comes o (with_history w (with_refusal g op why))
 refusal-kept o w g op why is comes =
-    quiet o w (with_refusal g op why w.progress) (Refuse g (done_at w.progress.guests g) op why) comes refl refl (refl, refl)
+    quiet o w (with_refusal g op why w.progress) (Refuse g (requests_done w.progress.guests g) op why) comes refl refl (refl, refl)
     (λ was. coherent-end _ _ _ _ was (with_refusal g op why w.progress) g refl) refl (λ s. refl)
     (λ s shows. (
-      (shows.table.rest, judged o s w g (done_at w.progress.guests g) (λ access size. IsRefusedFor op access size why) shows is),
+      (shows.table.rest, judged o s w g (requests_done w.progress.guests g) (λ access size. IsRefusedFor op access size why) shows is),
       shows-onward o s w (with_refusal g op why w.progress) (change g finished s.guests) s.ended shows (ap (change g finished) shows.guests.guests_are)
-          (shows.guests.ended_are ∙ sym (ended-push w.progress.log.events (Refuse g (done_at w.progress.guests g) op why) refl)),
+          (shows.guests.ended_are ∙ sym (ended-push w.progress.log.events (Refuse g (requests_done w.progress.guests g) op why) refl)),
     ))
 
 -- the number that was judged is the next one
-number-is : (w : Face) (g r : ℕ) (P : Bool → ℕ → Type 0) → IsNextJudged (seen_state w) g r P → r ≡ done_at w.progress.guests g
+number-is : (w : WorldSeen) (g r : ℕ) (P : Bool → ℕ → Type 0) → IsNextJudged (seen_state w) g r P → r ≡ requests_done w.progress.guests g
 number-is w g r P is = at (slice_get w.progress.guests g) is.1
   where
     at : (row : Option Guest) → With row (λ x. IsNext x r) → r ≡ unwrap_or (option_map (λ (x : Guest). x.done) row) 0
     at None none = absurd none
     at (Some row) next = next.number
 
-pub admission-comes : (w : Face) (g : ℕ) (op : Op) (answer : Admission) → IsAnswered w g op answer → (o : Opening) → Comes o w → Comes o (after_admission w g op answer)
+pub admission-comes : (w : WorldSeen) (g : ℕ) (op : Op) (answer : Admission) → IsAnswered w g op answer → (o : Opening) → Comes o w → Comes o (after_admission w g op answer)
 admission-comes w g op (Admitted r) is o comes =
     let number = number-is w g r (CanAdmit op) is.0 in
     admission-kept o w g op (subst (λ n. IsNextJudged (seen_state w) g n (CanAdmit op)) number is.0) comes
@@ -122,21 +122,21 @@ admission-comes w g op (Away back) is o comes = comes
 
 -- the request in flight, by the guest's row
 pub in-flight : (guests : List Guest) (g : ℕ) (P : Flight → Type 0) → With (flight_at guests g) P
-    → With (slice_get guests g) (λ row. (done_at guests g ≡ row.done) × With row.flight P)
+    → With (slice_get guests g) (λ row. (requests_done guests g ≡ row.done) × With row.flight P)
 in-flight guests g P is = at (slice_get guests g) refl is
   where
-    at : (row : Option Guest) → slice_get guests g ≡ row → With (option_and_then (λ (x : Guest). x.flight) row) P → With row (λ x. (done_at guests g ≡ x.done) × With x.flight P)
+    at : (row : Option Guest) → slice_get guests g ≡ row → With (option_and_then (λ (x : Guest). x.flight) row) P → With row (λ x. (requests_done guests g ≡ x.done) × With x.flight P)
     at None e none = none
     at (Some row) e flies = (rw e refl, flies)
 
-pub retirement-comes : (w : Face) (g : ℕ) → With (flight_at w.progress.guests g) IsOver → (o : Opening) → Comes o w → Comes o (onward w (with_retirement g))
+pub retirement-comes : (w : WorldSeen) (g : ℕ) → With (flight_at w.progress.guests g) IsOver → (o : Opening) → Comes o w → Comes o (with_history w (with_retirement g))
 retirement-comes w g is o comes =
-    quiet o w (with_retirement g w.progress) (Retire g (done_at w.progress.guests g)) comes refl refl (refl, refl)
+    quiet o w (with_retirement g w.progress) (Retire g (requests_done w.progress.guests g)) comes refl refl (refl, refl)
     (λ was. coherent-end _ _ _ _ was (with_retirement g w.progress) g refl) refl (λ s. refl)
     (λ s shows. (
       (shows.table.rest, rw shows.guests.guests_are (in-flight w.progress.guests g IsOver is)),
       shows-onward o s w (with_retirement g w.progress) (change g finished s.guests) s.ended shows (ap (change g finished) shows.guests.guests_are)
-          (shows.guests.ended_are ∙ sym (ended-push w.progress.log.events (Retire g (done_at w.progress.guests g)) refl)),
+          (shows.guests.ended_are ∙ sym (ended-push w.progress.log.events (Retire g (requests_done w.progress.guests g)) refl)),
     ))
 
 -- ---- waits
@@ -145,38 +145,38 @@ pub none-is : {A : Type 0} (x : Option A) → is_none x ≡ true → is_some x �
 none-is None is = refl
 none-is (Some a) is = absurd (let bad : ⊥ = cc is in bad)
 
-met : (o : Opening) (s : State) (w : Face) (what : Await (List ℕ)) → ShowsState o s w → IsMet (seen_state w) what → IsMet s what
+met : (o : Opening) (s : State) (w : WorldSeen) (what : Await (List ℕ)) → ShowsState o s w → IsMet (seen_state w) what → IsMet s what
 met o s w (await.Guest g requests) shows is = rw shows.guests.guests_are is
 met o s w (await.Ready id) shows is = rw shows.table.table_is is
 met o s w (await.Ended id) shows is = rw shows.table.table_is is
 
-pub undone : (o : Opening) (s : State) (w : Face) (actor : ℕ) → ShowsState o s w → IsNotDone (seen_state w) actor → IsNotDone s actor
+pub undone : (o : Opening) (s : State) (w : WorldSeen) (actor : ℕ) → ShowsState o s w → IsNotDone (seen_state w) actor → IsNotDone s actor
 undone o s w actor shows is = rw shows.guests.ended_are is
 
-pub wait-comes : (w : Face) (line : ℕ) (what : Await (List ℕ)) (is_over : Bool) → IsNotDone (seen_state w) 0 → (is_over ≡ true → IsMet (seen_state w) what)
+pub wait-comes : (w : WorldSeen) (line : ℕ) (what : Await (List ℕ)) (is_over : Bool) → IsNotDone (seen_state w) 0 → (is_over ≡ true → IsMet (seen_state w) what)
     → (o : Opening) → Comes o w → Comes o (after_wait w line what is_over)
 wait-comes w line what true not_done is o comes =
-    quiet o w (with_entry (Reached line what) w.progress) (Reached line what) comes refl refl (refl, refl)
-    (λ was. coherent-same _ _ _ _ was (with_entry (Reached line what) w.progress) refl) refl (λ s. refl)
+    quiet o w (with_bare_entry (Reached line what) w.progress) (Reached line what) comes refl refl (refl, refl)
+    (λ was. coherent-same _ _ _ _ was (with_bare_entry (Reached line what) w.progress) refl) refl (λ s. refl)
     (λ s shows. (
       (shows.table.rest, (undone o s w 0 shows not_done, met o s w what shows (is refl))),
-      shows-onward o s w (with_entry (Reached line what) w.progress) s.guests s.ended shows shows.guests.guests_are
+      shows-onward o s w (with_bare_entry (Reached line what) w.progress) s.guests s.ended shows shows.guests.guests_are
           (shows.guests.ended_are ∙ sym (ended-push w.progress.log.events (Reached line what) refl)),
     ))
 wait-comes w line what false not_done is o comes = comes
 
 -- ---- ends of actors
 
-end-fits : (o : Opening) (s : State) (w : Face) (actor : ℕ) → ShowsState o s w → IsNotDone (seen_state w) actor → IsActorIdle w.progress.guests actor → Fits s (Done actor)
+end-fits : (o : Opening) (s : State) (w : WorldSeen) (actor : ℕ) → ShowsState o s w → IsNotDone (seen_state w) actor → IsActorIdle w.progress.guests actor → Fits s (Done actor)
 end-fits o s w zero shows not_done idle = (shows.table.rest, undone o s w 0 shows not_done)
 end-fits o s w (suc g) shows not_done idle = (shows.table.rest, (rw (add-one g) (undone o s w (suc g) shows not_done), rw shows.guests.guests_are idle))
 
-pub end-comes : (w : Face) (actor : ℕ) → IsNotDone (seen_state w) actor → IsActorIdle w.progress.guests actor → (o : Opening) → Comes o w → Comes o (after_end w actor)
+pub end-comes : (w : WorldSeen) (actor : ℕ) → IsNotDone (seen_state w) actor → IsActorIdle w.progress.guests actor → (o : Opening) → Comes o w → Comes o (after_actor_end w actor)
 end-comes w actor not_done idle o comes =
-    quiet o w (with_entry (Done actor) w.progress) (Done actor) comes refl refl (refl, refl)
-    (λ was. coherent-same _ _ _ _ was (with_entry (Done actor) w.progress) refl) refl (λ s. refl)
+    quiet o w (with_bare_entry (Done actor) w.progress) (Done actor) comes refl refl (refl, refl)
+    (λ was. coherent-same _ _ _ _ was (with_bare_entry (Done actor) w.progress) refl) refl (λ s. refl)
     (λ s shows. (
       end-fits o s w actor shows not_done idle,
-      shows-onward o s w (with_entry (Done actor) w.progress) s.guests (s.ended ++ actor ∷ []) shows shows.guests.guests_are
-          (rw shows.guests.ended_are (sym (filter_map-append done_by w.progress.log.events (Done actor ∷ [])))),
+      shows-onward o s w (with_bare_entry (Done actor) w.progress) s.guests (s.ended ++ actor ∷ []) shows shows.guests.guests_are
+          (rw shows.guests.ended_are (sym (filter_map-append actor_done w.progress.log.events (Done actor ∷ [])))),
     ))

@@ -9,16 +9,16 @@ use Rattle.blk_base.specs.declared.fault.FaultFrom.TheVariants.{Dev}
 use Rattle.blk_base.specs.declared.file.File.{File}
 use Rattle.blk_base.specs.declared.file.Opened.{Opened}
 use Rattle.blk_history.specs.Fold.{With}
-use Rattle.blk_nodes.specs.Nodes.{DeviceState}
-use Rattle.qmp_rules.specs.Table.{Table}
+use Rattle.blk_nodes.specs.Nodes.{DeviceSeen}
+use Rattle.qmp_rules.specs.Table.{RunTable}
 use Rattle.flat_machine.specs.Licence.{fault_at}
 use Rattle.flat_machine.specs.State.{filename_of}
 use Rattle.world_parts.specs.Steps.{StoreSeen, seen_store}
 use Rattle.world_commands.specs.Counting.{HaveNotFallen}
-use Rattle.world_parts.specs.Face.{Face, counts_now, told_bytes}
+use Rattle.world_parts.specs.Face.{WorldSeen, counts_now, told_bytes}
 
 -- Why a flush of a device ended so: its count stands, or it is named with its count, which rose.
-abbrev pub HasFlushFault : DeviceState → ℕ → Option FaultAt → Type 0
+abbrev pub HasFlushFault : DeviceSeen → ℕ → Option FaultAt → Type 0
 HasFlushFault device count fault = MatchOption fault (count ≡ device.faults)
     (λ named. (named ≡ fault_at (Dev device.number) count) × Rose device.faults count)
 
@@ -28,11 +28,11 @@ flushed_by None flushed = option_map (λ f. true) flushed
 flushed_by (Some fault) flushed = flushed
 
 -- the file of a node is out
-abbrev pub IsOutFor : Table → ℕ → List Opened → Type 0
+abbrev pub IsOutFor : RunTable → ℕ → List Opened → Type 0
 IsOutFor t node opened = With (filename_of t node) (λ name. is_out name opened ≡ true)
 
 -- A device is given back under the name of its node's file, once it was flushed. One that tells its bytes tells whether it is.
-pub record IsBack (t : Table) (device : DeviceState) (old new : StoreSeen)
+pub record IsBack (t : RunTable) (device : DeviceSeen) (old new : StoreSeen)
     (fault : Option FaultAt) : Type 0 where
   pub name : List ℕ
   pub count : ℕ
@@ -46,19 +46,19 @@ pub record IsBack (t : Table) (device : DeviceState) (old new : StoreSeen)
     opened = given_back name count old.opened;
   }
 
-abbrev pub first_of : Option FaultAt → Option FaultAt → Option FaultAt
-first_of None later = later
-first_of (Some fault) later = Some fault
+abbrev pub earlier_fault : Option FaultAt → Option FaultAt → Option FaultAt
+earlier_fault None later = later
+earlier_fault (Some fault) later = Some fault
 
 -- all of them, one after another; the first fault is told
-abbrev pub AreBack : Table → List DeviceState → StoreSeen → StoreSeen → Option FaultAt → Type 0
+abbrev pub AreBack : RunTable → List DeviceSeen → StoreSeen → StoreSeen → Option FaultAt → Type 0
 AreBack t [] old new fault = (new ≡ old) × (fault ≡ None)
 AreBack t (device ∷ devices) old new fault = (between : StoreSeen) × (first later : Option FaultAt)
     × IsBack t device old between first × AreBack t devices between new later
-    × (fault ≡ first_of first later)
+    × (fault ≡ earlier_fault first later)
 
 -- what the run sees of the world's store
-abbrev pub store_in : Face → StoreSeen
+abbrev pub store_in : WorldSeen → StoreSeen
 store_in w = seen_store w.files w.opened w.room w.faults
 
 -- how many faults a device had when it was given back
@@ -66,14 +66,15 @@ abbrev pub count_back : Opened → ℕ
 count_back o = unwrap_or o.returned 0
 
 -- the fault that is told is that of a device, which had so many then
-pub record IsToldBack (w : Face) (opened : List Opened) (fault : FaultAt) : Type 0 where
+pub record IsToldBack (w : WorldSeen) (opened : List Opened) (fault : FaultAt) : Type 0 where
   pub number : DevNo
   pub from : fault.from ≡ Dev number
   pub count : With (slice_get opened number.0) (λ o. o.returned ≡ Some fault.count)
   pub rose : With (slice_get (counts_now w).devices number.0) (λ before. Rose before fault.count)
 
 -- the run's openings once each device is back: all else stands as it was opened, and no count has fallen
-pub record HasGivenBack (w : Face) (opened : List Opened) (fault : Option FaultAt) : Type 0 where
+pub record HasGivenBack (w : WorldSeen) (opened : List Opened)
+    (fault : Option FaultAt) : Type 0 where
   pub names : map (λ o. o.name) opened ≡ map (λ o. o.name) w.opened
   pub sizes : map (λ o. o.size) opened ≡ map (λ o. o.size) w.opened
   pub capacities : map (λ o. o.capacity) opened ≡ map (λ o. o.capacity) w.opened
@@ -83,7 +84,7 @@ pub record HasGivenBack (w : Face) (opened : List Opened) (fault : Option FaultA
 
 -- The end of a world: all its devices are back, in their order, and that left the store so, whose openings before the run are
 -- as they were.
-pub record IsClosed (w : Face) (store : StoreSeen) (fault : Option FaultAt) : Type 0 where
+pub record EndsWorld (w : WorldSeen) (store : StoreSeen) (fault : Option FaultAt) : Type 0 where
   pub opened : List Opened
   pub behind : store.opened ≡ w.earlier ++ opened
   pub back : AreBack w.table w.nodes.devices (store_in w) (record store { opened = opened }) fault
@@ -94,21 +95,21 @@ abbrev pub IsFlushedIn : List File → List ℕ → Type 0
 IsFlushedIn files name = With (file_at name files) (λ file. file.is_flushed ≡ true)
 
 -- the file of each device is
-abbrev pub AreFlushed : Face → Option (List File) → Type 0
-AreFlushed w files = (device : DeviceState) (name : List ℕ) → Contains w.nodes.devices device
+abbrev pub AreFlushed : WorldSeen → Option (List File) → Type 0
+AreFlushed w files = (device : DeviceSeen) (name : List ℕ) → Contains w.nodes.devices device
     → filename_of w.table device.node ≡ Some name → With files (λ told. IsFlushedIn told name)
 
 -- and that of each `file` node
-abbrev pub AreNodesFlushed : Table → Option (List File) → Type 0
+abbrev pub AreNodesFlushed : RunTable → Option (List File) → Type 0
 AreNodesFlushed t files = (node : ℕ) (name : List ℕ) → filename_of t node ≡ Some name
     → With files (λ told. IsFlushedIn told name)
 
 -- what a file holds while these devices are still to be given back: what the device of that file does, or what the store does
-abbrev pub is_file_of : Table → List ℕ → DeviceState → Bool
+abbrev pub is_file_of : RunTable → List ℕ → DeviceSeen → Bool
 is_file_of t name device =
     unwrap_or (option_map (λ filename. bytes_eq filename name) (filename_of t device.node)) false
 
-abbrev pub held_left : Table → Option (List File) → List DeviceState → List ℕ → Option (List ℕ)
+abbrev pub held_left : RunTable → Option (List File) → List DeviceSeen → List ℕ → Option (List ℕ)
 held_left t files [] name = told_bytes files name
 held_left t files (device ∷ devices) name =
     if is_file_of t name device then device.content else held_left t files devices name

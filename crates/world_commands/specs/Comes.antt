@@ -12,29 +12,29 @@ use Rattle.flat_machine.specs.Standing.{StandsAtRest}
 use Rattle.flat_machine.specs.declared.opening.Opening.{Opening}
 use Rattle.world_parts.specs.Progress.{ended_in}
 use Rattle.world_parts.specs.Coherent.{IsCoherent}
-use Rattle.world_parts.specs.Face.{Face, contents_of, dirty_of, first_counts, counts_now, held}
+use Rattle.world_parts.specs.Face.{WorldSeen, contents_of, dirty_of, first_counts, counts_now, held}
 use Rattle.world_commands.specs.Tabling.{IsTableAfter}
 
 -- ---- facts about one moment, each over the parts that it names
 
 -- the table is the replay's, and no event is half made
-pub record ShowsTable (s : State) (w : Face) : Type 0 where
+pub record ShowsTable (s : State) (w : WorldSeen) : Type 0 where
   pub room_is : s.room ≡ w.room
   pub table_is : s.table ≡ w.table
   pub rest : IsAtRest s
 
 -- so are the guests' rows and the actors that are done
-pub record ShowsGuests (s : State) (w : Face) : Type 0 where
+pub record ShowsGuests (s : State) (w : WorldSeen) : Type 0 where
   pub guests_are : s.guests ≡ w.progress.guests
   pub ended_are : s.ended ≡ ended_in w.progress.log.events
 
 -- Nodes with a flat disk read as it, left disks are what their drivers read, of sound images, and files that no command named
 -- for writing are as they were.
-abbrev pub ShowsContents : Opening → State → Face → Type 0
+abbrev pub ShowsContents : Opening → State → WorldSeen → Type 0
 ShowsContents o s w = Agrees (bytes_named o.files) s (contents_of w)
 
 -- What is said of images is so of the files that they are in, and what is dirty is what the world keeps as dirty.
-pub record ShowsState (o : Opening) (s : State) (w : Face) : Type 0 where
+pub record ShowsState (o : Opening) (s : State) (w : WorldSeen) : Type 0 where
   pub stands : StandsAtRest s
   pub dirty : s.dirty ≡ dirty_of w
   pub table : ShowsTable s w
@@ -48,7 +48,7 @@ pub record ShowsState (o : Opening) (s : State) (w : Face) : Type 0 where
 -- parts of the world belong together, the store's count hasn't fallen, and each fault that the history names is a rise that it names once. Where the store tells
 -- its files, the history is one of that opening, what the world shows at this moment is what the flat machine comes to by it,
 -- and the image in the file of each qcow2 node is sound.
-pub record Comes (o : Opening) (w : Face) : Type 0 where
+pub record Comes (o : Opening) (w : WorldSeen) : Type 0 where
   pub history : ComesOf o (is_some w.files) w.table.guests
       (first_counts w) (counts_now w) w.progress.log.events
   pub counted : w.first_faults ≤ w.faults

@@ -5,10 +5,10 @@ use Rattle.blk_base.specs.declared.fault.FaultFrom.{FaultFrom}
 use Rattle.blk_base.specs.declared.fault.FaultFrom.TheVariants.{Store, Dev, Sink}
 use Rattle.blk_base.specs.declared.file.Opened.{Opened}
 use Rattle.blk_history.specs.Fold.{With}
-use Rattle.blk_nodes.specs.Nodes.{DeviceState, device_in}
+use Rattle.blk_nodes.specs.Nodes.{DeviceSeen, device_in}
 use Rattle.flat_machine.specs.EventLicence.{Sources}
 use Rattle.flat_machine.specs.Licence.{Counts, IsBetween}
-use Rattle.world_parts.specs.Face.{Face, first_counts, counts_now}
+use Rattle.world_parts.specs.Face.{WorldSeen, first_counts, counts_now}
 
 -- ---- counts only rise
 
@@ -26,7 +26,7 @@ HaveNotFallen before after = (n count : ℕ) → slice_get before n ≡ Some cou
     → With (slice_get after n) (λ now. count ≤ now)
 
 -- The store tells as much as before, all openings go on, those before the run stay, and no count falls.
-pub record RunsOn (w v : Face) : Type 0 where
+pub record RunsOn (w v : WorldSeen) : Type 0 where
   pub told : is_some v.files ≡ is_some w.files
   pub room : v.room ≡ w.room
   pub first : v.first_faults ≡ w.first_faults
@@ -44,20 +44,20 @@ IsNumbered (Dev dev) = dev.0 < 2 ^ 32
 IsNumbered from = Unit {0}
 
 -- the counts that an event began with; of a device that it opened, the one at its opening
-abbrev pub counts_within : Face → Face → Counts
+abbrev pub counts_within : WorldSeen → WorldSeen → Counts
 counts_within w v = record {
   store = w.faults;
   devices = (counts_now w).devices ++ drop (length w.opened) (first_counts v).devices;
 }
 
 -- A fault was reached in an event: it is a rise since the opening, and one above the count that the event began with.
-pub record IsFaultReached (w v : Face) (fault : FaultAt) : Type 0 where
+pub record IsFaultReached (w v : WorldSeen) (fault : FaultAt) : Type 0 where
   pub rise : IsBetween (first_counts v) (counts_now v) fault
   pub new : IsBetween (counts_within w v) (counts_now v) fault
   pub fits : fault.count ≤ 18446744073709551615
 
 -- the fault that an event names was reached in it, where it names one
-abbrev pub IsReachedBy : Face → Face → Option FaultAt → Type 0
+abbrev pub IsReachedBy : WorldSeen → WorldSeen → Option FaultAt → Type 0
 IsReachedBy w v None = Unit {0}
 IsReachedBy w v (Some fault) = IsFaultReached w v fault
 
@@ -75,7 +75,7 @@ counts_with counts None = counts
 counts_with counts (Some fault) = with_count counts fault.from fault.count
 
 -- An event ends with the counts that it began with, but for that of the fault that it names, which is as it says.
-abbrev pub HidesNoFault : Face → Face → Option FaultAt → Type 0
+abbrev pub HidesNoFault : WorldSeen → WorldSeen → Option FaultAt → Type 0
 HidesNoFault w v named = counts_now v ≡ counts_with (counts_within w v) named
 
 -- one more file was opened, and it is back
@@ -91,13 +91,13 @@ LeavesNoneOut old new = (new ≡ old) ⊎ HasOneBack old new
 -- ---- devices whose counts have not fallen
 
 -- it is the same node's device, of the same opening
-pub record IsSameDevice (old new : DeviceState) : Type 0 where
+pub record IsSameDevice (old new : DeviceSeen) : Type 0 where
   pub node : new.node ≡ old.node
   pub number : new.number ≡ old.number
   pub capacity : new.capacity ≡ old.capacity
   pub faults : old.faults ≤ new.faults
 
-abbrev pub AreSameDevices : List DeviceState → List DeviceState → Type 0
+abbrev pub AreSameDevices : List DeviceSeen → List DeviceSeen → Type 0
 AreSameDevices [] [] = Unit {0}
 AreSameDevices (a ∷ old) (b ∷ new) = IsSameDevice a b × AreSameDevices old new
 AreSameDevices _ _ = ⊥
@@ -105,8 +105,8 @@ AreSameDevices _ _ = ⊥
 -- ---- whose devices they are
 
 -- No job has met a fault yet.
-abbrev pub sources_of : Face → Sources
-sources_of w = record {
+abbrev pub seen_sources : WorldSeen → Sources
+seen_sources w = record {
   device_of = λ node. option_map (λ device. device.number.0) (device_in w.nodes.devices node);
   met_by = λ job. None;
 }

@@ -2,8 +2,8 @@
 use Rattle.std.specs.Prelude.{◌≡◌, ℕ, Bool, true, false, List, Some, None, string_bytes}
 use Rattle.qmp_codec.specs.Commands.{Cmd}
 use Rattle.qmp_codec.specs.declared.command.Command.TheVariants as command
-use Rattle.qmp_rules.specs.Answers.{refusal_of, untold}
-use Rattle.qmp_rules.specs.Table.{Table, device_named}
+use Rattle.qmp_rules.specs.Answers.{refusal_to, told_none}
+use Rattle.qmp_rules.specs.Table.{RunTable, device_named}
 use Rattle.qmp_rules.specs.declared.rows.Device.{Device}
 use Rattle.flat_machine.specs.Marks.{AreCalm, Drained, MustWait, after_later, drained_by}
 use Rattle.flat_machine.specs.State.{State}
@@ -19,13 +19,13 @@ is_detachment (command.DeviceDel id) = true
 is_detachment c = false
 
 -- its guest is on no node any more
-pub record IsDetached (t : Table) (id : List ℕ) (nodes now : Nodes) : Type 0 where
+pub record IsDetached (t : RunTable) (id : List ℕ) (nodes now : Nodes) : Type 0 where
   pub device : Device
   pub named : device_named t id ≡ Some device
   pub gone : now ≡ without_guest device.number nodes
   pub disks : (other : ℕ) → disk_of now other ≡ disk_of nodes other
 
-abbrev pub IsDetachedBy : Table → Cmd → Nodes → Nodes → Type 0
+abbrev pub IsDetachedBy : RunTable → Cmd → Nodes → Nodes → Type 0
 IsDetachedBy t (command.DeviceDel id) nodes now = IsDetached t id nodes now
 IsDetachedBy t c nodes now = ⊥
 
@@ -33,11 +33,11 @@ IsDetachedBy t c nodes now = ⊥
 
 -- a table, the nodes and the disks that are held
 pub record Scene : Type 0 where
-  pub table : Table
+  pub table : RunTable
   pub nodes : Nodes
   pub drains : Drained
 
-abbrev pub scene : Table → Nodes → Drained → Scene
+abbrev pub scene : RunTable → Nodes → Drained → Scene
 scene table nodes drains = record { table = table; nodes = nodes; drains = drains }
 
 -- The device goes, or the command is refused. Where it goes no request was in flight on its guest's disk.
@@ -45,12 +45,13 @@ pub record HasDetached (s : State) (given : List ℕ) (c : Cmd) (x y : Scene) (t
   where
     pub handled : IsHandled given x.table c y.table (IsDetachedBy x.table c x.nodes y.nodes)
         (y.nodes ≡ x.nodes) text
-    pub calm : refusal_of x.table untold c ≡ None → AreCalm s.table s.guests (drained_by x.table c)
+    pub calm : refusal_to x.table told_none c ≡ None
+        → AreCalm s.table s.guests (drained_by x.table c)
     pub drains : y.drains ≡ x.drains
 
 -- nothing refuses it, and this request is in the way: its disks are held, and nothing else changes
 pub record HasToWaitFor (s : State) (c : Cmd) (x y : Scene) (g r : ℕ) : Type 0 where
-  pub accepted : refusal_of x.table untold c ≡ None
+  pub accepted : refusal_to x.table told_none c ≡ None
   pub waits : MustWait s (drained_by x.table c) g r
   pub left : y ≡ record x { drains = after_later (drained_by x.table c) x.drains }
 

@@ -4,11 +4,11 @@ use Rattle.qmp_codec.specs.Commands.{Cmd}
 use Rattle.qmp_codec.specs.declared.command.Command.TheVariants as command
 use Rattle.qmp_codec.specs.declared.nodes.Created.{Created}
 use Rattle.qmp_codec.specs.declared.nodes.Created.TheVariants as created
-use Rattle.qmp_rules.specs.Answers.{answer, left_by, refusal_of, returned, untold}
+use Rattle.qmp_rules.specs.Answers.{answer, left_by, refusal_to, returned, told_none}
 use Rattle.qmp_rules.specs.Changes.{all_changed}
 use Rattle.qmp_rules.specs.Edits.{spoiled}
 use Rattle.qmp_rules.specs.Looks.{create_told}
-use Rattle.qmp_rules.specs.Table.{Table}
+use Rattle.qmp_rules.specs.Table.{RunTable}
 use Rattle.qmp_rules.specs.declared.change.Change.{Change}
 use Rattle.qmp_rules.specs.declared.refusal.Refusal.{Refusal}
 use Rattle.qmp_rules.specs.declared.refusal.Refusal.TheVariants as refusal
@@ -30,7 +30,7 @@ is_creation c = false
 -- before any call: what the store's room says
 abbrev pub told_first : Cmd → ℕ → Told
 told_first (command.BlockdevCreate c) room = create_told c.options room
-told_first c room = untold
+told_first c room = told_none
 
 abbrev pub look_of : Created (List ℕ) → Look
 look_of (created.File c) = look.File
@@ -43,23 +43,23 @@ told_failed (command.BlockdevCreate c) room cause =
       stopped = Some
           (record { look = look_of c.options; refusal = cause });
     }
-told_failed c room cause = untold
+told_failed c room cause = told_none
 
 -- ---- what was done
 
-abbrev pub CanCreateBy : Table → Cmd → Ground → Type 0
+abbrev pub CanCreateBy : RunTable → Cmd → Ground → Type 0
 CanCreateBy t (command.BlockdevCreate c) x = CanCreate t c.options x
 CanCreateBy t c x = ⊥
 
-abbrev pub CreatesBy : Table → Cmd → Ground → Ground → Type 0
+abbrev pub CreatesBy : RunTable → Cmd → Ground → Ground → Type 0
 CreatesBy t (command.BlockdevCreate c) old now = HasCreated t c.options old now
 CreatesBy t c old now = ⊥
 
-abbrev pub FailsBy : Table → Cmd → Ground → Ground → Refusal → Type 0
+abbrev pub FailsBy : RunTable → Cmd → Ground → Ground → Refusal → Type 0
 FailsBy t (command.BlockdevCreate c) old now cause = IsFailed t c.options old now cause
 FailsBy t c old now cause = ⊥
 
-abbrev pub spoiled_by : Table → Cmd → List Change
+abbrev pub spoiled_by : RunTable → Cmd → List Change
 spoiled_by t (command.BlockdevCreate c) = spoiled t c.options
 spoiled_by t c = left_by t c (refusal.NoSpace (record { 0 = 0 }))
 
@@ -70,18 +70,20 @@ FitsWords (refusal.NoSpace dev) = IsNumbered (Dev dev)
 FitsWords cause = ⊥
 
 -- a call failed
-pub record HasEndedSo (t : Table) (c : Cmd) (old now : Ground) (cause : Refusal) : Type 0 where
+pub record HasEndedSo (t : RunTable) (c : Cmd) (old now : Ground) (cause : Refusal) : Type 0 where
   pub failed : FailsBy t c old now cause
   pub fits : FitsWords cause
 
 -- it was made, or a call failed and this is the text of that
-pub record IsMadeNow (t : Table) (c : Cmd) (old now : Ground) (u : Table) (edits : List Change)
+pub record IsMadeNow (t : RunTable) (c : Cmd) (old now : Ground) (u : RunTable)
+    (edits : List Change)
     (accepted text : List ℕ) : Type 0 where
   pub made : CreatesBy t c old now
   pub table : u ≡ all_changed t edits
   pub said : text ≡ accepted
 
-pub record IsSpoiledNow (t : Table) (c : Cmd) (old now : Ground) (u : Table) (edits : List Change)
+pub record IsSpoiledNow (t : RunTable) (c : Cmd) (old now : Ground) (u : RunTable)
+    (edits : List Change)
     (back text : List ℕ) : Type 0 where
   pub cause : Refusal
   pub ended : HasEndedSo t c old now cause
@@ -89,13 +91,14 @@ pub record IsSpoiledNow (t : Table) (c : Cmd) (old now : Ground) (u : Table) (ed
   pub said : (given : List ℕ) → EndsRefusals given back → IsSaid given (Err cause) text
 
 -- with the text that answers a line
-pub record IsMadeSaying (given : List ℕ) (t : Table) (told : Told) (c : Cmd) (old now : Ground)
-    (u : Table) (edits : List Change) (text : List ℕ) : Type 0 where
+pub record IsMadeSaying (given : List ℕ) (t : RunTable) (told : Told) (c : Cmd) (old now : Ground)
+    (u : RunTable) (edits : List Change) (text : List ℕ) : Type 0 where
   pub made : CreatesBy t c old now
   pub table : u ≡ all_changed t edits
   pub said : IsSaid given (Ok (returned t told c)) text
 
-pub record IsSpoiledSaying (given : List ℕ) (t : Table) (c : Cmd) (old now : Ground) (u : Table)
+pub record IsSpoiledSaying (given : List ℕ) (t : RunTable) (c : Cmd) (old now : Ground)
+    (u : RunTable)
     (edits : List Change) (text : List ℕ) : Type 0 where
   pub cause : Refusal
   pub ended : HasEndedSo t c old now cause
@@ -104,23 +107,24 @@ pub record IsSpoiledSaying (given : List ℕ) (t : Table) (c : Cmd) (old now : G
 
 -- ---- the answer
 
-pub record FailsSo (t : Table) (c : Cmd) (old now : Ground) (told : Told) (cause : Refusal) : Type 0
+pub record FailsSo (t : RunTable) (c : Cmd) (old now : Ground) (told : Told)
+    (cause : Refusal) : Type 0
   where
     pub told_is : told ≡ told_failed c old.store.room cause
-    pub accepted : refusal_of t (told_first c old.store.room) c ≡ None
+    pub accepted : refusal_to t (told_first c old.store.room) c ≡ None
     pub ended : HasEndedSo t c old now cause
 
 -- made, refused before any call, or failed in one
-abbrev pub MadeSo : Table → Cmd → Ground → Ground → Told → Option Refusal → Type 0
+abbrev pub MadeSo : RunTable → Cmd → Ground → Ground → Told → Option Refusal → Type 0
 MadeSo t c old now told None = (told ≡ told_first c old.store.room) × CreatesBy t c old now
 MadeSo t c old now told (Some cause) =
     ((told ≡ told_first c old.store.room) × (now ≡ old)) ⊎ FailsSo t c old now told cause
 
-pub record IsAnswerMade (given : List ℕ) (t : Table) (c : Cmd) (old now : Ground) (u : Table)
+pub record IsAnswerMade (given : List ℕ) (t : RunTable) (c : Cmd) (old now : Ground) (u : RunTable)
     (text : List ℕ) : Type 0 where
   pub told : Told
   pub refusal : Option Refusal
-  pub judged : refusal_of t told c ≡ refusal
+  pub judged : refusal_to t told c ≡ refusal
   pub done_is : MadeSo t c old now told refusal
   pub table : u ≡ all_changed t (answer t told c).changes
   pub said : IsSaid given (answer t told c).reply text

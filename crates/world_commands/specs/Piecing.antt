@@ -18,15 +18,15 @@ use Rattle.blk_nodes.specs.declared.row.Driver.{Driver}
 use Rattle.blk_nodes.specs.declared.row.Driver.TheVariants as drivers
 use Rattle.blk_pieces.specs.Pieces.{Transfers, shown_of, shows_in}
 use Rattle.qmp_rules.specs.Chains.{disk_node, written_under}
-use Rattle.qmp_rules.specs.Table.{Table}
+use Rattle.qmp_rules.specs.Table.{RunTable}
 use Rattle.flat_machine.specs.EventLicence.{IsLicensedBy}
 use Rattle.flat_machine.specs.State.{drive_of}
 use Rattle.blk_history.specs.Small.{IsSmallOutcome}
-use Rattle.world_commands.specs.Counting.{RunsOn, sources_of, counts_within, HidesNoFault}
-use Rattle.world_parts.specs.Face.{Face, counts_now, seen_state}
+use Rattle.world_commands.specs.Counting.{RunsOn, seen_sources, counts_within, HidesNoFault}
+use Rattle.world_parts.specs.Face.{WorldSeen, counts_now, seen_state}
 use Rattle.world_commands.specs.Recorded.{noted_after, written_in}
 use Rattle.flat_machine.specs.Licence.{named_by}
-use Rattle.world_parts.specs.Progress.{Progress, with_piece, done_at}
+use Rattle.world_parts.specs.Progress.{Progress, with_piece_entry, requests_done}
 
 -- ---- when it would pass a device's capacity
 
@@ -61,13 +61,13 @@ piece_passes nodes drive node op part dev = write_passes nodes node op part dev
 -- ---- what it leaves of the world
 
 -- a write notes which nodes have no flat disk any more
-abbrev pub table_after : Op → ℕ → Table → Table
+abbrev pub table_after : Op → ℕ → RunTable → RunTable
 table_after (Write span payload) node t = written_under node t
 table_after (Zero span) node t = written_under node t
 table_after op node t = t
 
-abbrev pub shown_by : Flight → Outcome → List ℕ → List ℕ
-shown_by f outcome buffer = shown_of f.op outcome buffer
+abbrev pub shown_in_flight : Flight → Outcome → List ℕ → List ℕ
+shown_in_flight f outcome buffer = shown_of f.op outcome buffer
 
 abbrev pub part_of : Flight → Extent
 part_of f = piece f.op f.next
@@ -78,38 +78,38 @@ pub record IsMadeOn (nodes now : Nodes) (p q : Progress) (drive node g : ℕ) (f
   pub buffer : List ℕ
   pub transferred : Transfers f.op nodes now drive node (part_of f) outcome buffer
   pub fits : IsSmallOutcome outcome
-  pub shown : length (shown_by f outcome buffer) ≤ shows_in f.op (part_of f).len
-  pub noted : q ≡ with_piece g f.next outcome (shown_by f outcome buffer) p
+  pub shown : length (shown_in_flight f outcome buffer) ≤ shows_in f.op (part_of f).len
+  pub noted : q ≡ with_piece_entry g f.next outcome (shown_in_flight f outcome buffer) p
 
 -- So it was in the world, on the guest's drive where it is read, else on the node that the drive reads as; what was written is
 -- noted in the bitmaps of each node from the drive down to that one.
-pub record IsPieceMade (w v : Face) (g : ℕ) (f : Flight) (outcome : Outcome) : Type 0 where
+pub record IsPieceMade (w v : WorldSeen) (g : ℕ) (f : Flight) (outcome : Outcome) : Type 0 where
   pub drive : ℕ
   pub buffer : List ℕ
   pub on : drive_of w.table g ≡ Some drive
   pub transferred : Transfers f.op w.nodes v.nodes drive (disk_node w.table drive) (part_of f)
       outcome buffer
   pub fits : IsSmallOutcome outcome
-  pub shown : length (shown_by f outcome buffer) ≤ shows_in f.op (part_of f).len
+  pub shown : length (shown_in_flight f outcome buffer) ≤ shows_in f.op (part_of f).len
   pub kept : v ≡ record w {
     nodes = v.nodes;
     table = table_after f.op (disk_node w.table drive) w.table;
-    progress = with_piece g f.next outcome (shown_by f outcome buffer) w.progress;
+    progress = with_piece_entry g f.next outcome (shown_in_flight f outcome buffer) w.progress;
     bitmaps = noted_after outcome (written_in f.op (part_of f)) drive v.table w.bitmaps;
   }
 
 -- its entry
-abbrev pub piece_entry : Face → ℕ → Flight → Outcome → List ℕ → Event
+abbrev pub piece_entry : WorldSeen → ℕ → Flight → Outcome → List ℕ → Event
 piece_entry w g f outcome buffer =
-    Piece g (done_at w.progress.guests g) f.next outcome (shown_by f outcome buffer)
+    Piece g (requests_done w.progress.guests g) f.next outcome (shown_in_flight f outcome buffer)
 
 -- No count falls, and a fault that it names was reached in this event, of a device that the guest's node reaches, and none is
 -- hidden; want of space comes where a write of it would have passed that device's capacity, or one that keeps what it reads.
-pub record HasPieceLicence (w v : Face) (g : ℕ) (f : Flight) (outcome : Outcome)
+pub record HasPieceLicence (w v : WorldSeen) (g : ℕ) (f : Flight) (outcome : Outcome)
     (made : IsPieceMade w v g f outcome) : Type 0 where
   pub runs : RunsOn w v
   pub hides : HidesNoFault w v (named_by outcome)
-  pub licensed : IsLicensedBy (seen_state w) (sources_of w)
+  pub licensed : IsLicensedBy (seen_state w) (seen_sources w)
       (counts_now w) (counts_within w v) (counts_now v)
       (piece_passes w.nodes made.drive (disk_node w.table made.drive) f.op (part_of f))
       (piece_entry w g f outcome made.buffer)

@@ -12,13 +12,13 @@ use Rattle.qmp_codec.specs.declared.command.Command.TheVariants as command
 use Rattle.qmp_rules.specs.Asks.{id_or}
 use Rattle.qmp_asks.specs.BitmapAsks.{source_node, source_name}
 use Rattle.qmp_rules.specs.Edits.{bitmap_row}
-use Rattle.qmp_rules.specs.Table.{Table}
+use Rattle.qmp_rules.specs.Table.{RunTable}
 use Rattle.trace_codec.specs.declared.op.Op.{Op}
 use Rattle.trace_codec.specs.declared.op.Op.TheVariants.{Write, Zero}
 use Rattle.flat_machine.specs.Bitmaps.{bitmap_of, dirty_in, noted_rows, IsFreeBitmap}
 use Rattle.flat_machine.specs.Machine.{is_noted, path}
 use Rattle.flat_machine.specs.Marking.{clean}
-use Rattle.flat_machine.specs.State.{size_of}
+use Rattle.flat_machine.specs.State.{size_by_id}
 
 -- no job uses one
 abbrev pub AreFree : List Bitmap → Type 0
@@ -27,19 +27,19 @@ AreFree rows = (row : Bitmap) → Contains rows row → IsFreeBitmap row
 -- ---- commands
 
 -- the bitmap that a command adds, with nothing dirty
-pub record IsNewBitmap (t : Table) (c : BitmapAdd (List ℕ)) (row : Bitmap) : Type 0 where
+pub record IsNewBitmap (t : RunTable) (c : BitmapAdd (List ℕ)) (row : Bitmap) : Type 0 where
   pub named : bitmap_of row ≡ bitmap_row (id_or 0 t (Some c.node)) c
-  pub sized : row.size ≡ size_of t row.node
-  pub blank : dirty_in row ≡ clean (bitmap_of row) (size_of t row.node)
+  pub sized : row.size ≡ size_by_id t row.node
+  pub blank : dirty_in row ≡ clean (bitmap_of row) (size_by_id t row.node)
   pub free : IsFreeBitmap row
 
-abbrev pub IsNewFor : Table → Cmd → Option Bitmap → Type 0
+abbrev pub IsNewFor : RunTable → Cmd → Option Bitmap → Type 0
 IsNewFor t (command.BitmapAdd c) (Some row) = IsNewBitmap t c row
 IsNewFor t (command.BitmapAdd c) None = Unit {0} → ⊥
 IsNewFor t c new = Unit {0}
 
 -- one source after another
-abbrev pub bitmaps_merged : Table → List ℕ → List ℕ → SeenSources → List Bitmap → List Bitmap
+abbrev pub bitmaps_merged : RunTable → List ℕ → List ℕ → SeenSources → List Bitmap → List Bitmap
 bitmaps_merged t node target [] rows = rows
 bitmaps_merged t node target (s ∷ sources) rows =
     bitmaps_merged t node target sources
@@ -51,7 +51,7 @@ with_new None rows = rows
 with_new (Some row) rows = rows ++ row ∷ []
 
 -- what an accepted command makes of them, the new one where it adds one
-abbrev pub bitmaps_after : Table → Cmd → Option Bitmap → List Bitmap → List Bitmap
+abbrev pub bitmaps_after : RunTable → Cmd → Option Bitmap → List Bitmap → List Bitmap
 bitmaps_after t (command.BitmapAdd c) new rows = with_new new rows
 bitmaps_after t (command.BitmapRemove c) new rows =
     without_first (is_named (id_or 0 t (Some c.node)) c.name) rows
@@ -65,7 +65,7 @@ bitmaps_after t (command.BitmapMerge c) new rows = bitmaps_merged t c.node c.tar
 bitmaps_after t c new rows = rows
 
 -- so it left them
-pub record AreAfter (t : Table) (c : Cmd) (old now : List Bitmap) : Type 0 where
+pub record AreAfter (t : RunTable) (c : Cmd) (old now : List Bitmap) : Type 0 where
   pub new : Option Bitmap
   pub is_new : IsNewFor t c new
   pub are : now ≡ bitmaps_after t c new old
@@ -78,10 +78,10 @@ written_in (Write span payload) part = Some part
 written_in (Zero span) part = Some part
 written_in op part = None
 
-abbrev pub noted_where : Option Extent → ℕ → Table → List Bitmap → List Bitmap
+abbrev pub noted_where : Option Extent → ℕ → RunTable → List Bitmap → List Bitmap
 noted_where None drive t rows = rows
 noted_where (Some part) drive t rows = noted_rows part rows (path t drive)
 
-abbrev pub noted_after : Outcome → Option Extent → ℕ → Table → List Bitmap → List Bitmap
+abbrev pub noted_after : Outcome → Option Extent → ℕ → RunTable → List Bitmap → List Bitmap
 noted_after outcome written drive t rows =
     if is_noted outcome then noted_where written drive t rows else rows

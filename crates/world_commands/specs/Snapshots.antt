@@ -7,13 +7,13 @@ use Rattle.blk_graph.specs.Rule.{first_conflict}
 use Rattle.qmp_codec.specs.Commands.{Cmd}
 use Rattle.qmp_codec.specs.declared.command.Command.TheVariants as command
 use Rattle.qmp_codec.specs.declared.nodes.Snapshot.{Snapshot}
-use Rattle.qmp_rules.specs.Table.{Table, id_named, has_name}
+use Rattle.qmp_rules.specs.Table.{RunTable, id_named, has_name}
 use Rattle.qmp_rules.specs.declared.refusal.Refusal.{Refusal}
 use Rattle.qmp_rules.specs.declared.told.Told.{Told}
-use Rattle.qmp_rules.specs.Answers.{answer, refusal_of, untold}
+use Rattle.qmp_rules.specs.Answers.{answer, refusal_to, told_none}
 use Rattle.qmp_rules.specs.Changes.{all_changed}
 use Rattle.blk_nodes.specs.Covering.{covered, IsClear, IsCover, ReadCovered}
-use Rattle.blk_nodes.specs.Nodes.{DeviceState, Nodes, device_in, file_of, row_at}
+use Rattle.blk_nodes.specs.Nodes.{DeviceSeen, Nodes, device_in, file_of, row_at}
 use Rattle.blk_nodes.specs.Overlays.{IsFresh}
 use Rattle.blk_nodes.specs.declared.row.Driver.TheVariants.{Qcow2}
 use Rattle.blk_nodes.specs.declared.row.Row.{Row}
@@ -36,7 +36,7 @@ pub record IsInBytes (nodes : Nodes) (node : ℕ) (bytes : List ℕ) : Type 0 wh
   pub driver : row.driver ≡ Qcow2 image
   pub file : ℕ
   pub below : file_of nodes node ≡ Some file
-  pub device : DeviceState
+  pub device : DeviceSeen
   pub held : device_in nodes.devices file ≡ Some device
   pub content : device.content ≡ Some bytes
 
@@ -45,19 +45,19 @@ pub record TellsImage (nodes : Nodes) (node : ℕ) (maps : Bool) : Type 0 where
   pub known : (maps ≡ false) ↔ IsFresh nodes node
   pub held : (bytes : List ℕ) → IsInBytes nodes node bytes → maps ≡ maps_some bytes
 
-abbrev pub TellsOverlay : Table → Nodes → List ℕ → List (List ℕ) → Type 0
+abbrev pub TellsOverlay : RunTable → Nodes → List ℕ → List (List ℕ) → Type 0
 TellsOverlay t nodes overlay mapped = (node : ℕ) → id_named t overlay ≡ Some node
     → TellsImage nodes node (has_name overlay mapped)
 
 -- an overlay is told to map a cluster exactly where its image does
-abbrev pub TellsMapped : Table → Nodes → Cmd → List (List ℕ) → Type 0
+abbrev pub TellsMapped : RunTable → Nodes → Cmd → List (List ℕ) → Type 0
 TellsMapped t nodes (command.BlockdevSnapshot c) mapped = TellsOverlay t nodes c.overlay mapped
 TellsMapped t nodes c mapped = Unit {0}
 
 -- and nothing else is told
-pub record TellsMappedAlone (t : Table) (nodes : Nodes) (c : Cmd) (told : Told) : Type 0 where
+pub record TellsMappedAlone (t : RunTable) (nodes : Nodes) (c : Cmd) (told : Told) : Type 0 where
   pub maps : TellsMapped t nodes c told.mapped
-  pub rest : told ≡ record untold { mapped = told.mapped }
+  pub rest : told ≡ record told_none { mapped = told.mapped }
 
 -- ---- the nodes
 
@@ -66,7 +66,7 @@ is_snapshot (command.BlockdevSnapshot c) = true
 is_snapshot c = false
 
 -- the overlay may be put over the node, and breaks no rule there
-pub record CanCover (t : Table) (c : Snapshot (List ℕ)) (nodes : Nodes) : Type 0 where
+pub record CanCover (t : RunTable) (c : Snapshot (List ℕ)) (nodes : Nodes) : Type 0 where
   pub node : ℕ
   pub overlay : ℕ
   pub node_is : id_named t c.node ≡ Some node
@@ -77,7 +77,7 @@ pub record CanCover (t : Table) (c : Snapshot (List ℕ)) (nodes : Nodes) : Type
   pub keeps : first_conflict (ids nodes.graph) (covered node overlay nodes).graph.edges ≡ None
 
 -- it is over it; where it maps no cluster it reads as the node did
-pub record IsCovered (t : Table) (c : Snapshot (List ℕ)) (nodes now : Nodes) : Type 0 where
+pub record IsCovered (t : RunTable) (c : Snapshot (List ℕ)) (nodes now : Nodes) : Type 0 where
   pub node : ℕ
   pub overlay : ℕ
   pub node_is : id_named t c.node ≡ Some node
@@ -85,11 +85,11 @@ pub record IsCovered (t : Table) (c : Snapshot (List ℕ)) (nodes now : Nodes) :
   pub over : now ≡ covered node overlay nodes
   pub disks : IsClear nodes overlay → ReadCovered nodes now node overlay
 
-abbrev pub CanCoverBy : Table → Cmd → Nodes → Type 0
+abbrev pub CanCoverBy : RunTable → Cmd → Nodes → Type 0
 CanCoverBy t (command.BlockdevSnapshot c) nodes = CanCover t c nodes
 CanCoverBy t c nodes = ⊥
 
-abbrev pub IsCoveredBy : Table → Cmd → Nodes → Nodes → Type 0
+abbrev pub IsCoveredBy : RunTable → Cmd → Nodes → Nodes → Type 0
 IsCoveredBy t (command.BlockdevSnapshot c) nodes now = IsCovered t c nodes now
 IsCoveredBy t c nodes now = ⊥
 
@@ -101,7 +101,7 @@ pub record HasCovered (s : State) (given : List ℕ) (c : Cmd) (x y : Scene) (te
     pub told : Told
     pub tells : TellsMappedAlone x.table x.nodes c told
     pub refusal : Option Refusal
-    pub judged : refusal_of x.table told c ≡ refusal
+    pub judged : refusal_to x.table told c ≡ refusal
     pub done_is : DoneIf refusal (IsCoveredBy x.table c x.nodes y.nodes) (y.nodes ≡ x.nodes)
     pub table : y.table ≡ all_changed x.table (answer x.table told c).changes
     pub said : IsSaid given (answer x.table told c).reply text
@@ -112,7 +112,7 @@ pub record HasCovered (s : State) (given : List ℕ) (c : Cmd) (x y : Scene) (te
 pub record HasToBeLater (s : State) (c : Cmd) (x y : Scene) (g r : ℕ) : Type 0 where
   pub told : Told
   pub tells : TellsMappedAlone x.table x.nodes c told
-  pub accepted : refusal_of x.table told c ≡ None
+  pub accepted : refusal_to x.table told c ≡ None
   pub waits : MustWait s (drained_by x.table c) g r
   pub left : y ≡ record x { drains = after_later (drained_by x.table c) x.drains }
 

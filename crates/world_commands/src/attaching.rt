@@ -2,7 +2,7 @@
 ghost use Rattle.std.specs.Prelude.{◌≡◌, true, None, IfOk, OnErr, string_bytes};
 ghost use Rattle.qmp_codec.specs.Commands.{seen_command};
 ghost use Rattle.qmp_codec.specs.Nodes.{seen_device_add};
-ghost use Rattle.qmp_rules.specs.Answers.{command_edits, refusal_of, untold};
+ghost use Rattle.qmp_rules.specs.Answers.{command_edits, refusal_to, told_none};
 ghost use Rattle.flat_machine.specs.Wiring.{TableStands};
 ghost use Rattle.world_parts.specs.Coherent.{AreNodesOf};
 ghost use Rattle.world_parts.specs.Handling.{CanAttach, CanAttachBy, IsAttached, IsAttachedBy, IsHandled, IsUntouched, is_attachment};

@@ -2,7 +2,7 @@
 ghost use Rattle.std.specs.Prelude.{◌≡◌, ◌<◌, ℕ, true, None, Some, Ok, IsSome, map, IfOk, OnOk, OnErr, length, string_bytes};
 ghost use Rattle.qmp_codec.specs.Bitmaps.{seen_bitmap_add, seen_bitmap_merge, seen_bitmap_name, seen_source};
 ghost use Rattle.qmp_codec.specs.Commands.{SeenSources, seen_command};
-ghost use Rattle.qmp_rules.specs.Answers.{answer, command_edits, refusal_of, returned, untold};
+ghost use Rattle.qmp_rules.specs.Answers.{answer, command_edits, refusal_to, returned, told_none};
 ghost use Rattle.qmp_rules.specs.Asks.{id_or};
 ghost use Rattle.qmp_asks.specs.BitmapAsks.{source_name, source_node};
 ghost use Rattle.qmp_rules.specs.Changes.{all_changed};
@@ -13,13 +13,13 @@ ghost use Rattle.blk_bitmaps.specs.Refusals.{add_refusal, find};
 ghost use Rattle.blk_bitmaps.specs.Rows.{emptied, is_named, turned};
 ghost use Rattle.flat_machine.specs.Bitmaps.{AreBitmapsOf, FollowChanges, dirty_in};
 ghost use Rattle.flat_machine.specs.Marking.{dirty_bytes};
-ghost use Rattle.flat_machine.specs.State.{size_of};
+ghost use Rattle.flat_machine.specs.State.{size_by_id};
 ghost use Rattle.world_commands.specs.Carrying.{is_of_bitmaps, prints_counts};
 ghost use Rattle.world_commands.specs.Leaving.{LeavesBitmaps};
 ghost use Rattle.qmp_asks.specs.Values.{amount_or, flag_or_false};
 ghost use Rattle.world_commands.specs.Recorded.{AreAfter, AreFree, IsNewBitmap, IsNewFor, bitmaps_after, bitmaps_merged};
 ghost use Rattle.world_parts.specs.Saying.{IsSaid};
-ghost use Rattle.world_commands.specs.Carrying.{counted};
+ghost use Rattle.world_commands.specs.Carrying.{with_counts};
 
 use crate::in_table::{accepted_alone, prepare};
 use blk_base::{NoMemory, Text};
@@ -69,7 +69,7 @@ fn counts(alloc: Global, bitmaps: &Bitmaps) -> Result<Vec<u64>, NoMemory>
 fn told_counts(alloc: Global, bitmaps: &Bitmaps) -> Result<Told, NoMemory>
     requires { AreFree bitmaps.now }
     ensures { IfOk result
-        (λ told. told ≡ counted untold (map dirty_bytes (map dirty_in bitmaps.now))) }
+        (λ told. told ≡ with_counts told_none (map dirty_bytes (map dirty_in bitmaps.now))) }
 {
     let counts = counts(alloc, bitmaps)?;
     let mut told = Told::nothing(alloc);
@@ -90,7 +90,8 @@ fn accept_counts(
     requires room { HasRoomForChanges (length edits) names.old }
     requires fit { AllChangesFit names.old.table edits }
     ensures said { IfOk result (λ text. IsSaid given.now (Ok (returned names.old.table
-        (counted untold (map dirty_bytes (map dirty_in bitmaps.now))) (seen_command command.now)))
+        (with_counts told_none (map dirty_bytes (map dirty_in bitmaps.now)))
+        (seen_command command.now)))
         (string_bytes text)) }
     ensures changed { OnOk result (names.new.table ≡ all_changed names.old.table edits) }
     ensures kept { OnErr result (names.new.table ≡ names.old.table) }
@@ -112,11 +113,11 @@ pub fn answer_counts(
     requires prints { prints_counts (seen_command command.now) ≡ true }
     requires free { AreFree bitmaps.now }
     ensures said { IfOk result (λ text. IsSaid given.now (answer names.old.table
-        (counted untold (map dirty_bytes (map dirty_in bitmaps.now)))
+        (with_counts told_none (map dirty_bytes (map dirty_in bitmaps.now)))
         (seen_command command.now)).reply
         (string_bytes text)) }
     ensures changed { OnOk result (names.new.table ≡ all_changed names.old.table
-        (answer names.old.table untold (seen_command command.now)).changes) }
+        (answer names.old.table told_none (seen_command command.now)).changes) }
     ensures kept { OnErr result (names.new.table ≡ names.old.table) }
 {
     match prepare(alloc, names, command) {
@@ -148,7 +149,7 @@ fn flag_or_false(flag: Option<bool>) -> bool
 
 /// How many bytes a node's disk has.
 fn size_of(names: &Names, node: NodeId) -> u64
-    ensures { result ≡ size_of names.now.table node }
+    ensures { result ≡ size_by_id names.now.table node }
 {
     match names.node_at(node) {
         Some(row) => row.size,
@@ -195,7 +196,7 @@ fn new_of(
     command: &Command,
 ) -> Result<Option<Bitmap>, NoMemory>
     requires alike { AreBitmapsOf names.now.table.bitmaps bitmaps.now }
-    requires accepted { refusal_of names.now.table untold (seen_command command.now) ≡ None }
+    requires accepted { refusal_to names.now.table told_none (seen_command command.now) ≡ None }
     ensures new { IfOk result (IsNewFor names.now.table (seen_command command.now)) }
     ensures room { IfOk result (λ new. IsSome new → length bitmaps.now < 64) }
 {
@@ -302,11 +303,11 @@ fn accept(
     edits: Edits,
 ) -> Result<String, NoMemory>
     requires alike { AreBitmapsOf names.old.table.bitmaps bitmaps.old }
-    requires accepted { refusal_of names.old.table untold (seen_command command.now) ≡ None }
+    requires accepted { refusal_to names.old.table told_none (seen_command command.now) ≡ None }
     requires room { HasRoomForChanges (length edits) names.old }
     requires fit { AllChangesFit names.old.table edits }
     ensures said { IfOk result (λ text. IsSaid given.now
-        (Ok (returned names.old.table untold (seen_command command.now))) (string_bytes text)) }
+        (Ok (returned names.old.table told_none (seen_command command.now))) (string_bytes text)) }
     ensures changed { OnOk result (names.new.table ≡ all_changed names.old.table edits) }
     ensures bitmaps { OnOk result (AreAfter names.old.table (seen_command command.now)
         bitmaps.old bitmaps.new) }
@@ -331,13 +332,13 @@ pub fn answer_bitmaps(
     requires is { is_of_bitmaps (seen_command command.now) ≡ true }
     requires alike { AreBitmapsOf names.old.table.bitmaps bitmaps.old }
     ensures said { IfOk result (λ text. IsSaid given.now
-        (answer names.old.table untold (seen_command command.now)).reply (string_bytes text)) }
+        (answer names.old.table told_none (seen_command command.now)).reply (string_bytes text)) }
     ensures changed { OnOk result (names.new.table ≡ all_changed names.old.table
-        (answer names.old.table untold (seen_command command.now)).changes) }
+        (answer names.old.table told_none (seen_command command.now)).changes) }
     ensures follow { OnOk result (FollowChanges names.old.table bitmaps.old bitmaps.new
-        (answer names.old.table untold (seen_command command.now)).changes) }
+        (answer names.old.table told_none (seen_command command.now)).changes) }
     ensures left { OnOk result (LeavesBitmaps names.old.table (seen_command command.now)
-        (refusal_of names.old.table untold (seen_command command.now)) bitmaps.old bitmaps.new) }
+        (refusal_to names.old.table told_none (seen_command command.now)) bitmaps.old bitmaps.new) }
     ensures kept { OnErr result (names.new.table ≡ names.old.table) }
     ensures bitmaps_kept { OnErr result (bitmaps.new ≡ bitmaps.old) }
 {

@@ -3,7 +3,7 @@ ghost use Rattle.std.specs.Prelude.{◌≡◌, ◌<◌, ◌↔◌, ℕ, [], ◌�
 ghost use Rattle.qmp_codec.specs.Commands.{seen_command};
 ghost use Rattle.qmp_codec.specs.Nodes.{seen_snapshot};
 ghost use Rattle.qmp_rules.specs.Table.{id_named};
-ghost use Rattle.qmp_rules.specs.Answers.{command_edits, refusal_of, returned};
+ghost use Rattle.qmp_rules.specs.Answers.{command_edits, refusal_to, returned};
 ghost use Rattle.qmp_rules.specs.Changes.{all_changed};
 ghost use Rattle.qmp_rules.specs.Fitting.{AllChangesFit};
 ghost use Rattle.qmp_rules.specs.Room.{HasRoomForChanges};
@@ -159,7 +159,7 @@ fn cover_or_wait<D: Device>(
     requires snapshot { is_snapshot (seen_command command.now) ≡ true }
     requires few { (g : ℕ) → IsSome (drive_of names.old.table g) → g < 80 }
     requires tells { TellsMappedAlone names.old.table nodes.old (seen_command command.now) told.now }
-    requires accepted { refusal_of names.old.table told.now (seen_command command.now) ≡ None }
+    requires accepted { refusal_to names.old.table told.now (seen_command command.now) ≡ None }
     requires edits { edits ≡ command_edits names.old.table told.now (seen_command command.now) }
     requires room { HasRoomForChanges (length edits) names.old }
     requires fit { AllChangesFit names.old.table edits }

@@ -2,10 +2,10 @@
 ghost use Rattle.std.specs.Prelude.{◌≡◌, ℕ, true, None, IfOk, OnOk, OnErr, string_bytes};
 ghost use Rattle.blk_graph.specs.Graph.{HasNode};
 ghost use Rattle.blk_nodes.specs.Contents.{disk_of};
-ghost use Rattle.blk_nodes.specs.Dropping.{without};
+ghost use Rattle.blk_nodes.specs.Dropping.{nodes_without};
 ghost use Rattle.blk_nodes.specs.Nodes.{device_in};
 ghost use Rattle.qmp_codec.specs.Commands.{seen_command};
-ghost use Rattle.qmp_rules.specs.Answers.{refusal_of, untold};
+ghost use Rattle.qmp_rules.specs.Answers.{refusal_to, told_none};
 ghost use Rattle.qmp_rules.specs.Edits.{goes_with_node};
 ghost use Rattle.world_parts.specs.Handling.{IsDeletedBy, IsHandled, IsUntouched, bitmaps_but, bitmaps_deleted, bitmaps_left, is_deletion};
 ghost use Rattle.world_parts.specs.Steps.{seen_in_run};
@@ -60,7 +60,7 @@ fn take_node<S: Store>(
     node: NodeId,
 )
     requires { CanLeave names.now.table (ground_in store.old nodes.old) node }
-    ensures nodes { nodes.new ≡ without node nodes.old }
+    ensures nodes { nodes.new ≡ nodes_without node nodes.old }
     ensures store { seen_in_run store.new
         ≡ with_back (name_under names.now.table node) (device_in nodes.old.devices node)
         (seen_in_run store.old) }
@@ -84,7 +84,7 @@ fn drop_node<S: Store>(
     node: NodeId,
 )
     requires { CanLeave names.now.table (ground_in store.old nodes.old) node }
-    ensures nodes { nodes.new ≡ without node nodes.old }
+    ensures nodes { nodes.new ≡ nodes_without node nodes.old }
     ensures store { seen_in_run store.new
         ≡ with_back (name_under names.now.table node) (device_in nodes.old.devices node)
         (seen_in_run store.old) }
@@ -148,7 +148,7 @@ fn drop_by<S: Store>(
 )
     requires belong { Belong names.now.table (ground_in store.old nodes.old) }
     requires deletion { is_deletion (seen_command command.now) ≡ true }
-    requires accepted { refusal_of names.now.table untold (seen_command command.now) ≡ None }
+    requires accepted { refusal_to names.now.table told_none (seen_command command.now) ≡ None }
     ensures deleted { IsDeletedBy names.now.table (seen_command command.now)
         (ground_in store.old nodes.old) (ground_in store.new nodes.new) }
     ensures earlier { store.new.earlier ≡ store.old.earlier }
@@ -200,7 +200,7 @@ pub fn delete<S: Store>(
     ensures back { OnErr result (IsUntouched names.old.table names.new.table
         (ground_in store.new nodes.new ≡ ground_in store.old nodes.old)) }
     ensures bitmaps { OnOk result (bitmaps.new ≡ bitmaps_left
-        (refusal_of names.old.table untold (seen_command command.now)) names.old.table
+        (refusal_to names.old.table told_none (seen_command command.now)) names.old.table
         (seen_command command.now) bitmaps.old) }
     ensures bitmaps_back { OnErr result (bitmaps.new ≡ bitmaps.old) }
     ensures earlier { store.new.earlier ≡ store.old.earlier }

@@ -1,7 +1,7 @@
 //! Devices of guests that go.
 ghost use Rattle.std.specs.Prelude.{◌≡◌, ◌<◌, ℕ, true, None, IfOk, IsSome, OnErr, length, string_bytes};
 ghost use Rattle.qmp_codec.specs.Commands.{seen_command};
-ghost use Rattle.qmp_rules.specs.Answers.{command_edits, refusal_of, untold};
+ghost use Rattle.qmp_rules.specs.Answers.{command_edits, refusal_to, told_none};
 ghost use Rattle.qmp_rules.specs.Fitting.{AllChangesFit};
 ghost use Rattle.qmp_rules.specs.Room.{HasRoomForChanges};
 ghost use Rattle.qmp_rules.specs.Table.{device_named};
@@ -31,7 +31,7 @@ fn detach_device<D: Device>(nodes: &mut Nodes<D>, names: &Names, id: &str)
 
 fn detach_by<D: Device>(nodes: &mut Nodes<D>, names: &Names, command: &Command)
     requires detachment { is_detachment (seen_command command.now) ≡ true }
-    requires accepted { refusal_of names.now.table untold (seen_command command.now) ≡ None }
+    requires accepted { refusal_to names.now.table told_none (seen_command command.now) ≡ None }
     ensures { IsDetachedBy names.now.table (seen_command command.now) nodes.old nodes.new }
 {
     match command {
@@ -50,8 +50,8 @@ fn detach_now<D: Device>(
     edits: Edits,
 ) -> Result<String, NoMemory>
     requires detachment { is_detachment (seen_command command.now) ≡ true }
-    requires accepted { refusal_of names.old.table untold (seen_command command.now) ≡ None }
-    requires edits { edits ≡ command_edits names.old.table untold (seen_command command.now) }
+    requires accepted { refusal_to names.old.table told_none (seen_command command.now) ≡ None }
+    requires edits { edits ≡ command_edits names.old.table told_none (seen_command command.now) }
     requires room { HasRoomForChanges (length edits) names.old }
     requires fit { AllChangesFit names.old.table edits }
     ensures handled { IfOk result (λ text. IsHandled given.now names.old.table
@@ -79,8 +79,8 @@ fn detach_or_wait<D: Device>(
     edits: Edits,
 ) -> Result<Carried, NoMemory>
     requires detachment { is_detachment (seen_command command.now) ≡ true }
-    requires accepted { refusal_of names.old.table untold (seen_command command.now) ≡ None }
-    requires edits { edits ≡ command_edits names.old.table untold (seen_command command.now) }
+    requires accepted { refusal_to names.old.table told_none (seen_command command.now) ≡ None }
+    requires edits { edits ≡ command_edits names.old.table told_none (seen_command command.now) }
     requires room { HasRoomForChanges (length edits) names.old }
     requires fit { AllChangesFit names.old.table edits }
     requires few { (g : ℕ) → IsSome (drive_of names.old.table g) → g < 80 }

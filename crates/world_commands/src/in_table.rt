@@ -1,7 +1,7 @@
 //! Commands that need the table alone.
 ghost use Rattle.std.specs.Prelude.{◌≡◌, true, None, Ok, IfOk, IfErr, OnOk, OnErr, length, string_bytes};
 ghost use Rattle.qmp_codec.specs.Commands.{seen_command};
-ghost use Rattle.qmp_rules.specs.Answers.{answer, command_edits, refusal_of, returned, untold};
+ghost use Rattle.qmp_rules.specs.Answers.{answer, command_edits, refusal_to, returned, told_none};
 ghost use Rattle.qmp_rules.specs.Changes.{all_changed};
 ghost use Rattle.qmp_rules.specs.Fitting.{AllChangesFit};
 ghost use Rattle.qmp_rules.specs.Prepared.{IsStoppedFor};
@@ -22,13 +22,13 @@ pub(crate) fn prepare(
     command: &Command,
 ) -> Result<Edits, PrepareStop>
     ensures accepted { IfOk result
-        (λ _. refusal_of names.old.table untold (seen_command command.now) ≡ None) }
+        (λ _. refusal_to names.old.table told_none (seen_command command.now) ≡ None) }
     ensures edits { IfOk result (λ edits. edits
-        ≡ command_edits names.old.table untold (seen_command command.now)) }
+        ≡ command_edits names.old.table told_none (seen_command command.now)) }
     ensures room { IfOk result (λ edits. HasRoomForChanges (length edits) names.new) }
     ensures fit { IfOk result (λ edits. AllChangesFit names.new.table edits) }
     ensures refused { IfErr result
-        (IsStoppedFor (refusal_of names.old.table untold (seen_command command.now))) }
+        (IsStoppedFor (refusal_to names.old.table told_none (seen_command command.now))) }
     ensures table { names.new.table ≡ names.old.table }
 {
     names.prepare(alloc, command, &Told::nothing(alloc))
@@ -42,7 +42,7 @@ pub(crate) fn accepted_alone(
     command: &Command,
 ) -> Result<String, NoMemory>
     ensures { IfOk result (λ text. IsSaid given.now
-        (Ok (returned names.now.table untold (seen_command command.now))) (string_bytes text)) }
+        (Ok (returned names.now.table told_none (seen_command command.now))) (string_bytes text)) }
 {
     accepted_text(alloc, names, given, &Told::nothing(alloc), command)
 }
@@ -58,7 +58,7 @@ fn accept_alone(
     requires room { HasRoomForChanges (length edits) names.old }
     requires fit { AllChangesFit names.old.table edits }
     ensures said { IfOk result (λ text. IsSaid given.now
-        (Ok (returned names.old.table untold (seen_command command.now))) (string_bytes text)) }
+        (Ok (returned names.old.table told_none (seen_command command.now))) (string_bytes text)) }
     ensures changed { OnOk result (names.new.table ≡ all_changed names.old.table edits) }
     ensures kept { OnErr result (names.new.table ≡ names.old.table) }
 {
@@ -76,9 +76,9 @@ pub fn answer_alone(
 ) -> Result<String, NoMemory>
     requires { needs_table_alone (seen_command command.now) ≡ true }
     ensures said { IfOk result (λ text. IsSaid given.now
-        (answer names.old.table untold (seen_command command.now)).reply (string_bytes text)) }
+        (answer names.old.table told_none (seen_command command.now)).reply (string_bytes text)) }
     ensures changed { OnOk result (names.new.table ≡ all_changed names.old.table
-        (answer names.old.table untold (seen_command command.now)).changes) }
+        (answer names.old.table told_none (seen_command command.now)).changes) }
     ensures kept { OnErr result (names.new.table ≡ names.old.table) }
 {
     match prepare(alloc, names, command) {

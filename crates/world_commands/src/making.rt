@@ -4,7 +4,7 @@ ghost use Rattle.qmp_codec.specs.Commands.{seen_command};
 ghost use Rattle.qmp_rules.specs.Answers.{returned};
 ghost use Rattle.qmp_rules.specs.Fitting.{AllChangesFit};
 ghost use Rattle.qmp_rules.specs.Room.{HasRoomForChanges};
-ghost use Rattle.world_commands.specs.Carrying.{is_failed};
+ghost use Rattle.world_commands.specs.Carrying.{is_io_refusal};
 ghost use Rattle.world_parts.specs.Deleting.{Belong, ground_in};
 ghost use Rattle.world_parts.specs.Handling.{IsUntouched};
 ghost use Rattle.world_commands.specs.Making.{CanCreateBy, CreatesBy, FailsBy, FitsWords, HasEndedSo, IsAnswerMade, IsMadeNow, IsMadeSaying, IsSpoiledNow, IsSpoiledSaying, is_creation, spoiled_by, told_first};
@@ -20,7 +20,7 @@ use world_parts::{RunStore, accepted_text, create, refused, told_by_room};
 
 /// The text of the reply to a command of which a call failed. Takes no memory.
 fn failed_reply(text: FailedText, cause: Refusal) -> String
-    requires { is_failed cause ≡ true }
+    requires { is_io_refusal cause ≡ true }
     ensures said { (given : List ℕ) → EndsRefusals given text
         → IsSaid given (Err cause) (string_bytes result) }
     ensures fits { FitsWords cause }
@@ -70,7 +70,7 @@ fn create_by<S: Store>(
     ensures refused { (cause : Refusal) → result ≡ Err (PrepareStop.Refused cause)
         → FailsBy names.now.table (seen_command command.now)
         (ground_in store.old nodes.old) (ground_in store.new nodes.new) cause
-        × (is_failed cause ≡ true) }
+        × (is_io_refusal cause ≡ true) }
     ensures back { result ≡ Err PrepareStop.NoMemory
         → ground_in store.new nodes.new ≡ ground_in store.old nodes.old }
     ensures earlier { store.new.earlier ≡ store.old.earlier }

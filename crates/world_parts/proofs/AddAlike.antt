@@ -13,7 +13,7 @@ use Rattle.blk_graph.proofs.Members.{Contains-cases, Contains-nil}
 use Rattle.blk_nodes.specs.Joined.{IsJoined}
 use Rattle.blk_nodes.specs.Nodes.{Nodes, row_at}
 use Rattle.blk_nodes.specs.declared.row.Row.{Row}
-use Rattle.qmp_rules.specs.Table.{Table, node_at, kinds_of}
+use Rattle.qmp_rules.specs.Table.{RunTable, node_by_id, kinds_of}
 use Rattle.qmp_rules.specs.declared.rows.NodeRecord.{NodeRecord}
 use Rattle.flat_machine.specs.Wiring.{AreApart}
 use Rattle.flat_machine.proofs.Fresh.{found-new}
@@ -30,7 +30,7 @@ ids-mapped : (rows : List NodeRecord) → map (λ (r : NodeRow). r.id) (map node
 ids-mapped [] = refl
 ids-mapped (row ∷ rows) = ap (λ (l : List ℕ). row.id ∷ l) (ids-mapped rows)
 
-pub ids-alike : (t : Table) (nodes : Nodes) → nodes.graph.nodes ≡ map node_row t.nodes → ids nodes.graph ≡ map id_of t.nodes
+pub ids-alike : (t : RunTable) (nodes : Nodes) → nodes.graph.nodes ≡ map node_row t.nodes → ids nodes.graph ≡ map id_of t.nodes
 ids-alike t nodes listed = ap (map (λ (r : NodeRow). r.id)) listed ∙ ids-mapped t.nodes
 
 -- rows of different ids are found by them
@@ -52,7 +52,7 @@ apart-rows (x ∷ rows) distinct row there = elim (Contains-cases x rows row the
       rw apart (apart-rows rows (IsDistinct-tail nat_eq x.id (map id_of rows) distinct) row behind)
 ]
 
-pub apart-of : (t : Table) (nodes : Nodes) → nodes.graph.nodes ≡ map node_row t.nodes → IsJoined nodes → AreApart t
+pub apart-of : (t : RunTable) (nodes : Nodes) → nodes.graph.nodes ≡ map node_row t.nodes → IsJoined nodes → AreApart t
 apart-of t nodes listed joined =
     let distinct : IsDistinct nat_eq (map id_of t.nodes) = subst (IsDistinct nat_eq) (ids-alike t nodes listed) joined.sound.different_nodes in
     apart-rows t.nodes distinct
@@ -71,7 +71,7 @@ find-behind id (x ∷ rows) new other = by_test (x.id == id) (find-behind id row
 
 -- ---- one more node
 
-module _ (t t' : Table) (nodes after : Nodes) (joined : IsJoined nodes) (joined_after : IsJoined after)
+module _ (t t' : RunTable) (nodes after : Nodes) (joined : IsJoined nodes) (joined_after : IsJoined after)
     (record' : NodeRecord) (row : Row) (is_row : IsRowOf record' row) (rows : List NodeRecord) (edited : List Edge)
     (names : map node_row rows ≡ map node_row t.nodes) (alike : AreNodesOf t nodes)
     (old : (id : ℕ) → AreAlike (find (λ r. r.id == id) rows) (row_at nodes id))
@@ -92,10 +92,10 @@ module _ (t t' : Table) (nodes after : Nodes) (joined : IsJoined nodes) (joined_
       (pushed-new (ids nodes.graph) record'.id) in
       joined_after.sound.small record'.id last
 
-  rows-alike : (id : ℕ) → AreAlike (node_at t' id) (row_at after id)
+  rows-alike : (id : ℕ) → AreAlike (node_by_id t' id) (row_at after id)
   rows-alike id = elim (cases_eq id record'.id) [
     | inl same ↦
-        let found : node_at t' id ≡ Some record' =
+        let found : node_by_id t' id ≡ Some record' =
         ap (find (λ (r : NodeRecord). r.id == id)) nodes_are
         ∙ found-new (λ (r : NodeRecord). r.id == id) rows record' (subst (λ (n : ℕ). find (λ (r : NodeRecord). r.id == n) rows ≡ None) (sym same) fresh) (eq-eqb record'.id id (sym same)) in
         let own : row_at after id ≡ Some row =
@@ -104,7 +104,7 @@ module _ (t t' : Table) (nodes after : Nodes) (joined : IsJoined nodes) (joined_
         ∙ get_or-set_same nodes.rows record'.id (Some row) None (let len = joined.rows in let s = small in omega (arith, len, s)) in
         rw (found, own) is_row
     | inr other ↦
-        let found : node_at t' id ≡ find (λ (r : NodeRecord). r.id == id) rows =
+        let found : node_by_id t' id ≡ find (λ (r : NodeRecord). r.id == id) rows =
         ap (find (λ (r : NodeRecord). r.id == id)) nodes_are ∙ find-behind id rows record' other in
         let own : row_at after id ≡ row_at nodes id =
         ap (λ (l : List (Option Row)). slice_index_or l id None) graph_rows ∙ get_or-set_other nodes.rows record'.id id (Some row) None other in

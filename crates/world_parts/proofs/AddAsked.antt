@@ -6,15 +6,15 @@ use Rattle.blk_graph.specs.declared.edge.Conflict.{Conflict as Pair}
 use Rattle.blk_graph.specs.Rule.{first_conflict}
 use Rattle.qmp_codec.specs.declared.command.Command.TheVariants as command
 use Rattle.qmp_codec.specs.declared.fields.Amount.{Amount}
-use Rattle.qmp_rules.specs.Answers.{conflict_after, conflict_in, conflict_refusal, is_joined, out_of_turn, refusal_of, untold}
+use Rattle.qmp_rules.specs.Answers.{conflict_after, conflict_in, conflict_refusal, is_joined, out_of_turn, refusal_to, told_none}
 use Rattle.qmp_asks.specs.Asking.{Asking}
-use Rattle.qmp_rules.specs.Asks.{first, holds}
+use Rattle.qmp_rules.specs.Asks.{first_unmet_ask, holds}
 use Rattle.qmp_rules.specs.Changes.{all_changed}
-use Rattle.qmp_rules.specs.Edits.{edits_of, ids}
+use Rattle.qmp_rules.specs.Edits.{edits_of, node_ids}
 use Rattle.qmp_rules.specs.Looks.{file_stop, is_unopened, stop_at, too_long}
 use Rattle.qmp_asks.specs.Naming.{inline_name, is_name}
 use Rattle.qmp_asks.specs.NodeAsks.{add_asks, added_names, added_rest, added_values, is_added, is_read_only, option_values}
-use Rattle.qmp_rules.specs.Table.{Table, file_state, node_named}
+use Rattle.qmp_rules.specs.Table.{RunTable, file_state, node_named}
 use Rattle.qmp_asks.specs.Values.{begins_within, ends_within, most_length, part_offset, part_size}
 use Rattle.qmp_asks.specs.declared.ask.Ask.TheVariants as ask
 use Rattle.qmp_rules.specs.declared.refusal.FileFault.TheVariants.{TooLong}
@@ -37,7 +37,7 @@ use Rattle.world_parts.proofs.AddSeen.{AsFile, AsImage, AsPart, OpensAs, has-at,
 
 -- ---- single asks
 
-pub fresh-node : (t : Table) (told : Told) (name : List ℕ) → holds t told (ask.FreshNode (Some name)) ≡ None → node_named t name ≡ None
+pub fresh-node : (t : RunTable) (told : Told) (name : List ℕ) → holds t told (ask.FreshNode (Some name)) ≡ None → node_named t name ≡ None
 unfolding holds
 fresh-node t told name h = by_row (node_named t name) refl (not-refused _ _ h)
   where
@@ -46,7 +46,7 @@ fresh-node t told name h = by_row (node_named t name) refl (not-refused _ _ h)
     by_row (Some row) e k = absurd cc
 
 -- where that of the node over it is free, the name of a `file` node is so
-pub inline-fresh : (t : Table) (told : Told) (name : List ℕ) (own : Option (List ℕ)) → TableAtRest t → is_name name ≡ true
+pub inline-fresh : (t : RunTable) (told : Told) (name : List ℕ) (own : Option (List ℕ)) → TableAtRest t → is_name name ≡ true
     → holds t told (ask.FreshNode (Some name)) ≡ None → holds t told (ask.FreshNode own) ≡ None → node_named t (inline_name name own) ≡ None
 inline-fresh t told name None rests is fresh free = inline-free t name rests is (fresh-node t told name fresh)
 inline-fresh t told name (Some own) rests is fresh free = fresh-node t told own free
@@ -73,18 +73,18 @@ part-within offset None n begins ends =
 part-within offset (Some size) n begins ends = leb-true (part_offset offset + part_size offset (Some size) n) n ends
 
 -- a file was opened, and a device is out for it
-pub record IsTakenFor (t : Table) (told : Told) (c : Adding) (at : Opens) (old new : StoreInRun) (out : Option Taken) (image : Option Known) : Type 0 where
+pub record IsTakenFor (t : RunTable) (told : Told) (c : Adding) (at : Opens) (old new : StoreInRun) (out : Option Taken) (image : Option Known) : Type 0 where
   pub device : Taken
   pub is : out ≡ Some device
   pub inside : LooksInside t c at.filename old new device image told
 
 -- ---- all of them
 
-module _ (t : Table) (told : Told) (c : Adding) (none : refusal_of t told (command.BlockdevAdd c) ≡ None) where
-  parts : (first t told (add_asks c) ≡ None) × (conflict_after (is_joined c.driver) t (edits_of t untold (command.BlockdevAdd c)) ≡ None)
+module _ (t : RunTable) (told : Told) (c : Adding) (none : refusal_to t told (command.BlockdevAdd c) ≡ None) where
+  parts : (first_unmet_ask t told (add_asks c) ≡ None) × (conflict_after (is_joined c.driver) t (edits_of t told_none (command.BlockdevAdd c)) ≡ None)
   parts =
       let turn = none-both (out_of_turn false t.negotiated) _ (sym (refusal-is t told c) ∙ none) in
-      none-both (first t told (add_asks c)) _ turn.1
+      none-both (first_unmet_ask t told (add_asks c)) _ turn.1
 
   pub all-asked : NoneHolds t told (add_asks c)
   all-asked = none-holds t told (add_asks c) parts.0
@@ -106,14 +106,14 @@ module _ (t : Table) (told : Told) (c : Adding) (none : refusal_of t told (comma
 
   -- the edges keep the permission rule
   pub keeps-rule : is_joined c.driver ≡ true
-      → first_conflict (ids (all_changed t (edits_of t untold (command.BlockdevAdd c)))) (all_changed t (edits_of t untold (command.BlockdevAdd c))).edges ≡ None
+      → first_conflict (node_ids (all_changed t (edits_of t told_none (command.BlockdevAdd c)))) (all_changed t (edits_of t told_none (command.BlockdevAdd c))).edges ≡ None
   unfolding conflict_in
   keeps-rule joins =
-      let kept : conflict_after true t (edits_of t untold (command.BlockdevAdd c)) ≡ None =
-      subst (λ (b : Bool). conflict_after b t (edits_of t untold (command.BlockdevAdd c)) ≡ None) joins parts.1 in
-      by_pair (first_conflict (ids (all_changed t (edits_of t untold (command.BlockdevAdd c)))) (all_changed t (edits_of t untold (command.BlockdevAdd c))).edges) kept
+      let kept : conflict_after true t (edits_of t told_none (command.BlockdevAdd c)) ≡ None =
+      subst (λ (b : Bool). conflict_after b t (edits_of t told_none (command.BlockdevAdd c)) ≡ None) joins parts.1 in
+      by_pair (first_conflict (node_ids (all_changed t (edits_of t told_none (command.BlockdevAdd c)))) (all_changed t (edits_of t told_none (command.BlockdevAdd c))).edges) kept
     where
-      by_pair : (found : Option Pair) → option_map (conflict_refusal (all_changed t (edits_of t untold (command.BlockdevAdd c)))) found ≡ None → found ≡ None
+      by_pair : (found : Option Pair) → option_map (conflict_refusal (all_changed t (edits_of t told_none (command.BlockdevAdd c)))) found ≡ None → found ≡ None
       by_pair None h = refl
       by_pair (Some pair) h = absurd cc
 
@@ -149,9 +149,9 @@ module _ (t : Table) (told : Told) (c : Adding) (none : refusal_of t told (comma
       → Looks t c at old new out image told → IsTakenFor t told c at old new out image
   taken-out at opener old new out image (inl looks) = by_away looks.0.away
     where
-      by_away : (refusal_of t (probe at.what) (command.BlockdevAdd c) ≢ Some refusal.Aborted) ⊎ (is_unopened t at.filename ≡ true) → IsTakenFor t told c at old new out image
+      by_away : (refusal_to t (probe at.what) (command.BlockdevAdd c) ≢ Some refusal.Aborted) ⊎ (is_unopened t at.filename ≡ true) → IsTakenFor t told c at old new out image
       by_away (inl not) =
-          let same : refusal_of t told (command.BlockdevAdd c) ≡ refusal_of t (probe at.what) (command.BlockdevAdd c) =
+          let same : refusal_to t told (command.BlockdevAdd c) ≡ refusal_to t (probe at.what) (command.BlockdevAdd c) =
           unreached-refused t at.what c (looks-as c at opener) not told in
           absurd (stop-refused t (probe at.what) at.what refusal.Aborted c refl (has-at c at opener) (sym same ∙ none))
       by_away (inr closed) = let bad : true ≡ false = sym closed ∙ unopened-not at opener in absurd (cc bad)

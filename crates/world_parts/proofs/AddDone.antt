@@ -10,11 +10,11 @@ use Rattle.qmp_codec.specs.declared.nodes.Added.{Added}
 use Rattle.qmp_codec.specs.declared.nodes.Added.TheVariants as added
 use Rattle.qmp_codec.specs.declared.nodes.FileRef.{FileRef}
 use Rattle.qmp_codec.specs.declared.nodes.FileRef.TheVariants as file_ref
-use Rattle.qmp_rules.specs.Answers.{refusal_of}
+use Rattle.qmp_rules.specs.Answers.{refusal_to}
 use Rattle.qmp_rules.specs.Asks.{file_node, holds, is_file}
 use Rattle.qmp_rules.specs.Looks.{raw_stop}
 use Rattle.qmp_asks.specs.Naming.{inline_name}
-use Rattle.qmp_rules.specs.Table.{Table}
+use Rattle.qmp_rules.specs.Table.{RunTable}
 use Rattle.qmp_asks.specs.Values.{most_length}
 use Rattle.qmp_asks.specs.declared.ask.Ask.TheVariants as ask
 use Rattle.qmp_asks.specs.declared.ask.Drivers.TheVariants as drivers
@@ -34,7 +34,7 @@ use Rattle.world_parts.proofs.AddPlaces.{place-of}
 use Rattle.world_parts.proofs.AddReady.{can-filter, can-part}
 use Rattle.world_parts.proofs.AddSeen.{AsFile, AsImage, AsPart}
 
-module _ (t : Table) (told : Told) (c : Adding) (none : refusal_of t told (command.BlockdevAdd c) ≡ None) (old now : Site)
+module _ (t : RunTable) (told : Told) (c : Adding) (none : refusal_to t told (command.BlockdevAdd c) ≡ None) (old now : Site)
     (alike : AreNodesOf t now.nodes) (joined : IsJoined now.nodes) (rests : TableAtRest t) (out : Option Taken) (image : Option Known) where
   apart : AreApart t
   apart = rests.stands.apart

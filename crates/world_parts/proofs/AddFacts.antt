@@ -10,11 +10,11 @@ use Rattle.blk_graph.specs.Permissions.{node_edge}
 use Rattle.blk_graph.specs.Refreshed.{refreshed}
 use Rattle.blk_graph.proofs.StillLemmas.{refreshed-fixed}
 use Rattle.blk_nodes.specs.Joined.{IsJoined}
-use Rattle.blk_nodes.specs.Nodes.{DeviceState, Nodes, row_at}
-use Rattle.blk_nodes.specs.Overlays.{format_edges as node_edges}
+use Rattle.blk_nodes.specs.Nodes.{DeviceSeen, Nodes, row_at}
+use Rattle.blk_nodes.specs.Overlays.{format_edges}
 use Rattle.blk_nodes.specs.declared.row.Row.{Row}
-use Rattle.qmp_rules.specs.Changes.{changed, format_edges, node_changed, unsettled, with_unsettled}
-use Rattle.qmp_rules.specs.Table.{Table, node_at}
+use Rattle.qmp_rules.specs.Changes.{changed, with_format_edges, node_changed, unsettled, with_unsettled}
+use Rattle.qmp_rules.specs.Table.{RunTable, node_by_id}
 use Rattle.qmp_rules.specs.declared.change.Change.TheVariants.{AddFile, AddFilter, AddFormat}
 use Rattle.qmp_rules.specs.declared.rows.NodeRecord.{NodeRecord}
 use Rattle.flat_machine.specs.State.{filename_of}
@@ -62,14 +62,14 @@ find-unsettled file id rows =
 none-unsettled : (file id : ℕ) (rows : List NodeRecord) → find (λ r. r.id == id) rows ≡ None → find (λ r. r.id == id) (with_unsettled file rows) ≡ None
 none-unsettled file id rows none = find-unsettled file id rows ∙ ap (option_map (node_changed file unsettled)) none
 
-edges-same : (id file : ℕ) (backing : Option ℕ) (edges : List Edge) → node_edges id file backing edges ≡ format_edges id file backing edges
+edges-same : (id file : ℕ) (backing : Option ℕ) (edges : List Edge) → format_edges id file backing edges ≡ with_format_edges id file backing edges
 edges-same id file None edges = refl
 edges-same id file (Some over) edges = refl
 
 -- ---- a `file` node
 
-module _ (t : Table) (nodes : Nodes) (alike : AreNodesOf t nodes) (joined : IsJoined nodes) (row : NodeRecord) (own : Row)
-    (fresh : node_at t row.id ≡ None) (after : Nodes) (joined' : IsJoined after) (is_row : IsRowOf row own)
+module _ (t : RunTable) (nodes : Nodes) (alike : AreNodesOf t nodes) (joined : IsJoined nodes) (row : NodeRecord) (own : Row)
+    (fresh : node_by_id t row.id ≡ None) (after : Nodes) (joined' : IsJoined after) (is_row : IsRowOf row own)
     (graph_nodes : after.graph.nodes ≡ nodes.graph.nodes ++ record { id = row.id; name = row.name } ∷ [])
     (graph_rows : after.rows ≡ set nodes.rows row.id (Some own)) (graph_edges : after.graph.edges ≡ nodes.graph.edges) where
   -- edges that stay are as those into their parents say already
@@ -85,15 +85,15 @@ module _ (t : Table) (nodes : Nodes) (alike : AreNodesOf t nodes) (joined : IsJo
       (graph_edges ∙ alike.edges ∙ sym still)
 
 -- the new node stands for its file
-pub filed-filename : (t : Table) (row : NodeRecord) (filename : List ℕ) → node_at t row.id ≡ None → row.filename ≡ Some filename
+pub filed-filename : (t : RunTable) (row : NodeRecord) (filename : List ℕ) → node_by_id t row.id ≡ None → row.filename ≡ Some filename
     → filename_of (changed t (AddFile row)) row.id ≡ Some filename
 unfolding changed
 filed-filename t row filename fresh named =
     ap (option_and_then (λ (r : NodeRecord). r.filename)) (found-new (λ (r : NodeRecord). r.id == row.id) t.nodes row fresh (eq-eqb row.id row.id refl)) ∙ named
 
 -- a node that holds a device isn't new
-pub held-other : (t : Table) (nodes : Nodes) (opened : List Opened) (new : ℕ) → AreOut t nodes opened → node_at t new ≡ None
-    → (held : DeviceState) → Contains nodes.devices held → held.node ≢ new
+pub held-other : (t : RunTable) (nodes : Nodes) (opened : List Opened) (new : ℕ) → AreOut t nodes opened → node_by_id t new ≡ None
+    → (held : DeviceSeen) → Contains nodes.devices held → held.node ≢ new
 held-other t nodes opened new out fresh held there = λ same.
     let is = out.each held there in
     let none : filename_of t new ≡ None = ap (option_and_then (λ (r : NodeRecord). r.filename)) fresh in
@@ -102,30 +102,30 @@ held-other t nodes opened new out fresh held there = λ same.
 
 -- ---- a node over others
 
-module _ (t : Table) (nodes : Nodes) (alike : AreNodesOf t nodes) (joined : IsJoined nodes) (row : NodeRecord) (own : Row)
-    (fresh : node_at t row.id ≡ None) (after : Nodes) (joined' : IsJoined after) (is_row : IsRowOf row own)
+module _ (t : RunTable) (nodes : Nodes) (alike : AreNodesOf t nodes) (joined : IsJoined nodes) (row : NodeRecord) (own : Row)
+    (fresh : node_by_id t row.id ≡ None) (after : Nodes) (joined' : IsJoined after) (is_row : IsRowOf row own)
     (graph_nodes : after.graph.nodes ≡ nodes.graph.nodes ++ record { id = row.id; name = row.name } ∷ [])
     (graph_rows : after.rows ≡ set nodes.rows row.id (Some own)) (child : ℕ) (backing : Option ℕ)
-    (graph_edges : after.graph.edges ≡ refreshed after.graph.kinds (node_edges row.id child backing nodes.graph.edges)) where
-  drawn : after.graph.edges ≡ refreshed after.graph.kinds (format_edges row.id child backing t.edges)
+    (graph_edges : after.graph.edges ≡ refreshed after.graph.kinds (format_edges row.id child backing nodes.graph.edges)) where
+  drawn : after.graph.edges ≡ refreshed after.graph.kinds (with_format_edges row.id child backing t.edges)
   drawn =
       graph_edges
-      ∙ ap (refreshed after.graph.kinds) (edges-same row.id child backing nodes.graph.edges ∙ ap (format_edges row.id child backing) alike.edges)
+      ∙ ap (refreshed after.graph.kinds) (edges-same row.id child backing nodes.graph.edges ∙ ap (with_format_edges row.id child backing) alike.edges)
 
   pub alike-formatted : AreNodesOf (changed t (AddFormat row child backing)) after
   unfolding changed
   alike-formatted =
       alike-added t (changed t (AddFormat row child backing)) nodes after joined joined' row own is_row (with_unsettled child t.nodes)
-      (format_edges row.id child backing t.edges) (names-unsettled child t.nodes) alike
+      (with_format_edges row.id child backing t.edges) (names-unsettled child t.nodes) alike
       (λ id. subst (λ (found : Option NodeRecord). AreAlike found (row_at nodes id)) (sym (find-unsettled child id t.nodes))
-      (alike-unsettled child (node_at t id) (row_at nodes id) (alike.rows id)))
+      (alike-unsettled child (node_by_id t id) (row_at nodes id) (alike.rows id)))
       (none-unsettled child row.id t.nodes fresh) refl refl graph_nodes graph_rows drawn
 
-module _ (t : Table) (nodes : Nodes) (alike : AreNodesOf t nodes) (joined : IsJoined nodes) (row : NodeRecord) (own : Row)
-    (fresh : node_at t row.id ≡ None) (after : Nodes) (joined' : IsJoined after) (is_row : IsRowOf row own)
+module _ (t : RunTable) (nodes : Nodes) (alike : AreNodesOf t nodes) (joined : IsJoined nodes) (row : NodeRecord) (own : Row)
+    (fresh : node_by_id t row.id ≡ None) (after : Nodes) (joined' : IsJoined after) (is_row : IsRowOf row own)
     (graph_nodes : after.graph.nodes ≡ nodes.graph.nodes ++ record { id = row.id; name = row.name } ∷ [])
     (graph_rows : after.rows ≡ set nodes.rows row.id (Some own)) (child : ℕ)
-    (graph_edges : after.graph.edges ≡ refreshed after.graph.kinds (node_edges row.id child None nodes.graph.edges)) where
+    (graph_edges : after.graph.edges ≡ refreshed after.graph.kinds (format_edges row.id child None nodes.graph.edges)) where
   pub alike-filtered : AreNodesOf (changed t (AddFilter row child)) after
   unfolding changed
   alike-filtered =

@@ -6,7 +6,7 @@ use Rattle.blk_graph.proofs.Members.{find-Some}
 use Rattle.q2_format.specs.References.{reach_of}
 use Rattle.q2_format.specs.declared.header.Header.{Header}
 use Rattle.q2_image.specs.Image.{Known}
-use Rattle.blk_nodes.specs.Nodes.{DeviceState, Nodes, device_in}
+use Rattle.blk_nodes.specs.Nodes.{DeviceSeen, Nodes, device_in}
 use Rattle.blk_nodes.specs.Overlays.{IsOpened, backing_size, backing_stop}
 use Rattle.blk_nodes.specs.Reading.{HasRisen, HaveRisen}
 use Rattle.blk_nodes.specs.declared.stop.AddStop.TheVariants as stops
@@ -17,12 +17,12 @@ use Rattle.qmp_codec.specs.declared.nodes.Backing.{Backing as Said}
 use Rattle.qmp_codec.specs.declared.nodes.Backing.TheVariants as said
 use Rattle.qmp_codec.specs.declared.nodes.FileRef.TheVariants as file_ref
 use Rattle.qmp_codec.specs.declared.nodes.InlineFile.{InlineFile}
-use Rattle.qmp_rules.specs.Answers.{refusal_of}
+use Rattle.qmp_rules.specs.Answers.{refusal_to}
 use Rattle.qmp_rules.specs.Asks.{file_node, holds, if_there}
-use Rattle.qmp_rules.specs.Looks.{image_stop, is_free_file, stop_at, too_long}
+use Rattle.qmp_rules.specs.Looks.{unfit_image, is_free_file, stop_at, too_long}
 use Rattle.qmp_asks.specs.NodeAsks.{add_asks, backing_name}
 use Rattle.qmp_rules.specs.Refusals.{refused}
-use Rattle.qmp_rules.specs.Table.{Table, first_into, node_at, node_named}
+use Rattle.qmp_rules.specs.Table.{RunTable, first_into, node_by_id, node_named}
 use Rattle.qmp_asks.specs.declared.ask.Ask.TheVariants as ask
 use Rattle.qmp_asks.specs.declared.ask.Drivers.TheVariants as drivers
 use Rattle.qmp_rules.specs.declared.refusal.FileFault.TheVariants.{TooLong}
@@ -44,23 +44,23 @@ use Rattle.world_parts.proofs.AddTold.{has_look}
 
 -- ---- devices of which counts have risen
 
-pub opened-risen : (old new : List DeviceState) → HaveRisen old new → (file : ℕ) (d : DeviceState) → device_in old file ≡ Some d
-    → (e : DeviceState) × (device_in new file ≡ Some e) × HasRisen d e
+pub opened-risen : (old new : List DeviceSeen) → HaveRisen old new → (file : ℕ) (d : DeviceSeen) → device_in old file ≡ Some d
+    → (e : DeviceSeen) × (device_in new file ≡ Some e) × HasRisen d e
 opened-risen [] [] risen file d is = absurd (let bad : ⊥ = cc is in bad)
 opened-risen [] (b ∷ new) risen file d is = absurd risen
 opened-risen (a ∷ old) [] risen file d is = absurd risen
 opened-risen (a ∷ old) (b ∷ new) risen file d is =
-    let node : b.node ≡ a.node = ap (λ (x : DeviceState). x.node) risen.0.same in
-    subst (λ (n : ℕ). (e : DeviceState) × ((if n == file then Some b else device_in new file) ≡ Some e) × HasRisen d e) (sym node)
+    let node : b.node ≡ a.node = ap (λ (x : DeviceSeen). x.node) risen.0.same in
+    subst (λ (n : ℕ). (e : DeviceSeen) × ((if n == file then Some b else device_in new file) ≡ Some e) × HasRisen d e) (sym node)
     (by_test (a.node == file) is (opened-risen old new risen.1 file d))
   where
     by_test : (t : Bool) → (if t then Some a else device_in old file) ≡ Some d
-        → (device_in old file ≡ Some d → (e : DeviceState) × (device_in new file ≡ Some e) × HasRisen d e)
-        → (e : DeviceState) × ((if t then Some b else device_in new file) ≡ Some e) × HasRisen d e
-    by_test true here rest = let same : a ≡ d = cc here in (b, refl, subst (λ (x : DeviceState). HasRisen x b) same risen.0)
+        → (device_in old file ≡ Some d → (e : DeviceSeen) × (device_in new file ≡ Some e) × HasRisen d e)
+        → (e : DeviceSeen) × ((if t then Some b else device_in new file) ≡ Some e) × HasRisen d e
+    by_test true here rest = let same : a ≡ d = cc here in (b, refl, subst (λ (x : DeviceSeen). HasRisen x b) same risen.0)
     by_test false behind rest = rest behind
 
-pub image-stays : (old new : List DeviceState) (file : ℕ) (image : Known) → HaveRisen old new → IsOpened old file image → IsOpened new file image
+pub image-stays : (old new : List DeviceSeen) (file : ℕ) (image : Known) → HaveRisen old new → IsOpened old file image → IsOpened new file image
 image-stays old new file image risen opened =
     let now = opened-risen old new risen file opened.device opened.held in
     record {
@@ -68,14 +68,14 @@ image-stays old new file image risen opened =
       held = now.1;
       on = record {
         opened = opened.on.opened;
-        known = λ bytes told. opened.on.known bytes (sym (ap (λ (d : DeviceState). d.content) now.2.same) ∙ told);
-        reach = opened.on.reach ∙ ap (λ (n : ℕ). reach_of image.header n) (sym (ap (λ (d : DeviceState). d.size) now.2.same));
+        known = λ bytes told. opened.on.known bytes (sym (ap (λ (d : DeviceSeen). d.content) now.2.same) ∙ told);
+        reach = opened.on.reach ∙ ap (λ (n : ℕ). reach_of image.header n) (sym (ap (λ (d : DeviceSeen). d.size) now.2.same));
       };
     }
 
 -- ---- what an image tells against which nothing stands
 
-module _ (t : Table) (told : Told) (c : Adding) (none : refusal_of t told (command.BlockdevAdd c) ≡ None) (qcow2 : AddQcow2 (List ℕ))
+module _ (t : RunTable) (told : Told) (c : Adding) (none : refusal_to t told (command.BlockdevAdd c) ≡ None) (qcow2 : AddQcow2 (List ℕ))
     (e : c.driver ≡ added.Qcow2 qcow2) where
   abbrev names-other : Header → Bool
   names-other header = is_some header.name && is_none qcow2.backing
@@ -97,7 +97,7 @@ module _ (t : Table) (told : Told) (c : Adding) (none : refusal_of t told (comma
       by_ref (file_ref.Name name) f = (rw (e, f) refl, rw (e, f) refl)
       by_ref (file_ref.Inline file) f = (rw (e, f) refl, rw (e, f) refl)
 
-  pub image-quiet : (header : Header) → told.stopped ≡ image_stop t c.node_name qcow2 (opened_sight header)
+  pub image-quiet : (header : Header) → told.stopped ≡ unfit_image t c.node_name qcow2 (opened_sight header)
       → (names-other header ≡ false) × (sizes-of header ≡ None)
   image-quiet header stops = quiet-by has-both.0 has-both.1 (names-other header) (sizes-of header) stops
 
@@ -114,7 +114,7 @@ module _ (t : Table) (told : Told) (c : Adding) (none : refusal_of t told (comma
     fits-by (Some said.Null) is found = refl
     fits-by (Some (said.Name name)) is found =
         let row = found-named t told name found in
-        let there : node_at t row.0.id ≡ Some row.0 = apart row.0 (find-Some (λ (r : NodeRecord). bytes_eq r.name name) t.nodes row.0 row.1).0 in
+        let there : node_by_id t row.0.id ≡ Some row.0 = apart row.0 (find-Some (λ (r : NodeRecord). bytes_eq r.name name) t.nodes row.0 row.1).0 in
         let size = size-alike t nodes row.0.id row.0 alike there in
         let sized : (row.0.size == image.header.size) ≡ true = not-false _ (not-refused _ _ (rw (is, row.1) at quiet.1)) in
         rw (row.1, size, sized) refl
@@ -125,7 +125,7 @@ module _ (t : Table) (told : Told) (c : Adding) (none : refusal_of t told (comma
 
 -- ---- the image of a `file` node
 
-module _ (t : Table) (told : Told) (c : Adding) (none : refusal_of t told (command.BlockdevAdd c) ≡ None) (qcow2 : AddQcow2 (List ℕ)) (file : List ℕ)
+module _ (t : RunTable) (told : Told) (c : Adding) (none : refusal_to t told (command.BlockdevAdd c) ≡ None) (qcow2 : AddQcow2 (List ℕ)) (file : List ℕ)
     (e : c.driver ≡ added.Qcow2 qcow2) (f : qcow2.file ≡ file_ref.Name file) where
   free-asked : (row : NodeRecord) → node_named t file ≡ Some row → is_free_file t file ≡ true
   free-asked row found =
@@ -140,10 +140,10 @@ module _ (t : Table) (told : Told) (c : Adding) (none : refusal_of t told (comma
   image-there old new (Some open_image) looks = (open_image, refl, looks)
   image-there old new None (inl past) = by_away past.away
     where
-      by_away : (refusal_of t (probe look.Image) (command.BlockdevAdd c) ≢ Some refusal.Aborted) ⊎ (is_free_file t file ≡ false)
+      by_away : (refusal_to t (probe look.Image) (command.BlockdevAdd c) ≢ Some refusal.Aborted) ⊎ (is_free_file t file ≡ false)
           → (open_image : Known) × (None ≡ Some open_image) × LooksWell t c.node_name file qcow2 old new open_image told
       by_away (inl not) =
-          let same : refusal_of t told (command.BlockdevAdd c) ≡ refusal_of t (probe look.Image) (command.BlockdevAdd c) =
+          let same : refusal_to t told (command.BlockdevAdd c) ≡ refusal_to t (probe look.Image) (command.BlockdevAdd c) =
           unreached-refused t look.Image c (looks-named c qcow2 file e f) not told in
           absurd (stop-refused t (probe look.Image) look.Image refusal.Aborted c refl (has-named c qcow2 file e f) (sym same ∙ none))
       by_away (inr taken) =
@@ -161,7 +161,7 @@ long-stopped : (name : List ℕ) (b : Bool) (stopped : Stopped) → stop_at look
 long-stopped name false stopped is = absurd (cc is)
 long-stopped name true stopped is = cc (sym is)
 
-module _ (t : Table) (told : Told) (c : Adding) (none : refusal_of t told (command.BlockdevAdd c) ≡ None) (qcow2 : AddQcow2 (List ℕ))
+module _ (t : RunTable) (told : Told) (c : Adding) (none : refusal_to t told (command.BlockdevAdd c) ≡ None) (qcow2 : AddQcow2 (List ℕ))
     (file : InlineFile (List ℕ)) (e : c.driver ≡ added.Qcow2 qcow2) (f : qcow2.file ≡ file_ref.Inline file) where
   pub image-inside : (filename : List ℕ) (first now : Taken) (image : Option Known) → TellsInside t c.node_name filename qcow2 first now image told
       → (open_image : Known) × (image ≡ Some open_image) × TellsAddedImage t c.node_name filename qcow2 first now open_image told

@@ -4,11 +4,11 @@ use Rattle.std.specs.Prelude.{bytes_eq, codes, find, not, unwrap_or}
 use Rattle.std.proofs.lemmas.Bool.{eq-eqb, false≢true}
 use Rattle.std.proofs.lemmas.List.{length-append, map-append}
 use Rattle.blk_graph.specs.declared.kind.NodeKind.{NodeKind}
-use Rattle.blk_graph.specs.Graph.{ids as ids_in}
+use Rattle.blk_graph.specs.Graph.{ids}
 use Rattle.blk_graph.specs.Ids.{lowest_free}
 use Rattle.blk_graph.specs.Refreshed.{refreshed}
 use Rattle.blk_nodes.specs.Joined.{IsFile, IsJoined}
-use Rattle.blk_nodes.specs.Nodes.{Nodes, size_of}
+use Rattle.blk_nodes.specs.Nodes.{Nodes, node_size}
 use Rattle.blk_nodes.specs.Overlays.{HasRoomForNode}
 use Rattle.blk_nodes.specs.declared.row.Driver.TheVariants as driver
 use Rattle.blk_nodes.specs.declared.row.Row.{Row}
@@ -18,8 +18,8 @@ use Rattle.qmp_rules.specs.Changes.{changed}
 use Rattle.qmp_rules.specs.Edits.{free_id, inline_row, length_told, next_free_id}
 use Rattle.qmp_asks.specs.Naming.{inline_name}
 use Rattle.qmp_asks.specs.NodeAsks.{is_read_only}
-use Rattle.qmp_rules.specs.Answers.{untold}
-use Rattle.qmp_rules.specs.Table.{Table, kind_in, kinds_from, kinds_of, node_at, node_named}
+use Rattle.qmp_rules.specs.Answers.{told_none}
+use Rattle.qmp_rules.specs.Table.{RunTable, kind_of_record, kinds_from, kinds_of, node_by_id, node_named}
 use Rattle.qmp_asks.specs.Values.{most_length}
 use Rattle.qmp_asks.specs.declared.ask.Ask.TheVariants as ask
 use Rattle.qmp_rules.specs.declared.change.Change.TheVariants.{AddFile}
@@ -47,12 +47,12 @@ pub ids-last : (rows : List NodeRecord) (a b : NodeRecord) → a.id ≡ b.id →
 ids-last [] a b same = ap (λ (n : ℕ). n ∷ []) same
 ids-last (row ∷ rows) a b same = ap (λ (l : List ℕ). row.id ∷ l) (ids-last rows a b same)
 
-kinds-from-last : (rows : List NodeRecord) (a b : NodeRecord) (kinds : List NodeKind) → a.id ≡ b.id → kind_in a ≡ kind_in b
+kinds-from-last : (rows : List NodeRecord) (a b : NodeRecord) (kinds : List NodeKind) → a.id ≡ b.id → kind_of_record a ≡ kind_of_record b
     → kinds_from kinds (rows ++ a ∷ []) ≡ kinds_from kinds (rows ++ b ∷ [])
 kinds-from-last [] a b kinds same kind = rw (same, kind) refl
-kinds-from-last (row ∷ rows) a b kinds same kind = kinds-from-last rows a b (set kinds row.id (kind_in row)) same kind
+kinds-from-last (row ∷ rows) a b kinds same kind = kinds-from-last rows a b (set kinds row.id (kind_of_record row)) same kind
 
-pub kinds-last : (rows : List NodeRecord) (a b : NodeRecord) → a.id ≡ b.id → kind_in a ≡ kind_in b → kinds_of (rows ++ a ∷ []) ≡ kinds_of (rows ++ b ∷ [])
+pub kinds-last : (rows : List NodeRecord) (a b : NodeRecord) → a.id ≡ b.id → kind_of_record a ≡ kind_of_record b → kinds_of (rows ++ a ∷ []) ≡ kinds_of (rows ++ b ∷ [])
 kinds-last rows a b same kind = kinds-from-last rows a b _ same kind
 
 -- ---- names
@@ -67,7 +67,7 @@ none-last p (row ∷ rows) new none not = by_test (p row) none (none-last p rows
     by_test false none rest = rest none not
 
 -- the name of such a `file` node is another than that of the node over it
-pub inline-apart : (t : Table) (told : Told) (name : List ℕ) (own : Option (List ℕ)) → holds t told (ask.Apart name own) ≡ None
+pub inline-apart : (t : RunTable) (told : Told) (name : List ℕ) (own : Option (List ℕ)) → holds t told (ask.Apart name own) ≡ None
     → bytes_eq (inline_name name own) name ≡ false
 unfolding holds
 inline-apart t told name None apart = by_test (bytes_eq (codes "#" ++ name) name) refl
@@ -94,16 +94,16 @@ inline-apart t told name (Some own) apart = by_test (bytes_eq own name) refl
 
 -- ---- the `file` node is there
 
-module _ (t : Table) (nodes : Nodes) (alike : AreNodesOf t nodes) (joined : IsJoined nodes) (told : Told) (c : Adding) (file : InlineFile (List ℕ))
+module _ (t : RunTable) (nodes : Nodes) (alike : AreNodesOf t nodes) (joined : IsJoined nodes) (told : Told) (c : Adding) (file : InlineFile (List ℕ))
     (device : Taken) (between : Nodes) (node : ℕ) (has : HasInline c file device nodes between node) (room : length t.nodes + 2 ≤ 64)
     (length-is : TellsShort told device.size) where
   abbrev pub row : NodeRecord
   row = inline_row t told c.node_name file
 
   abbrev pub unsized : NodeRecord
-  unsized = inline_row t untold c.node_name file
+  unsized = inline_row t told_none c.node_name file
 
-  abbrev pub t1 : Table
+  abbrev pub t1 : RunTable
   t1 = changed t (AddFile row)
 
   abbrev own : Row
@@ -113,7 +113,7 @@ module _ (t : Table) (nodes : Nodes) (alike : AreNodesOf t nodes) (joined : IsJo
   few = omega (arith, room)
 
   pub node-is : free_id t ≡ node
-  node-is = lowest-same (ids_in nodes.graph) (free_id t) node (free-lowest t nodes alike joined few) has.lowest
+  node-is = lowest-same (ids nodes.graph) (free_id t) node (free-lowest t nodes alike joined few) has.lowest
 
   has' : HasInline c file device nodes between (free_id t)
   has' = subst (HasInline c file device nodes between) (sym node-is) has
@@ -141,7 +141,7 @@ module _ (t : Table) (nodes : Nodes) (alike : AreNodesOf t nodes) (joined : IsJo
   unfolding changed
   edges-then = refl
 
-  pub row-then : node_at t1 (free_id t) ≡ Some row
+  pub row-then : node_by_id t1 (free_id t) ≡ Some row
   row-then =
       ap (find (λ (r : NodeRecord). r.id == free_id t)) rows-then
       ∙ found-new (λ (r : NodeRecord). r.id == free_id t) t.nodes row (free_fresh t (omega (arith, room))) (eq-eqb (free_id t) (free_id t) refl)
@@ -154,8 +154,8 @@ module _ (t : Table) (nodes : Nodes) (alike : AreNodesOf t nodes) (joined : IsJo
   pub file-then : IsFile between node
   file-then = subst (IsFile between) node-is (file-of t1 between (free_id t) row alike-then row-then refl)
 
-  pub size-then : size_of between node ≡ device.size
-  size-then = ap (size_of between) (sym node-is) ∙ size-alike t1 between (free_id t) row alike-then row-then ∙ size-is
+  pub size-then : node_size between node ≡ device.size
+  size-then = ap (node_size between) (sym node-is) ∙ size-alike t1 between (free_id t) row alike-then row-then ∙ size-is
 
   pub apart-then : AreApart t1
   apart-then = apart-of t1 between alike-then.listed has.joined

@@ -5,7 +5,7 @@ use Rattle.blk_base.specs.Files.{is_out}
 use Rattle.blk_base.proofs.Openings.{out-opened}
 use Rattle.blk_graph.proofs.Members.{find-Some}
 use Rattle.blk_nodes.specs.Joined.{IsFile}
-use Rattle.blk_nodes.specs.Nodes.{DeviceState, Nodes, row_at}
+use Rattle.blk_nodes.specs.Nodes.{DeviceSeen, Nodes, row_at}
 use Rattle.blk_nodes.specs.Reading.{HaveRisen}
 use Rattle.q2_image.specs.Image.{Known}
 use Rattle.qmp_codec.specs.declared.nodes.AddQcow2.{AddQcow2}
@@ -15,7 +15,7 @@ use Rattle.qmp_codec.specs.declared.nodes.Added.TheVariants as added
 use Rattle.qmp_codec.specs.declared.nodes.FileRef.{FileRef}
 use Rattle.qmp_codec.specs.declared.nodes.FileRef.TheVariants as file_ref
 use Rattle.qmp_rules.specs.Asks.{is_file}
-use Rattle.qmp_rules.specs.Table.{Table, node_at, node_named}
+use Rattle.qmp_rules.specs.Table.{RunTable, node_by_id, node_named}
 use Rattle.qmp_rules.specs.declared.rows.NodeRecord.{NodeRecord}
 use Rattle.qmp_asks.specs.declared.look.Look.TheVariants as look
 use Rattle.qmp_rules.specs.declared.told.Told.{Told}
@@ -40,7 +40,7 @@ if-ok (Err e) P Q f h = tt
 
 -- ---- nothing was called
 
-risen-itself : (devices : List DeviceState) → HaveRisen devices devices
+risen-itself : (devices : List DeviceSeen) → HaveRisen devices devices
 risen-itself [] = tt
 risen-itself (d ∷ devices) = (record { same = refl; faults = omega arith }, risen-itself devices)
 
@@ -53,7 +53,7 @@ pub taken-is-out : (old new : StoreInRun) (name : List ℕ) (device : Taken) →
 taken-is-out old new name device out =
     ap (λ (s : StoreInRun). is_out name s.opened) out.kept ∙ out-opened name old.opened device.size device.capacity device.faults
 
-module _ (t : Table) (c : Adding) (told : Told) (old new : StoreInRun) (image : Option Known) where
+module _ (t : RunTable) (c : Adding) (told : Told) (old new : StoreInRun) (image : Option Known) where
   out-at : (at : Opens) (out : Option Taken) → Looks t c at old new out image told → (device : Taken) → out ≡ Some device → is_out at.filename new.opened ≡ true
   out-at at out (inl away) device is = let bad : None ≡ Some device = sym away.1 ∙ is in absurd (cc bad)
   out-at at None (inr looks) device is = absurd (cc is)
@@ -64,7 +64,7 @@ out-by : (driver : Added (List ℕ)) (store : StoreInRun) (out : Option Taken) �
 out-by driver store None is = tt
 out-by driver store (Some device) is = is device refl
 
-module _ (t : Table) (c : Adding) (told : Told) (old new : Site) (out : Option Taken) (image : Option Known) where
+module _ (t : RunTable) (c : Adding) (told : Told) (old new : Site) (out : Option Taken) (image : Option Known) where
   none-out : (driver : Added (List ℕ)) → out ≡ None → IsOutForAddition driver out new.store
   none-out driver none = subst (λ (o : Option Taken). IsOutForAddition driver o new.store) (sym none) tt
 
@@ -99,7 +99,7 @@ module _ (t : Table) (c : Adding) (told : Told) (old new : Site) (out : Option T
   called-alike called alike = record {
     listed = ap (λ (n : Nodes). n.graph.nodes) called.kept ∙ alike.listed;
     edges = ap (λ (n : Nodes). n.graph.edges) called.kept ∙ alike.edges;
-    rows = λ id. subst (λ (n : Nodes). AreAlike (node_at t id) (row_at n id)) (sym called.kept) (alike.rows id);
+    rows = λ id. subst (λ (n : Nodes). AreAlike (node_by_id t id) (row_at n id)) (sym called.kept) (alike.rows id);
   }
 
   same-alike : new.nodes ≡ old.nodes → AreNodesOf t old.nodes → AreNodesOf t new.nodes
@@ -126,14 +126,14 @@ module _ (t : Table) (c : Adding) (told : Told) (old new : Site) (out : Option T
 
 -- ---- `file` nodes of the table are over devices
 
-pub have-files : (t : Table) (nodes : Nodes) → AreNodesOf t nodes → AreApart t → HaveFileNodes t nodes
+pub have-files : (t : RunTable) (nodes : Nodes) → AreNodesOf t nodes → AreApart t → HaveFileNodes t nodes
 have-files t nodes alike apart name row is = by_row (node_named t name) refl is
   where
     by_kind : (found : NodeRecord) (b : Bool) → is_file found ≡ b → node_named t name ≡ Some found → (if b then Some found else None) ≡ Some row → IsFile nodes row.id
     by_kind found false kind there h = absurd (cc h)
     by_kind found true kind there h =
         let same : found ≡ row = cc h in
-        let at : node_at t found.id ≡ Some found = apart found (find-Some (λ (r : NodeRecord). bytes_eq r.name name) t.nodes found there).0 in
+        let at : node_by_id t found.id ≡ Some found = apart found (find-Some (λ (r : NodeRecord). bytes_eq r.name name) t.nodes found there).0 in
         subst (λ (r : NodeRecord). IsFile nodes r.id) same (file-of t nodes found.id found alike at (is_protocol found.kind kind))
 
     by_row : (found : Option NodeRecord) → node_named t name ≡ found

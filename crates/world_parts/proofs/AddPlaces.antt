@@ -15,14 +15,14 @@ use Rattle.blk_graph.proofs.IdLemmas.{lowest_free-is}
 use Rattle.blk_graph.proofs.Members.{Contains-cases, Contains-here, Contains-nil, Contains-there}
 use Rattle.blk_nodes.specs.Adding.{IsAllowed}
 use Rattle.blk_nodes.specs.Joined.{IsFile, IsJoined}
-use Rattle.blk_nodes.specs.Nodes.{Nodes, kind_of, row_at}
+use Rattle.blk_nodes.specs.Nodes.{Nodes, driver_kind, row_at}
 use Rattle.blk_nodes.specs.Overlays.{HasRoomForNode}
 use Rattle.blk_nodes.specs.declared.row.Driver.{Driver}
 use Rattle.blk_nodes.specs.declared.row.Driver.TheVariants as drivers
 use Rattle.blk_nodes.specs.declared.row.Row.{Row}
 use Rattle.qmp_rules.specs.Changes.{unsettled, with_unsettled}
 use Rattle.qmp_rules.specs.Edits.{free_id}
-use Rattle.qmp_rules.specs.Table.{Table, kind_in, kinds_from, kinds_of, node_at, node_named}
+use Rattle.qmp_rules.specs.Table.{RunTable, kind_of_record, kinds_from, kinds_of, node_by_id, node_named}
 use Rattle.qmp_rules.specs.declared.rows.NodeRecord.{NodeRecord}
 use Rattle.flat_machine.proofs.Finds.{bytes_eq-same}
 use Rattle.flat_machine.proofs.Fresh.{lowest_free-free}
@@ -53,7 +53,7 @@ not-named (row ∷ rows) name none has =
     not-head row rows name (bytes_eq row.name name) refl none (Contains-cases row.name (map (λ (r : NodeRecord). r.name) rows) name has)
     (λ later there. not-named rows name later there)
 
-pub place-of : (t : Table) (nodes : Nodes) (name : List ℕ) (more : ℕ) → AreNodesOf t nodes → node_named t name ≡ None → 0 < more
+pub place-of : (t : RunTable) (nodes : Nodes) (name : List ℕ) (more : ℕ) → AreNodesOf t nodes → node_named t name ≡ None → 0 < more
     → length t.nodes + more ≤ 64 → HasRoomForNode nodes name
 place-of t nodes name more alike none some room = record {
   free = λ has.
@@ -112,7 +112,7 @@ lowest-free taken few = record {
   lowest = lowest-below taken;
 }
 
-module _ (t : Table) (nodes : Nodes) (alike : AreNodesOf t nodes) (joined : IsJoined nodes) (room : length t.nodes < 64) where
+module _ (t : RunTable) (nodes : Nodes) (alike : AreNodesOf t nodes) (joined : IsJoined nodes) (room : length t.nodes < 64) where
   same_ids : ids nodes.graph ≡ map id_of t.nodes
   same_ids = ids-alike t nodes alike.listed
 
@@ -131,24 +131,24 @@ alike-row : (own : Option Row) (row : NodeRecord) → AreAlike (Some row) own �
 alike-row None row is = absurd is
 alike-row (Some r) row is = (r, refl, is)
 
-pub row-of : (t : Table) (nodes : Nodes) (id : ℕ) (row : NodeRecord) → AreNodesOf t nodes → node_at t id ≡ Some row
+pub row-of : (t : RunTable) (nodes : Nodes) (id : ℕ) (row : NodeRecord) → AreNodesOf t nodes → node_by_id t id ≡ Some row
     → (own : Row) × (row_at nodes id ≡ Some own) × IsRowOf row own
 row-of t nodes id row alike there =
     alike-row (row_at nodes id) row (subst (λ (found : Option NodeRecord). AreAlike found (row_at nodes id)) there (alike.rows id))
 
-is-file-driver : (driver : Driver) → kind_of driver ≡ Protocol → driver ≡ drivers.File
+is-file-driver : (driver : Driver) → driver_kind driver ≡ Protocol → driver ≡ drivers.File
 is-file-driver drivers.File is = refl
 is-file-driver (drivers.Raw part) is = absurd (cc is)
 is-file-driver (drivers.Qcow2 image) is = absurd (cc is)
 is-file-driver drivers.CopyOnRead is = absurd (cc is)
 
-pub file-of : (t : Table) (nodes : Nodes) (id : ℕ) (row : NodeRecord) → AreNodesOf t nodes → node_at t id ≡ Some row → row.kind ≡ Protocol
+pub file-of : (t : RunTable) (nodes : Nodes) (id : ℕ) (row : NodeRecord) → AreNodesOf t nodes → node_by_id t id ≡ Some row → row.kind ≡ Protocol
     → IsFile nodes id
 file-of t nodes id row alike there kind =
     let own = row-of t nodes id row alike there in
     record { row = own.0; there = own.1; driver = is-file-driver own.0.driver (sym own.2.kind ∙ kind) }
 
-pub node-of : (t : Table) (nodes : Nodes) (id : ℕ) (row : NodeRecord) → AreNodesOf t nodes → IsJoined nodes → node_at t id ≡ Some row → HasNode nodes.graph id
+pub node-of : (t : RunTable) (nodes : Nodes) (id : ℕ) (row : NodeRecord) → AreNodesOf t nodes → IsJoined nodes → node_by_id t id ≡ Some row → HasNode nodes.graph id
 node-of t nodes id row alike joined there =
     let own = row-of t nodes id row alike there in
     joined.only id (subst IsSome (sym own.1) refl)
@@ -156,15 +156,15 @@ node-of t nodes id row alike joined there =
 -- ---- kinds of one row more
 
 kinds-push : (rows : List NodeRecord) (new : NodeRecord) (kinds : List NodeKind)
-    → kinds_from kinds (rows ++ new ∷ []) ≡ set (kinds_from kinds rows) new.id (kind_in new)
+    → kinds_from kinds (rows ++ new ∷ []) ≡ set (kinds_from kinds rows) new.id (kind_of_record new)
 kinds-push [] new kinds = refl
-kinds-push (row ∷ rows) new kinds = kinds-push rows new (set kinds row.id (kind_in row))
+kinds-push (row ∷ rows) new kinds = kinds-push rows new (set kinds row.id (kind_of_record row))
 
 kinds-head : (row : NodeRecord) (rows more : List NodeRecord) (kinds : List NodeKind) (b : Bool)
     → ((k : List NodeKind) → kinds_from k more ≡ kinds_from k rows)
-    → kinds_from (set kinds (cond b (unsettled row) row).id (kind_in (cond b (unsettled row) row))) more ≡ kinds_from (set kinds row.id (kind_in row)) rows
-kinds-head row rows more kinds true rest = rest (set kinds row.id (kind_in row))
-kinds-head row rows more kinds false rest = rest (set kinds row.id (kind_in row))
+    → kinds_from (set kinds (cond b (unsettled row) row).id (kind_of_record (cond b (unsettled row) row))) more ≡ kinds_from (set kinds row.id (kind_of_record row)) rows
+kinds-head row rows more kinds true rest = rest (set kinds row.id (kind_of_record row))
+kinds-head row rows more kinds false rest = rest (set kinds row.id (kind_of_record row))
 
 kinds-unsettled : (id : ℕ) (rows : List NodeRecord) (kinds : List NodeKind) → kinds_from kinds (with_unsettled id rows) ≡ kinds_from kinds rows
 kinds-unsettled id [] kinds = refl
@@ -180,7 +180,7 @@ ids-unsettled id (row ∷ rows) = ids-head row (map id_of rows) (map id_of (with
 
 -- ---- the permission rule
 
-module _ (t : Table) (nodes : Nodes) (alike : AreNodesOf t nodes) (joined : IsJoined nodes) (room : length t.nodes < 64)
+module _ (t : RunTable) (nodes : Nodes) (alike : AreNodesOf t nodes) (joined : IsJoined nodes) (room : length t.nodes < 64)
     (rows : List NodeRecord) (same_ids' : map id_of rows ≡ map id_of t.nodes) (same_kinds : kinds_of rows ≡ kinds_of t.nodes)
     (new : NodeRecord) (is : new.id ≡ free_id t) (edges : ℕ → List Edge → List Edge)
     (none : first_conflict (map id_of (rows ++ new ∷ [])) (refreshed (kinds_of (rows ++ new ∷ [])) (edges new.id t.edges)) ≡ None) where
@@ -189,17 +189,17 @@ module _ (t : Table) (nodes : Nodes) (alike : AreNodesOf t nodes) (joined : IsJo
       map-append id_of rows (new ∷ [])
       ∙ ap (λ (l : List ℕ). l ++ new.id ∷ []) (same_ids' ∙ sym (ids-alike t nodes alike.listed))
 
-  all_kinds : kinds_of (rows ++ new ∷ []) ≡ set nodes.graph.kinds new.id (kind_in new)
+  all_kinds : kinds_of (rows ++ new ∷ []) ≡ set nodes.graph.kinds new.id (kind_of_record new)
   all_kinds =
       kinds-push rows new (replicate 64 no_kind)
-      ∙ ap (λ (k : List NodeKind). set k new.id (kind_in new)) (same_kinds ∙ kinds_alike t nodes joined (apart-of t nodes alike.listed joined) alike.rows)
+      ∙ ap (λ (k : List NodeKind). set k new.id (kind_of_record new)) (same_kinds ∙ kinds_alike t nodes joined (apart-of t nodes alike.listed joined) alike.rows)
 
-  pub allowed-of : IsAllowed nodes (kind_in new) edges
+  pub allowed-of : IsAllowed nodes (kind_of_record new) edges
   allowed-of = record {
     id = new.id;
     lowest = subst (IsLowestFree (ids nodes.graph)) (sym is) (free-lowest t nodes alike joined room);
     first =
-        ap (λ (l : List ℕ). first_conflict l (refreshed (set nodes.graph.kinds new.id (kind_in new)) (edges new.id nodes.graph.edges))) (sym all_ids)
+        ap (λ (l : List ℕ). first_conflict l (refreshed (set nodes.graph.kinds new.id (kind_of_record new)) (edges new.id nodes.graph.edges))) (sym all_ids)
         ∙ ap (λ (k : List NodeKind). first_conflict (map id_of (rows ++ new ∷ [])) (refreshed k (edges new.id nodes.graph.edges))) (sym all_kinds)
         ∙ ap (λ (e : List Edge). first_conflict (map id_of (rows ++ new ∷ [])) (refreshed (kinds_of (rows ++ new ∷ [])) (edges new.id e))) alike.edges
         ∙ none;

@@ -10,20 +10,20 @@ use Rattle.blk_graph.specs.Graph.{HasNode}
 use Rattle.blk_graph.proofs.Members.{find-Some}
 use Rattle.blk_nodes.specs.Adding.{file_edge}
 use Rattle.blk_nodes.specs.Joined.{IsJoined}
-use Rattle.blk_nodes.specs.Nodes.{Nodes, size_by, size_of}
-use Rattle.blk_nodes.specs.Overlays.{Asked, backing_node, edges_for, format_edges as format_edges_in}
+use Rattle.blk_nodes.specs.Nodes.{Nodes, size_by, node_size}
+use Rattle.blk_nodes.specs.Overlays.{Asked, backing_node, edges_for, format_edges}
 use Rattle.qmp_codec.specs.declared.command.Command.TheVariants as command
 use Rattle.qmp_codec.specs.declared.nodes.AddRaw.{AddRaw}
 use Rattle.qmp_codec.specs.declared.nodes.Added.TheVariants as added
 use Rattle.qmp_codec.specs.declared.nodes.Backing.{Backing as Said}
 use Rattle.qmp_codec.specs.declared.nodes.Backing.TheVariants as said
 use Rattle.qmp_codec.specs.declared.nodes.FileRef.TheVariants as file_ref
-use Rattle.qmp_rules.specs.Answers.{refusal_of}
+use Rattle.qmp_rules.specs.Answers.{refusal_to}
 use Rattle.qmp_rules.specs.Asks.{holds}
-use Rattle.qmp_rules.specs.Changes.{changed, format_edges, with_unsettled}
-use Rattle.qmp_rules.specs.Edits.{edits_of, format_row, free_id, raw_row}
+use Rattle.qmp_rules.specs.Changes.{changed, with_format_edges, with_unsettled}
+use Rattle.qmp_rules.specs.Edits.{edits_of, format_row, free_id, raw_record}
 use Rattle.qmp_asks.specs.NodeAsks.{backing_name, is_read_only}
-use Rattle.qmp_rules.specs.Table.{Table, id_named, node_at, node_named}
+use Rattle.qmp_rules.specs.Table.{RunTable, id_named, node_by_id, node_named}
 use Rattle.qmp_asks.specs.Values.{most_length}
 use Rattle.qmp_asks.specs.declared.ask.Ask.TheVariants as ask
 use Rattle.qmp_asks.specs.declared.ask.Drivers.TheVariants as drivers
@@ -39,7 +39,7 @@ use Rattle.world_parts.proofs.AddAsked.{all-asked, fresh-node, keeps-rule, part-
 use Rattle.world_parts.proofs.AddPlaces.{allowed-of, file-of, node-of, place-of, row-of, unsettled-ids, unsettled-kinds}
 
 -- the nodes have a row's size
-pub size-alike : (t : Table) (nodes : Nodes) (id : ℕ) (row : NodeRecord) → AreNodesOf t nodes → node_at t id ≡ Some row → size_of nodes id ≡ row.size
+pub size-alike : (t : RunTable) (nodes : Nodes) (id : ℕ) (row : NodeRecord) → AreNodesOf t nodes → node_by_id t id ≡ Some row → node_size nodes id ≡ row.size
 size-alike t nodes id row alike there =
     let own = row-of t nodes id row alike there in
     ap size_by own.1 ∙ sym own.2.size
@@ -50,36 +50,36 @@ backing-named : (found : Option ℕ) → backing_node (backing_at found) ≡ fou
 backing-named None = refl
 backing-named (Some node) = refl
 
-pub backing-same : (t : Table) (b : Option (Said (List ℕ))) → backing_node (backing_for t b) ≡ option_and_then (id_named t) (backing_name b)
+pub backing-same : (t : RunTable) (b : Option (Said (List ℕ))) → backing_node (backing_for t b) ≡ option_and_then (id_named t) (backing_name b)
 backing-same t None = refl
 backing-same t (Some said.Null) = refl
 backing-same t (Some (said.Name name)) = backing-named (id_named t name)
 
 -- it is there, where nothing refuses it
-pub backing-there : (t : Table) (nodes : Nodes) (told : Told) → AreNodesOf t nodes → IsJoined nodes → AreApart t → (name : Option (List ℕ))
+pub backing-there : (t : RunTable) (nodes : Nodes) (told : Told) → AreNodesOf t nodes → IsJoined nodes → AreApart t → (name : Option (List ℕ))
     → holds t told (ask.Found name) ≡ None → IfSome (option_and_then (id_named t) name) (HasNode nodes.graph)
 backing-there t nodes told alike joined apart None found = tt
 backing-there t nodes told alike joined apart (Some name) found =
     let row = found-named t told name found in
     let is : id_named t name ≡ Some row.0.id = ap (option_map (λ (r : NodeRecord). r.id)) row.1 in
-    let there : node_at t row.0.id ≡ Some row.0 = apart row.0 (find-Some (λ (r : NodeRecord). bytes_eq r.name name) t.nodes row.0 row.1).0 in
+    let there : node_by_id t row.0.id ≡ Some row.0 = apart row.0 (find-Some (λ (r : NodeRecord). bytes_eq r.name name) t.nodes row.0 row.1).0 in
     rw is (node-of t nodes row.0.id row.0 alike joined there)
 
 -- ---- edges
 
-node-edges : (id file : ℕ) (backing : Option ℕ) (edges : List Edge) → format_edges_in id file backing edges ≡ format_edges id file backing edges
+node-edges : (id file : ℕ) (backing : Option ℕ) (edges : List Edge) → format_edges id file backing edges ≡ with_format_edges id file backing edges
 node-edges id file None edges = refl
 node-edges id file (Some over) edges = refl
 
 pub same-edges : (asked : Asked) (backing : Option ℕ) → backing_node asked.backing ≡ backing → (id : ℕ) (edges : List Edge)
-    → edges_for asked id edges ≡ format_edges id asked.file backing edges
-same-edges asked backing is id edges = ap (λ (b : Option ℕ). format_edges_in id asked.file b edges) is ∙ node-edges id asked.file backing edges
+    → edges_for asked id edges ≡ with_format_edges id asked.file backing edges
+same-edges asked backing is id edges = ap (λ (b : Option ℕ). format_edges id asked.file b edges) is ∙ node-edges id asked.file backing edges
 
 -- ---- over nodes that are there
 
-module _ (t : Table) (nodes : Nodes) (alike : AreNodesOf t nodes) (joined : IsJoined nodes) (apart : AreApart t) (told : Told) (c : Adding)
-    (none : refusal_of t told (command.BlockdevAdd c) ≡ None) where
-  pub by-name : (name : List ℕ) (row : NodeRecord) → node_named t name ≡ Some row → node_at t row.id ≡ Some row
+module _ (t : RunTable) (nodes : Nodes) (alike : AreNodesOf t nodes) (joined : IsJoined nodes) (apart : AreApart t) (told : Told) (c : Adding)
+    (none : refusal_to t told (command.BlockdevAdd c) ≡ None) where
+  pub by-name : (name : List ℕ) (row : NodeRecord) → node_named t name ≡ Some row → node_by_id t row.id ≡ Some row
   by-name name row found = apart row (find-Some (λ (r : NodeRecord). bytes_eq r.name name) t.nodes row found).0
 
   -- a part of a `file` node
@@ -105,7 +105,7 @@ module _ (t : Table) (nodes : Nodes) (alike : AreNodesOf t nodes) (joined : IsJo
         fits = omega (arith, within, small);
         place = place-of t nodes c.node_name 1 alike (fresh-node t told c.node_name rest.1.0) (omega arith) room;
         allowed = allowed-of t nodes alike joined few (with_unsettled row.id t.nodes) (unsettled-ids row.id t.nodes) (unsettled-kinds row.id t.nodes)
-            (raw_row (free_id t) c.node_name row.size (is_read_only c.options) raw) refl (λ id. with_edge (file_edge id row.id)) joins;
+            (raw_record (free_id t) c.node_name row.size (is_read_only c.options) raw) refl (λ id. with_edge (file_edge id row.id)) joins;
       }
 
   -- a filter

@@ -10,11 +10,11 @@ use Rattle.qmp_codec.specs.declared.nodes.FileRef.TheVariants as file_ref
 use Rattle.qmp_codec.specs.declared.nodes.InlineFile.{InlineFile}
 use Rattle.qmp_asks.specs.declared.look.Look.{Look}
 use Rattle.qmp_asks.specs.declared.look.Look.TheVariants as look
-use Rattle.qmp_rules.specs.Looks.{add_told, absent, file_stop, first_stop, image_stop, is_unopened, raw_stop, told_as}
+use Rattle.qmp_rules.specs.Looks.{add_told, absent_file, file_stop, first_stop, unfit_image, is_unopened, raw_stop, told_record}
 use Rattle.qmp_rules.specs.declared.refusal.Refusal.{Refusal}
 use Rattle.qmp_rules.specs.declared.refusal.Refusal.TheVariants as refusal
 use Rattle.qmp_asks.specs.NodeAsks.{add_asks}
-use Rattle.qmp_rules.specs.Answers.{untold}
+use Rattle.qmp_rules.specs.Answers.{told_none}
 use Rattle.flat_machine.specs.State.{State, Bytes, content_in}
 use Rattle.flat_machine.specs.Sights.{image_sight}
 use Rattle.world_parts.specs.Adding.{Adding, Opens, look_in_vain, opens}
@@ -79,14 +79,14 @@ has-vain c at opener _ = has-as c at opener
 -- ---- what is told of it
 
 module _ (s : State) (c : Adding) (at : Opens) where
-  pub expects-closed : OpensAs c at → is_unopened s.table at.filename ≡ true → expects s c ≡ untold
+  pub expects-closed : OpensAs c at → is_unopened s.table at.filename ≡ true → expects s c ≡ told_none
   unfolding add_told
   expects-closed (AsFile e what) closed = rw (e, closed) refl
   expects-closed (AsPart raw file e f name what) closed = rw (e, f, name, closed) refl
   expects-closed (AsImage image file e f name what) closed = rw (e, f, name, closed) refl
 
   pub expects-absent : OpensAs c at → is_unopened s.table at.filename ≡ false → content_in s.files at.filename ≡ None
-      → expects s c ≡ told_as None None (absent at.filename)
+      → expects s c ≡ told_record None None (absent_file at.filename)
   unfolding add_told
   expects-absent (AsFile e what) free none = rw (e, free, none) refl
   expects-absent (AsPart raw file e f name what) free none = rw (e, f, name, free, none) refl
@@ -94,17 +94,17 @@ module _ (s : State) (c : Adding) (at : Opens) where
 
 module _ (s : State) (c : Adding) (filename bytes : List ℕ) (free : is_unopened s.table filename ≡ false)
     (known : content_in s.files filename ≡ Some (Bytes bytes)) where
-  pub expects-file : c.driver ≡ added.File filename → expects s c ≡ told_as (Some (length bytes)) None (file_stop filename (length bytes))
+  pub expects-file : c.driver ≡ added.File filename → expects s c ≡ told_record (Some (length bytes)) None (file_stop filename (length bytes))
   unfolding add_told
   expects-file e = rw (e, free, known) refl
 
   pub expects-part : (raw : AddRaw (List ℕ)) (file : InlineFile (List ℕ)) → c.driver ≡ added.Raw raw → raw.file ≡ file_ref.Inline file
-      → file.filename ≡ filename → expects s c ≡ told_as (Some (length bytes)) None (raw_stop filename raw (length bytes))
+      → file.filename ≡ filename → expects s c ≡ told_record (Some (length bytes)) None (raw_stop filename raw (length bytes))
   unfolding add_told
   expects-part raw file e f name = rw (e, f, name, free, known) refl
 
   pub expects-image : (image : AddQcow2 (List ℕ)) (file : InlineFile (List ℕ)) → c.driver ≡ added.Qcow2 image → image.file ≡ file_ref.Inline file
-      → file.filename ≡ filename → expects s c ≡ told_as (Some (length bytes)) (Some (header_of bytes).size)
-      (first_stop (file_stop filename (length bytes)) (image_stop s.table c.node_name image (image_sight (Bytes bytes))))
+      → file.filename ≡ filename → expects s c ≡ told_record (Some (length bytes)) (Some (header_of bytes).size)
+      (first_stop (file_stop filename (length bytes)) (unfit_image s.table c.node_name image (image_sight (Bytes bytes))))
   unfolding add_told
   expects-image image file e f name = rw (e, f, name, free, known) refl

@@ -15,11 +15,11 @@ use Rattle.qmp_rules.specs.Table.{file_state}
 use Rattle.qmp_rules.specs.Looks.{is_unopened}
 use Rattle.qmp_rules.specs.Asks.{is_lost, stands_for}
 use Rattle.qmp_asks.specs.NodeAsks.{add_asks}
-use Rattle.qmp_rules.specs.Answers.{answer, refusal_of}
+use Rattle.qmp_rules.specs.Answers.{answer, refusal_to}
 use Rattle.blk_history.specs.Fold.{With}
 use Rattle.flat_machine.specs.State.{State, Content, Bytes, Blank, Unknown, content_in}
 use Rattle.flat_machine.specs.Marking.{dirty_bytes}
-use Rattle.flat_machine.specs.Sights.{IsTold, MayStop, Fails, told_by}
+use Rattle.flat_machine.specs.Sights.{IsTold, MayStop, Fails, told_for}
 use Rattle.flat_machine.specs.Agreement.{Agrees, Contents}
 use Rattle.flat_machine.specs.Standing.{Stands, IsOfState, IsKnownWhole}
 use Rattle.flat_machine.proofs.Accepted.{none-over}
@@ -72,7 +72,7 @@ module _ (opening : List ℕ → Option (List ℕ)) (s : State) (held : Contents
 
 -- what is told where no call fails
 abbrev pub expects : State → Adding → Told
-expects s c = told_by s (command.BlockdevAdd c)
+expects s c = told_for s (command.BlockdevAdd c)
 
 -- What stops it is what the files say, or a call that failed.
 abbrev pub IsExact : State → Adding → Option Stopped → Type 0
@@ -135,7 +135,7 @@ module _ (s : State) (c : Adding) where
 
   -- the files weren't looked at, since a refusal stands before
   pub seen-unreached : (told : Told) (what : Look) → looks_at what (add_asks c) ≡ true → has_look what (add_asks c) ≡ true
-      → refusal_of s.table (probe what) (command.BlockdevAdd c) ≢ Some refusal.Aborted → IsSeenAs s c told
+      → refusal_to s.table (probe what) (command.BlockdevAdd c) ≢ Some refusal.Aborted → IsSeenAs s c told
   seen-unreached told what at has not =
       let all = unreached-refused s.table what c at not in
       let mine : Told = record told { stopped = (expects s c).stopped } in

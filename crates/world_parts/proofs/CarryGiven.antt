@@ -8,8 +8,8 @@ use Rattle.qmp_codec.specs.Lines.{Stop, id_at, command_at}
 use Rattle.qmp_codec.specs.Replies.{returned_data, refused_data}
 use Rattle.qmp_rules.specs.declared.refusal.Refusal.{Refusal}
 use Rattle.qmp_rules.specs.Refusals.{refusal_text, refusal_class}
-use Rattle.qmp_rules.specs.Table.{Table}
-use Rattle.qmp_rules.specs.Answers.{Answer, accepted, refused_so, line_refusal, line_answer, answer_for, untold}
+use Rattle.qmp_rules.specs.Table.{RunTable}
+use Rattle.qmp_rules.specs.Answers.{Answer, accepted, refused_so, line_refusal, line_answer, answer_for, told_none}
 use Rattle.serde_json.specs.Data.{object, no_members}
 use Rattle.world_parts.specs.Saying.{IsPrintable, IsSaid}
 use Rattle.world_parts.proofs.CarryTexts.{id_plain, given_plain, refusal_plain}
@@ -35,16 +35,16 @@ said_refusal given text id cause desc same words prints reads =
     record { prints = rw (← same, ← words) (prints is.whole); reads = rw (← same, ← words) (reads is.low) }
 
 -- the answer to a line that is no command
-module _ (t : Table) (given : List ℕ) (why : Stop) (line : command_at given ≡ Err why) where
+module _ (t : RunTable) (given : List ℕ) (why : Stop) (line : command_at given ≡ Err why) where
   abbrev by : Option Refusal → Answer
   by found = elim found as (λ _. Answer) [ None ↦ accepted [] (object no_members) | Some cause ↦ refused_so [] cause ]
 
-  answered-by : line_answer t untold given ≡ by (line_refusal t given why)
+  answered-by : line_answer t told_none given ≡ by (line_refusal t given why)
   unfolding line_answer
-  answered-by = ap (answer_for t untold given) line
+  answered-by = ap (answer_for t told_none given) line
 
-  pub refused_line : (cause : Refusal) → line_refusal t given why ≡ Some cause → (line_answer t untold given).reply ≡ Err cause
+  pub refused_line : (cause : Refusal) → line_refusal t given why ≡ Some cause → (line_answer t told_none given).reply ≡ Err cause
   refused_line cause refuses = ap (λ (a : Answer). a.reply) (answered-by ∙ ap by refuses)
 
-  pub accepted_line : line_refusal t given why ≡ None → (line_answer t untold given).reply ≡ Ok (object no_members)
+  pub accepted_line : line_refusal t given why ≡ None → (line_answer t told_none given).reply ≡ Ok (object no_members)
   accepted_line none = ap (λ (a : Answer). a.reply) (answered-by ∙ ap by none)

@@ -18,7 +18,7 @@ use Rattle.qmp_rules.specs.declared.rows.BitmapRow.{BitmapRow}
 use Rattle.qmp_rules.specs.declared.rows.JobRecord.{JobRecord}
 use Rattle.qmp_rules.specs.declared.rows.NodeRecord.{NodeRecord}
 use Rattle.qmp_rules.specs.declared.told.Told.{Told}
-use Rattle.qmp_rules.specs.Table.{Table}
+use Rattle.qmp_rules.specs.Table.{RunTable}
 use Rattle.qmp_rules.specs.Queries.{jobs_data, jobs_items, nodes_data, nodes_items, bitmap_items, bitmap_data}
 use Rattle.qmp_rules.specs.Answers.{returned}
 use Rattle.world_parts.specs.Saying.{IsPrintable}
@@ -87,18 +87,18 @@ bitmaps-plain node (row ∷ rows) (dirty ∷ counts) =
       | false ↦ rest
     ]
 
-jobs-plain : (t : Table) (rows : List JobRecord) → (items_have_float (jobs_items t rows) ≡ false) × (items_depth (jobs_items t rows) ≤ 3)
+jobs-plain : (t : RunTable) (rows : List JobRecord) → (items_have_float (jobs_items t rows) ≡ false) × (items_depth (jobs_items t rows) ≤ 3)
 jobs-plain t [] = (refl, omega arith)
 jobs-plain t (row ∷ rows) = let rest = jobs-plain t rows in (rest.0, (let low = rest.1 in omega arith))
 
-nodes-plain : (t : Table) (counts : List ℕ) (rows : List NodeRecord) → (items_have_float (nodes_items t counts rows) ≡ false) × (items_depth (nodes_items t counts rows) ≤ 3)
+nodes-plain : (t : RunTable) (counts : List ℕ) (rows : List NodeRecord) → (items_have_float (nodes_items t counts rows) ≡ false) × (items_depth (nodes_items t counts rows) ≤ 3)
 nodes-plain t counts [] = (refl, omega arith)
 nodes-plain t counts (row ∷ rows) =
     let rest = nodes-plain t counts rows in
     let inner = bitmaps-plain row.id t.bitmaps counts in
     (rw (inner.0) rest.0, (let low = rest.1 in let least = inner.1 in omega arith))
 
-pub returned_plain : (t : Table) (told : Told) (c : Cmd) → IsPrintable 126 (returned t told c)
+pub returned_plain : (t : RunTable) (told : Told) (c : Cmd) → IsPrintable 126 (returned t told c)
 unfolding jobs_data nodes_data
 returned_plain t told command.QueryBlockJobs = let is = jobs-plain t t.jobs in record { whole = is.0; low = (let low = is.1 in omega arith) }
 returned_plain t told (command.QueryNamedBlockNodes flat) = let is = nodes-plain t told.dirty t.nodes in record { whole = is.0; low = (let low = is.1 in omega arith) }

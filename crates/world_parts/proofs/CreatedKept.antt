@@ -12,10 +12,10 @@ use Rattle.qmp_codec.specs.declared.nodes.Created.{Created}
 use Rattle.qmp_rules.specs.Edits.{spoiled, create_edits, created_change}
 use Rattle.qmp_rules.specs.Room.{Roomy, HasRoomForChanges}
 use Rattle.qmp_rules.specs.declared.change.Change.TheVariants.{KeepId}
-use Rattle.qmp_rules.specs.Table.{Table}
+use Rattle.qmp_rules.specs.Table.{RunTable}
 use Rattle.blk_nodes.specs.Formatting.{IsFormatAt}
 use Rattle.blk_nodes.specs.Joined.{IsJoined, DifferInNode}
-use Rattle.blk_nodes.specs.Nodes.{Nodes, DeviceState, is_of, device_in}
+use Rattle.blk_nodes.specs.Nodes.{Nodes, DeviceSeen, is_device_of, device_in}
 use Rattle.blk_nodes.specs.declared.stop.FormatStop.{FormatStop}
 use Rattle.blk_nodes.specs.declared.stop.FormatStop.TheVariants as stop
 use Rattle.world_parts.specs.Creating.{creation_for, unformatted, HasFormatted, IsUncreated}
@@ -23,28 +23,28 @@ use Rattle.world_parts.specs.Deleting.{Ground}
 use Rattle.world_parts.specs.Steps.{StoreSeen}
 use Rattle.world_parts.proofs.DeletedLists.{find_none}
 
-abbrev node_in : DeviceState → ℕ
+abbrev node_in : DeviceSeen → ℕ
 node_in d = d.node
 
-pairs-tail : (x : DeviceState) (xs : List DeviceState) → AllPairs DifferInNode (x ∷ xs) → AllPairs DifferInNode xs
+pairs-tail : (x : DeviceSeen) (xs : List DeviceSeen) → AllPairs DifferInNode (x ∷ xs) → AllPairs DifferInNode xs
 pairs-tail x xs all i j d before below = all (suc i) (suc j) d (omega (arith, before)) (omega (arith, below))
 
 -- none of the later ones is of the first one's node
-pairs-head : (x : DeviceState) (xs : List DeviceState) → AllPairs DifferInNode (x ∷ xs) → (d : DeviceState) → Contains xs d → d.node ≢ x.node
+pairs-head : (x : DeviceSeen) (xs : List DeviceSeen) → AllPairs DifferInNode (x ∷ xs) → (d : DeviceSeen) → Contains xs d → d.node ≢ x.node
 pairs-head x xs all d there same =
     all 0 (suc there.0) d (omega arith) (omega (arith, there.1)) (sym same ∙ ap node_in (sym there.2))
 
-absent : (n : ℕ) (ds : List DeviceState) → ((d : DeviceState) → Contains ds d → d.node ≢ n) → device_in ds n ≡ None
-absent n ds none = find_none (is_of n) ds (λ d there. ne_eqb d.node n (none d there))
+absent : (n : ℕ) (ds : List DeviceSeen) → ((d : DeviceSeen) → Contains ds d → d.node ≢ n) → device_in ds n ≡ None
+absent n ds none = find_none (is_device_of n) ds (λ d there. ne_eqb d.node n (none d there))
 
-at-head : (d : DeviceState) (ds : List DeviceState) (n : ℕ) → d.node ≡ n → device_in (d ∷ ds) n ≡ Some d
+at-head : (d : DeviceSeen) (ds : List DeviceSeen) (n : ℕ) → d.node ≡ n → device_in (d ∷ ds) n ≡ Some d
 at-head d ds n is = rw (eq-eqb d.node n is) refl
 
-past-head : (d : DeviceState) (ds : List DeviceState) (n : ℕ) → d.node ≢ n → device_in (d ∷ ds) n ≡ device_in ds n
+past-head : (d : DeviceSeen) (ds : List DeviceSeen) (n : ℕ) → d.node ≢ n → device_in (d ∷ ds) n ≡ device_in ds n
 past-head d ds n apart = rw (ne_eqb d.node n apart) refl
 
 -- lists of devices of the same nodes in which the same are found
-pub same_list : (old new : List DeviceState) → map node_in new ≡ map node_in old → AllPairs DifferInNode old
+pub same_list : (old new : List DeviceSeen) → map node_in new ≡ map node_in old → AllPairs DifferInNode old
     → ((n : ℕ) → device_in new n ≡ device_in old n) → new ≡ old
 same_list [] [] nodes once same = refl
 same_list [] (b ∷ new) nodes once same = absurd (let e : ⊥ = cc nodes in e)
@@ -54,10 +54,10 @@ same_list (a ∷ old) (b ∷ new) nodes once same =
     let tails : map node_in new ≡ map node_in old = cc nodes in
     let found : Some b ≡ Some a = sym (at-head b new a.node heads) ∙ same a.node ∙ at-head a old a.node refl in
     let first : b ≡ a = cc found in
-    ap (λ (d : DeviceState). d ∷ new) first
-    ∙ ap (λ (ds : List DeviceState). a ∷ ds) (same_list old new tails (pairs-tail a old once) (tail heads tails))
+    ap (λ (d : DeviceSeen). d ∷ new) first
+    ∙ ap (λ (ds : List DeviceSeen). a ∷ ds) (same_list old new tails (pairs-tail a old once) (tail heads tails))
   where
-    others : map node_in new ≡ map node_in old → (d : DeviceState) → Contains new d → d.node ≢ a.node
+    others : map node_in new ≡ map node_in old → (d : DeviceSeen) → Contains new d → d.node ≢ a.node
     others tails d there same' =
         let at : Contains (map node_in old) d.node = subst (λ (ns : List ℕ). Contains ns d.node) tails (map-Contains node_in new d there) in
         let from = Contains-map node_in old d.node at in
@@ -71,18 +71,18 @@ same_list (a ∷ old) (b ∷ new) nodes once same =
     ]
 
 -- nothing was tried
-pub nothing_tried : (nodes : Nodes) (devices : List DeviceState) (node : ℕ) (image : Creation) → IsJoined nodes
+pub nothing_tried : (nodes : Nodes) (devices : List DeviceSeen) (node : ℕ) (image : Creation) → IsJoined nodes
     → IsFormatAt node nodes.devices devices image (Err stop.NoMemory) → devices ≡ nodes.devices
 nothing_tried nodes devices node image joined at =
     same_list nodes.devices devices at.only.nodes joined.once
     (λ n. elim (cases_eq n node) [
       | inl same ↦
-          ap (device_in devices) same ∙ at.left ∙ ap (λ (d : DeviceState). Some d) at.formatted.cause.1 ∙ sym (ap (device_in nodes.devices) same ∙ at.held)
+          ap (device_in devices) same ∙ at.left ∙ ap (λ (d : DeviceSeen). Some d) at.formatted.cause.1 ∙ sym (ap (device_in nodes.devices) same ∙ at.held)
       | inr apart ↦ at.only.others n apart
     ])
 
 -- a creation in a node that stopped, as a refusal
-pub uncreated : (t : Table) (c : CreateQcow2 (List ℕ)) (old now : Ground) (why : FormatStop)
+pub uncreated : (t : RunTable) (c : CreateQcow2 (List ℕ)) (old now : Ground) (why : FormatStop)
     → HasFormatted (id_or 0 t (Some c.file)) old now (creation_for c) (Err why) → (why ≡ stop.NoMemory → now.nodes ≡ old.nodes)
     → IsUncreated t (created.Qcow2 c) old now (unformatted why)
 uncreated t c old now (stop.Io dev count) formatted back = record { why = stop.Io dev count; formatted = formatted; is = refl }
@@ -104,7 +104,7 @@ has_room_less more fewer names has less = record {
 }
 
 -- what a failed creation leaves is one change, and a creation makes two
-pub fewer_spoiled : (t : Table) (c : BlockdevCreate (List ℕ)) → length (spoiled t c.options) ≤ length (create_edits t c)
+pub fewer_spoiled : (t : RunTable) (c : BlockdevCreate (List ℕ)) → length (spoiled t c.options) ≤ length (create_edits t c)
 fewer_spoiled t c = by_options c.options
   where
     by_options : (options : Created (List ℕ)) → length (spoiled t options) ≤ length (KeepId c.job_id ∷ created_change t options)

@@ -3,28 +3,28 @@ use Rattle.std.proofs.Common.{◌≡◌, ◌≢◌, ◌↔◌, ℕ, zero, suc, �
 use Rattle.std.specs.Prelude.{◌==◌, ◌||◌, slice_get, slice_index_or, Contains}
 use Rattle.std.specs.List.{list_all}
 use Rattle.std.proofs.lemmas.Bool.{false≢true, eqb-true, ne_eqb, cases_lt}
-use Rattle.qmp_rules.specs.Chains.{has_id}
+use Rattle.qmp_rules.specs.Chains.{is_listed}
 use Rattle.world_parts.specs.declared.row.GuestProgress.{GuestProgress}
 use Rattle.world_parts.specs.Progress.{AreMarked}
 
 -- ---- one more in a list
 
-has-push : (ids : List ℕ) (id other : ℕ) → has_id id (ids ++ other ∷ []) ≡ (has_id id ids || (other == id))
+has-push : (ids : List ℕ) (id other : ℕ) → is_listed id (ids ++ other ∷ []) ≡ (is_listed id ids || (other == id))
 has-push [] id other = elim (other == id) as (λ b. (b || false) ≡ (false || b)) [ true ↦ refl | false ↦ refl ]
 has-push (x ∷ ids) id other =
     let rest = has-push ids id other in
-    elim (x == id) as (λ b. (b || has_id id (ids ++ other ∷ [])) ≡ ((b || has_id id ids) || (other == id))) [ true ↦ refl | false ↦ rest ]
+    elim (x == id) as (λ b. (b || is_listed id (ids ++ other ∷ [])) ≡ ((b || is_listed id ids) || (other == id))) [ true ↦ refl | false ↦ rest ]
 
 -- another actor's end
-stays : (ended : List ℕ) (actor other : ℕ) → other ≢ actor → has_id actor ended ≡ has_id actor (ended ++ other ∷ [])
-stays ended actor other apart = sym (has-push ended actor other ∙ rw (ne_eqb other actor apart) (or-false (has_id actor ended)))
+stays : (ended : List ℕ) (actor other : ℕ) → other ≢ actor → is_listed actor ended ≡ is_listed actor (ended ++ other ∷ [])
+stays ended actor other apart = sym (has-push ended actor other ∙ rw (ne_eqb other actor apart) (or-false (is_listed actor ended)))
   where
     or-false : (b : Bool) → (b || false) ≡ b
     or-false true = refl
     or-false false = refl
 
-own : (ended : List ℕ) (actor : ℕ) → true ≡ has_id actor (ended ++ actor ∷ [])
-own ended actor = sym (has-push ended actor actor ∙ rw (same actor) (or-true (has_id actor ended)))
+own : (ended : List ℕ) (actor : ℕ) → true ≡ is_listed actor (ended ++ actor ∷ [])
+own ended actor = sym (has-push ended actor actor ∙ rw (same actor) (or-true (is_listed actor ended)))
   where
     same : (n : ℕ) → (n == n) ≡ true
     same n = eq-eqb n n refl
@@ -54,14 +54,14 @@ pub marked-done : (ended : List ℕ) (actor : ℕ) (rows : List GuestProgress) (
     → AreMarked (ended ++ actor ∷ []) 1 (set rows (actor - 1) (record row { is_done = true }))
 marked-done ended actor rows row some there all = marked-own ended 1 rows (actor - 1) row actor (omega arith) there all
 
-pub script-done : (ended : List ℕ) → true ≡ has_id 0 (ended ++ 0 ∷ [])
+pub script-done : (ended : List ℕ) → true ≡ is_listed 0 (ended ++ 0 ∷ [])
 script-done ended = own ended 0
 
-pub script-stays : (ended : List ℕ) (actor : ℕ) → actor ≢ 0 → has_id 0 ended ≡ has_id 0 (ended ++ actor ∷ [])
+pub script-stays : (ended : List ℕ) (actor : ℕ) → actor ≢ 0 → is_listed 0 ended ≡ is_listed 0 (ended ++ actor ∷ [])
 script-stays ended actor some = stays ended 0 actor some
 
 -- the row of a guest says whether it is done
-pub marked-at : (ended : List ℕ) (first : ℕ) (rows : List GuestProgress) (g : ℕ) (row : GuestProgress) → AreMarked ended first rows → slice_get rows g ≡ Some row → row.is_done ≡ has_id (g + first) ended
+pub marked-at : (ended : List ℕ) (first : ℕ) (rows : List GuestProgress) (g : ℕ) (row : GuestProgress) → AreMarked ended first rows → slice_get rows g ≡ Some row → row.is_done ≡ is_listed (g + first) ended
 marked-at ended first [] g row all there = absurd (let bad : ⊥ = cc there in bad)
 marked-at ended first (x ∷ rows) zero row all there =
     let same : x ≡ row = cc there in
@@ -73,14 +73,14 @@ marked-at ended first (x ∷ rows) (suc g) row all there =
 
 -- ---- lists of numbers
 
-has-is-by : (id x : ℕ) (ids : List ℕ) (b : Bool) → (x == id) ≡ b → has_id id (x ∷ ids) ≡ true → (has_id id ids ≡ true → Contains ids id) → Contains (x ∷ ids) id
+has-is-by : (id x : ℕ) (ids : List ℕ) (b : Bool) → (x == id) ≡ b → is_listed id (x ∷ ids) ≡ true → (is_listed id ids ≡ true → Contains ids id) → Contains (x ∷ ids) id
 has-is-by id x ids true e is rest = (0, omega arith, eqb-true x id e)
 has-is-by id x ids false e is rest =
     let later = rest (rw e at is) in
     let less = later.1 in
     (suc later.0, omega arith, later.2)
 
-pub has-is : (id : ℕ) (ids : List ℕ) → has_id id ids ≡ true → Contains ids id
+pub has-is : (id : ℕ) (ids : List ℕ) → is_listed id ids ≡ true → Contains ids id
 has-is id [] is = absurd (false≢true is)
 has-is id (x ∷ ids) is = has-is-by id x ids (x == id) refl is (has-is id ids)
 
@@ -88,20 +88,20 @@ further : (id x : ℕ) (ids : List ℕ) (k : ℕ) → (x == id) ≡ false → k 
 further id x ids zero e less at = absurd (false≢true (sym e ∙ eq-eqb x id at))
 further id x ids (suc k) e less at = (k, omega arith, at)
 
-is-has-by : (id x : ℕ) (ids : List ℕ) (b : Bool) → (x == id) ≡ b → Contains (x ∷ ids) id → (Contains ids id → has_id id ids ≡ true) → has_id id (x ∷ ids) ≡ true
+is-has-by : (id x : ℕ) (ids : List ℕ) (b : Bool) → (x == id) ≡ b → Contains (x ∷ ids) id → (Contains ids id → is_listed id ids ≡ true) → is_listed id (x ∷ ids) ≡ true
 is-has-by id x ids true e is rest = rw e refl
 is-has-by id x ids false e is rest = rw e (rest (further id x ids is.0 e is.1 is.2))
 
-pub is-has : (id : ℕ) (ids : List ℕ) → Contains ids id → has_id id ids ≡ true
+pub is-has : (id : ℕ) (ids : List ℕ) → Contains ids id → is_listed id ids ≡ true
 is-has id [] is = absurd (omega (arith, is.1))
 is-has id (x ∷ ids) is = is-has-by id x ids (x == id) refl is (is-has id ids)
 
 -- ---- all of them
 
-all-marked-by : (ended : List ℕ) (first : ℕ) (row : GuestProgress) (rows : List GuestProgress) (b : Bool) → row.is_done ≡ b → row.is_done ≡ has_id first ended
+all-marked-by : (ended : List ℕ) (first : ℕ) (row : GuestProgress) (rows : List GuestProgress) (b : Bool) → row.is_done ≡ b → row.is_done ≡ is_listed first ended
     → list_all (λ r. r.is_done) (row ∷ rows) ≡ true
-    → (list_all (λ r. r.is_done) rows ≡ true → (actor : ℕ) → first + 1 ≤ actor → actor < first + 1 + length rows → has_id actor ended ≡ true)
-    → (actor : ℕ) → first ≤ actor → actor < first + length (row ∷ rows) → has_id actor ended ≡ true
+    → (list_all (λ r. r.is_done) rows ≡ true → (actor : ℕ) → first + 1 ≤ actor → actor < first + 1 + length rows → is_listed actor ended ≡ true)
+    → (actor : ℕ) → first ≤ actor → actor < first + length (row ∷ rows) → is_listed actor ended ≡ true
 all-marked-by ended first row rows false e at is rest actor from to = absurd (false≢true (rw e at is))
 all-marked-by ended first row rows true e at is rest actor from to = elim (cases_lt first actor) [
   | inl later ↦ rest (rw e at is) actor (omega arith) (omega arith)
@@ -109,19 +109,19 @@ all-marked-by ended first row rows true e at is rest actor from to = elim (cases
 ]
 
 all-marked : (ended : List ℕ) (first : ℕ) (rows : List GuestProgress) → AreMarked ended first rows → list_all (λ row. row.is_done) rows ≡ true
-    → (actor : ℕ) → first ≤ actor → actor < first + length rows → has_id actor ended ≡ true
+    → (actor : ℕ) → first ≤ actor → actor < first + length rows → is_listed actor ended ≡ true
 all-marked ended first [] all is actor from to = absurd (omega arith)
 all-marked ended first (row ∷ rows) all is actor from to =
     all-marked-by ended first row rows row.is_done refl all.0 is (all-marked ended (first + 1) rows all.1) actor from to
 
 marked-all : (ended : List ℕ) (first : ℕ) (rows : List GuestProgress) → AreMarked ended first rows
-    → ((actor : ℕ) → first ≤ actor → actor < first + length rows → has_id actor ended ≡ true) → list_all (λ row. row.is_done) rows ≡ true
+    → ((actor : ℕ) → first ≤ actor → actor < first + length rows → is_listed actor ended ≡ true) → list_all (λ row. row.is_done) rows ≡ true
 marked-all ended first [] all each = refl
 marked-all ended first (row ∷ rows) all each =
     let here : row.is_done ≡ true = all.0 ∙ each first (omega arith) (omega arith) in
     rw here (marked-all ended (first + 1) rows all.1 (λ actor from to. each actor (omega arith) (omega arith)))
 
-pub all-done : (ended : List ℕ) (rows : List GuestProgress) (n : ℕ) → n ≡ length rows → true ≡ has_id 0 ended → AreMarked ended 1 rows
+pub all-done : (ended : List ℕ) (rows : List GuestProgress) (n : ℕ) → n ≡ length rows → true ≡ is_listed 0 ended → AreMarked ended 1 rows
     → (list_all (λ row. row.is_done) rows ≡ true) ↔ ((actor : ℕ) → actor ≤ n → Contains ended actor)
 all-done ended rows n count script all = (
   λ is actor within. has-is actor ended (elim (cases_lt 0 actor) [

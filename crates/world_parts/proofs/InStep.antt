@@ -9,7 +9,7 @@ use Rattle.blk_base.specs.declared.fault.Outcome.{Outcome}
 use Rattle.trace_codec.specs.declared.op.Op.{Op}
 use Rattle.blk_history.specs.Disk.{piece}
 use Rattle.trace_codec.specs.Request.{pieces_of, read_bytes_of}
-use Rattle.qmp_rules.specs.Chains.{has_id}
+use Rattle.qmp_rules.specs.Chains.{is_listed}
 use Rattle.blk_history.specs.Fold.{change, With}
 use Rattle.blk_history.specs.Machine.{Flight}
 use Rattle.blk_history.specs.Recorded.{Recorded}
@@ -22,7 +22,7 @@ use Rattle.flat_machine.specs.Opening.{new_guest}
 use Rattle.flat_machine.specs.Machine.{admitted, finished, past_piece}
 use Rattle.world_parts.specs.declared.row.InFlight.{InFlight}
 use Rattle.world_parts.specs.declared.row.GuestProgress.{GuestProgress}
-use Rattle.world_parts.specs.Progress.{no_log, new_row, guest_in, guests_in, flight_as, flight_in, flight_at, IsPlaced, IsPlacedIn, CanShow, log_with, HaveTheirPlaces, AreMarked, KeepsStep, owed, owed_by, owed_bytes, owed_bytes_by, done_by, ended_in, answered_by, answered_in, log_of, less, done_at, IsFree, HasRoomFor}
+use Rattle.world_parts.specs.Progress.{no_log, new_row, guest_in, guests_in, flight_as, flight_in, flight_at, IsPlaced, IsPlacedIn, CanShow, log_with_shown, HaveTheirPlaces, AreMarked, KeepsStep, owed, owed_by, owed_bytes, owed_bytes_by, actor_done, ended_in, answered_by, answered_in, log_with_entry, room_less, requests_done, IsFree, HasRoomFor}
 use Rattle.world_parts.proofs.Rows.{request-push, request-append, guests-append, guest-append, placed-append, placed-put, placed-at, guests-put, guests-at, marked-put, owed-change, owed-bytes-change, owed-at, owed-bytes-at}
 
 -- what holds of what is there
@@ -31,8 +31,8 @@ with-at None a P is holds = absurd holds
 with-at (Some b) a P is holds = let same : b ≡ a = cc is in subst P same holds
 
 -- an entry that ends no actor and answers no line
-pub ended-push : (es : List Event) (e : Event) → done_by e ≡ None → ended_in (es ++ e ∷ []) ≡ ended_in es
-ended-push es e none = filter_map-append done_by es (e ∷ []) ∙ rw none (append-nil (ended_in es))
+pub ended-push : (es : List Event) (e : Event) → actor_done e ≡ None → ended_in (es ++ e ∷ []) ≡ ended_in es
+ended-push es e none = filter_map-append actor_done es (e ∷ []) ∙ rw none (append-nil (ended_in es))
 
 pub answered-push : (es : List Event) (e : Event) → answered_by e ≡ None → answered_in (es ++ e ∷ []) ≡ answered_in es
 answered-push es e none = filter_map-append answered_by es (e ∷ []) ∙ rw none (append-nil (answered_in es))
@@ -41,7 +41,7 @@ answered-push es e none = filter_map-append answered_by es (e ∷ []) ∙ rw non
 pub record PutsRow (log log' : Recorded) (spare spare' : Room) (rows : List GuestProgress) (e : Event) (g : ℕ) (old row : GuestProgress) (h : Guest → Guest) : Type 0 where
   pub there : slice_get rows g ≡ Some old
   pub events : log'.events ≡ log.events ++ e ∷ []
-  pub ends : done_by e ≡ None
+  pub ends : actor_done e ≡ None
   pub answers : answered_by e ≡ None
   pub is : guest_in (log.events ++ e ∷ []) row ≡ h (guest_in log.events old)
   pub placed : IsPlacedIn (log.events ++ e ∷ []) row.done row.flight
@@ -72,7 +72,7 @@ module _ (log log' : Recorded) (spare spare' : Room) (rows : List GuestProgress)
       let had_lines = was.line_room in
       record {
         placed = rw puts.events (placed-put (log.events ++ e ∷ []) rows g row (placed-append log.events (e ∷ []) rows was.placed) puts.placed);
-        script = was.script ∙ ap (has_id 0) (sym (ap ended_in puts.events ∙ ended-push log.events e puts.ends));
+        script = was.script ∙ ap (is_listed 0) (sym (ap ended_in puts.events ∙ ended-push log.events e puts.ends));
         guests = rw (puts.events, ended-push log.events e puts.ends) (marked-put (ended_in log.events) 1 rows g old row was.guests puts.there puts.done);
         answered = was.answered ∙ sym (ap answered_in puts.events ∙ answered-push log.events e puts.answers);
         line_room = omega arith;
@@ -87,7 +87,7 @@ pub idle-row : (es : List Event) (rows : List GuestProgress) (g : ℕ) (row : Gu
     → With (slice_get (guests_in es rows) g) IsFree → IsFree (guest_in es row)
 idle-row es rows g row is free = with-at _ _ IsFree (guests-at es rows g row is) free
 
-pub done-is : (es : List Event) (rows : List GuestProgress) (g : ℕ) (row : GuestProgress) → slice_get rows g ≡ Some row → row.done ≡ done_at (guests_in es rows) g
+pub done-is : (es : List Event) (rows : List GuestProgress) (g : ℕ) (row : GuestProgress) → slice_get rows g ≡ Some row → row.done ≡ requests_done (guests_in es rows) g
 done-is es rows g row is = sym (ap (λ x. unwrap_or (option_map (λ (y : Guest). y.done) x) 0) (guests-at es rows g row is))
 
 -- the row of a guest whose request was admitted by the last entry
@@ -95,7 +95,7 @@ abbrev pub admitted_row : List Event → GuestProgress → GuestProgress
 admitted_row es row = record row { flight = Some (record { place = length es; next = 0; is_stopped = false }) }
 
 pub puts-admission : (log log' : Recorded) (spare spare' : Room) (rows : List GuestProgress) (g : ℕ) (row : GuestProgress) (op : Op)
-    → log' ≡ log_of log (Admit g row.done op) → spare' ≡ less (pieces_of op + 2) (read_bytes_of op) spare → 0 < log.room
+    → log' ≡ log_with_entry log (Admit g row.done op) → spare' ≡ room_less (pieces_of op + 2) (read_bytes_of op) spare → 0 < log.room
     → slice_get rows g ≡ Some row → IsFree (guest_in log.events row) → HasRoomFor op spare
     → PutsRow log log' spare spare' rows (Admit g row.done op) g row (admitted_row log.events row) (admitted op)
 puts-admission log log' spare spare' rows g row op is spared some there free has =
@@ -117,7 +117,7 @@ puts-admission log log' spare spare' rows g row op is spared some there free has
     }
 
 pub puts-refusal : (log log' : Recorded) (spare spare' : Room) (rows : List GuestProgress) (g : ℕ) (row : GuestProgress) (e : Event)
-    → log' ≡ log_of log e → done_by e ≡ None → answered_by e ≡ None → spare' ≡ less 1 0 spare → 0 < log.room → 0 < spare.entries
+    → log' ≡ log_with_entry log e → actor_done e ≡ None → answered_by e ≡ None → spare' ≡ room_less 1 0 spare → 0 < log.room → 0 < spare.entries
     → slice_get rows g ≡ Some row → IsFree (guest_in log.events row)
     → PutsRow log log' spare spare' rows e g row (record row { done = row.done + 1; flight = None }) finished
 puts-refusal log log' spare spare' rows g row e is ends answers spared some has there free =
@@ -137,7 +137,7 @@ puts-refusal log log' spare spare' rows g row e is ends answers spared some has 
 
 -- a request in flight, at its end
 pub puts-retirement : (log log' : Recorded) (spare : Room) (rows : List GuestProgress) (g : ℕ) (row : GuestProgress) (f : Flight) (e : Event)
-    → log' ≡ log_of log e → done_by e ≡ None → answered_by e ≡ None → 0 < log.room
+    → log' ≡ log_with_entry log e → actor_done e ≡ None → answered_by e ≡ None → 0 < log.room
     → slice_get rows g ≡ Some row → (guest_in log.events row).flight ≡ Some f
     → PutsRow log log' spare spare rows e g row (record row { done = row.done + 1; flight = None }) finished
 puts-retirement log log' spare rows g row f e is ends answers some there flying =
@@ -156,7 +156,7 @@ puts-retirement log log' spare rows g row f e is ends answers some there flying 
 
 -- a request in flight, after its next piece
 pub puts-piece : (log log' : Recorded) (spare : Room) (rows : List GuestProgress) (g : ℕ) (row : GuestProgress) (f : InFlight) (outcome : Outcome) (got : List ℕ) (e : Event)
-    → log' ≡ log_with log e got → done_by e ≡ None → answered_by e ≡ None → 0 < log.room → length got ≤ log.byte_room
+    → log' ≡ log_with_shown log e got → actor_done e ≡ None → answered_by e ≡ None → 0 < log.room → length got ≤ log.byte_room
     → slice_get rows g ≡ Some row → row.flight ≡ Some f → (placed : IsPlaced log.events row.done f) → CanShow (length got) (flight_as f placed.op)
     → PutsRow log log' spare spare rows e g row (record row { flight = Some (record { place = f.place; next = f.next + 1; is_stopped = not (is_good outcome) }) }) (past_piece outcome)
 puts-piece log log' spare rows g row f outcome got e is ends answers some room there flying placed can =
@@ -183,7 +183,7 @@ puts-piece log log' spare rows g row f outcome got e is ends answers some room t
 
 -- a line is answered
 pub in-step-answer : (log log' : Recorded) (spare spare' : Room) (rows : List GuestProgress) (is_done : Bool) (lines : List ℕ) (capacity line : ℕ) (e : Event)
-    → log' ≡ log_of log e → spare' ≡ less 1 0 spare → 0 < spare.entries → done_by e ≡ None → answered_by e ≡ Some line
+    → log' ≡ log_with_entry log e → spare' ≡ room_less 1 0 spare → 0 < spare.entries → actor_done e ≡ None → answered_by e ≡ Some line
     → KeepsStep log spare rows is_done lines capacity → KeepsStep log' spare' rows is_done (lines ++ line ∷ []) capacity
 in-step-answer log log' spare spare' rows is_done lines capacity line e is spared some ends answers was =
     let room = was.room in
@@ -193,7 +193,7 @@ in-step-answer log log' spare spare' rows is_done lines capacity line e is spare
     let longer = length-append lines (line ∷ []) in
     rw (is, spared) (record {
       placed = placed-append log.events (e ∷ []) rows was.placed;
-      script = was.script ∙ ap (has_id 0) (sym (ended-push log.events e ends));
+      script = was.script ∙ ap (is_listed 0) (sym (ended-push log.events e ends));
       guests = rw (ended-push log.events e ends) was.guests;
       answered = ap (λ xs. xs ++ line ∷ []) was.answered ∙ sym (filter_map-append answered_by log.events (e ∷ []) ∙ rw answers refl);
       line_room = omega arith;
@@ -203,8 +203,8 @@ in-step-answer log log' spare spare' rows is_done lines capacity line e is spare
 
 -- an actor is done
 pub in-step-done : (log log' : Recorded) (spare spare' : Room) (rows rows' : List GuestProgress) (is_done is_done' : Bool) (lines : List ℕ) (capacity actor : ℕ)
-    → log' ≡ log_of log (Done actor) → spare' ≡ less 1 0 spare → 0 < spare.entries
-    → ((ended : List ℕ) → is_done ≡ has_id 0 ended → is_done' ≡ has_id 0 (ended ++ actor ∷ []))
+    → log' ≡ log_with_entry log (Done actor) → spare' ≡ room_less 1 0 spare → 0 < spare.entries
+    → ((ended : List ℕ) → is_done ≡ is_listed 0 ended → is_done' ≡ is_listed 0 (ended ++ actor ∷ []))
     → ((ended : List ℕ) → AreMarked ended 1 rows → AreMarked (ended ++ actor ∷ []) 1 rows')
     → ((es : List Event) → HaveTheirPlaces es rows → HaveTheirPlaces es rows')
     → ((es : List Event) → guests_in es rows' ≡ guests_in es rows)
@@ -214,10 +214,10 @@ in-step-done log log' spare spare' rows rows' is_done is_done' lines capacity ac
     let bytes = was.bytes in
     let had_lines = was.line_room in
     let stays = same (log.events ++ Done actor ∷ []) ∙ guests-append log.events (Done actor ∷ []) rows was.placed in
-    let ends : ended_in (log.events ++ Done actor ∷ []) ≡ ended_in log.events ++ actor ∷ [] = filter_map-append done_by log.events (Done actor ∷ []) in
+    let ends : ended_in (log.events ++ Done actor ∷ []) ≡ ended_in log.events ++ actor ∷ [] = filter_map-append actor_done log.events (Done actor ∷ []) in
     rw (is, spared) (record {
       placed = places (log.events ++ Done actor ∷ []) (placed-append log.events (Done actor ∷ []) rows was.placed);
-      script = script (ended_in log.events) was.script ∙ ap (has_id 0) (sym ends);
+      script = script (ended_in log.events) was.script ∙ ap (is_listed 0) (sym ends);
       guests = rw ends (marks (ended_in log.events) was.guests);
       answered = was.answered ∙ sym (answered-push log.events (Done actor) refl);
       line_room = omega arith;

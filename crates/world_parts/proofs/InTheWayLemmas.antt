@@ -8,22 +8,22 @@ use Rattle.blk_graph.proofs.Members.{list_any-there}
 use Rattle.blk_history.specs.Fold.{With}
 use Rattle.blk_history.specs.Machine.{Flight}
 use Rattle.qmp_rules.specs.Chains.{disk_node}
-use Rattle.qmp_rules.specs.Table.{Table}
+use Rattle.qmp_rules.specs.Table.{RunTable}
 use Rattle.flat_machine.specs.State.{State, Guest, guest_at, drive_of, disk_of_guest}
 use Rattle.flat_machine.specs.Marks.{AreCalm, IsCalm, IsInTheWay, MustWait, is_on}
 use Rattle.blk_history.specs.declared.event.Event.{Event}
 use Rattle.world_parts.specs.declared.row.GuestProgress.{GuestProgress}
 use Rattle.world_parts.specs.declared.row.InFlight.{InFlight}
-use Rattle.world_parts.specs.Draining.{IsOneOf, request_in}
+use Rattle.world_parts.specs.Draining.{IsOneOf, number_in_flight}
 use Rattle.world_parts.specs.Progress.{HaveTheirPlaces, IsPlacedIn, flight_in, guests_in}
 use Rattle.world_parts.proofs.Rows.{guests-at, placed-at}
 
 -- ---- rows
 
 pub request-is : (es : List Event) (rows : List GuestProgress) (g : ℕ) (row : GuestProgress) → slice_get rows g ≡ Some row → HaveTheirPlaces es rows
-    → request_in (slice_get (guests_in es rows) g) ≡ option_map (λ (f : InFlight). row.done) row.flight
+    → number_in_flight (slice_get (guests_in es rows) g) ≡ option_map (λ (f : InFlight). row.done) row.flight
 request-is es rows g row there placed =
-    ap request_in (guests-at es rows g row there) ∙ by_flight row.flight (placed-at es rows g row placed there)
+    ap number_in_flight (guests-at es rows g row there) ∙ by_flight row.flight (placed-at es rows g row placed there)
   where
     by_flight : (flight : Option InFlight) → IsPlacedIn es row.done flight
         → option_map (λ (f : Flight). row.done) (option_and_then (flight_in es) flight) ≡ option_map (λ (f : InFlight). row.done) flight
@@ -33,10 +33,10 @@ request-is es rows g row there placed =
 -- ---- one guest
 
 -- a guest with no request in flight, or no disk, is in nobody's way
-pub idle_guest : (s : State) (disks : List ℕ) (g : ℕ) → request_in (guest_at s g) ≡ None → IsOneOf s disks g None
+pub idle_guest : (s : State) (disks : List ℕ) (g : ℕ) → number_in_flight (guest_at s g) ≡ None → IsOneOf s disks g None
 idle_guest s disks g none r way = by_row (guest_at s g) none way.request
   where
-    by_row : (row : Option Guest) → request_in row ≡ None → With row (λ x. (r ≡ x.done) × IsSome x.flight) → ⊥
+    by_row : (row : Option Guest) → number_in_flight row ≡ None → With row (λ x. (r ≡ x.done) × IsSome x.flight) → ⊥
     by_row None none is = is
     by_row (Some row) none is = by_flight row.flight none is.1
       where
@@ -50,7 +50,7 @@ away_guest s disks g none r way =
 
 -- one with a disk is, where that is one of these
 module _ (s : State) (disks : List ℕ) (g drive request : ℕ) (on : drive_of s.table g ≡ Some drive)
-    (flies : request_in (guest_at s g) ≡ Some request) where
+    (flies : number_in_flight (guest_at s g) ≡ Some request) where
   disk_is : disk_of_guest s.table g ≡ Some (disk_node s.table drive)
   disk_is = ap (option_map (disk_node s.table)) on
 
@@ -60,7 +60,7 @@ module _ (s : State) (disks : List ℕ) (g drive request : ℕ) (on : drive_of s
     on_disk = subst (λ (disk : Option ℕ). With disk (λ node. list_any (is_on s.table node) disks ≡ true)) (sym disk_is) one;
   }
     where
-      by_row : (row : Option Guest) → request_in row ≡ Some request → With row (λ x. (request ≡ x.done) × IsSome x.flight)
+      by_row : (row : Option Guest) → number_in_flight row ≡ Some request → With row (λ x. (request ≡ x.done) × IsSome x.flight)
       by_row None is = absurd cc
       by_row (Some row) is = by_flight row.flight refl is
         where

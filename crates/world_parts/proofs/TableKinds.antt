@@ -13,11 +13,11 @@ use Rattle.blk_graph.specs.Permissions.{uses_by}
 use Rattle.blk_graph.specs.Refreshed.{kind_at, no_kind, uses_into, with_uses, ruled, ruled_from, turned, turned_by, refreshed}
 use Rattle.blk_graph.proofs.Members.{Contains-here, Contains-there, Contains-map, find-Some}
 use Rattle.blk_graph.proofs.RefreshLemmas.{ruled-same}
-use Rattle.qmp_rules.specs.Table.{Table, node_at, kind_in, kinds_from, kinds_of}
+use Rattle.qmp_rules.specs.Table.{RunTable, node_by_id, kind_of_record, kinds_from, kinds_of}
 use Rattle.qmp_rules.specs.declared.rows.NodeRecord.{NodeRecord}
 use Rattle.flat_machine.specs.Wiring.{AreApart}
 use Rattle.blk_nodes.specs.Joined.{IsJoined}
-use Rattle.blk_nodes.specs.Nodes.{Nodes, row_at, kind_of, node_kind}
+use Rattle.blk_nodes.specs.Nodes.{Nodes, row_at, driver_kind, node_kind}
 use Rattle.blk_nodes.specs.declared.row.Row.{Row}
 use Rattle.world_parts.specs.Coherent.{IsRowOf, AreAlike}
 
@@ -38,39 +38,39 @@ AreOnce rows = (a b : NodeRecord) → Contains rows a → Contains rows b → a.
 once-tail : (row : NodeRecord) (rows : List NodeRecord) → AreOnce (row ∷ rows) → AreOnce rows
 once-tail row rows once a b there other = once a b (Contains-there row rows a there) (Contains-there row rows b other)
 
-once_by : (t : Table) → AreApart t → AreOnce t.nodes
+once_by : (t : RunTable) → AreApart t → AreOnce t.nodes
 once_by t apart a b there other same =
-    let here : node_at t a.id ≡ Some a = apart a there in
-    let also : node_at t b.id ≡ Some b = apart b other in
-    let e : Some a ≡ Some b = sym here ∙ ap (node_at t) same ∙ also in
+    let here : node_by_id t a.id ≡ Some a = apart a there in
+    let also : node_by_id t b.id ≡ Some b = apart b other in
+    let e : Some a ≡ Some b = sym here ∙ ap (node_by_id t) same ∙ also in
     cc e
 
 -- what a row makes of the kind at its id, where there is one
 abbrev kind_or : NodeKind → Option NodeRecord → NodeKind
 kind_or kind None = kind
-kind_or kind (Some row) = kind_in row
+kind_or kind (Some row) = kind_of_record row
 
 length-kinds : (rows : List NodeRecord) (kinds : List NodeKind) → length (kinds_from kinds rows) ≡ length kinds
 length-kinds [] kinds = refl
-length-kinds (row ∷ rows) kinds = length-kinds rows (set kinds row.id (kind_in row)) ∙ length-set kinds row.id (kind_in row)
+length-kinds (row ∷ rows) kinds = length-kinds rows (set kinds row.id (kind_of_record row)) ∙ length-set kinds row.id (kind_of_record row)
 
 kinds_by : (rows : List NodeRecord) (kinds : List NodeKind) (id : ℕ) → AreOnce rows → id < length kinds
     → kind_at (kinds_from kinds rows) id ≡ kind_or (kind_at kinds id) (find (λ row. row.id == id) rows)
 kinds_by [] kinds id once small = refl
 kinds_by (row ∷ rows) kinds id once small =
     by_id (cases_eq row.id id)
-    (kinds_by rows (set kinds row.id (kind_in row)) id (once-tail row rows once) (omega (arith, small, length-set kinds row.id (kind_in row))))
+    (kinds_by rows (set kinds row.id (kind_of_record row)) id (once-tail row rows once) (omega (arith, small, length-set kinds row.id (kind_of_record row))))
   where
     more : List NodeKind
-    more = set kinds row.id (kind_in row)
+    more = set kinds row.id (kind_of_record row)
 
     -- a later row of the same id is this one
     later : row.id ≡ id → (found : Option NodeRecord) → find (λ r. r.id == id) rows ≡ found
-        → kind_or (kind_at more id) found ≡ kind_in row
-    later same None is = ap (λ (n : ℕ). kind_at (set kinds n (kind_in row)) id) same ∙ get_or-set_same kinds id (kind_in row) no_kind small
+        → kind_or (kind_at more id) found ≡ kind_of_record row
+    later same None is = ap (λ (n : ℕ). kind_at (set kinds n (kind_of_record row)) id) same ∙ get_or-set_same kinds id (kind_of_record row) no_kind small
     later same (Some other) is =
         let at = find-Some (λ (r : NodeRecord). r.id == id) rows other is in
-        ap kind_in (once other row (Contains-there row rows other at.0) (Contains-here row rows) (eqb-true other.id id at.1 ∙ sym same))
+        ap kind_of_record (once other row (Contains-there row rows other at.0) (Contains-here row rows) (eqb-true other.id id at.1 ∙ sym same))
 
     by_id : (row.id ≡ id) ⊎ (row.id ≢ id) → kind_at (kinds_from more rows) id ≡ kind_or (kind_at more id) (find (λ r. r.id == id) rows)
         → kind_at (kinds_from more rows) id ≡ kind_or (kind_at kinds id) (cond (row.id == id) (Some row) (find (λ r. r.id == id) rows))
@@ -80,25 +80,25 @@ kinds_by (row ∷ rows) kinds id once small =
     by_id (inr apart) rest =
         rest
         ∙ ap (λ (kind : NodeKind). kind_or kind (find (λ (r : NodeRecord). r.id == id) rows))
-        (get_or-set_other kinds row.id id (kind_in row) no_kind (λ same. apart (sym same)))
+        (get_or-set_other kinds row.id id (kind_of_record row) no_kind (λ same. apart (sym same)))
         ∙ ap (λ (b : Bool). kind_or (kind_at kinds id) (cond b (Some row) (find (λ (r : NodeRecord). r.id == id) rows))) (sym (ne_eqb row.id id apart))
 
 -- ---- table and nodes
 
-kind-alike : (row : NodeRecord) (own : Row) → IsRowOf row own → kind_in row ≡ node_kind own
+kind-alike : (row : NodeRecord) (own : Row) → IsRowOf row own → kind_of_record row ≡ node_kind own
 kind-alike row own is =
     ap (λ (k : Kind). let made : NodeKind = record { kind = k; writes = not row.read_only } in made) is.kind
-    ∙ ap (λ (b : Bool). let made : NodeKind = record { kind = kind_of own.driver; writes = not b } in made) is.access
+    ∙ ap (λ (b : Bool). let made : NodeKind = record { kind = driver_kind own.driver; writes = not b } in made) is.access
 
 -- the table's kinds are the graph's
-pub kinds_alike : (t : Table) (nodes : Nodes) → IsJoined nodes → AreApart t → ((id : ℕ) → AreAlike (node_at t id) (row_at nodes id))
+pub kinds_alike : (t : RunTable) (nodes : Nodes) → IsJoined nodes → AreApart t → ((id : ℕ) → AreAlike (node_by_id t id) (row_at nodes id))
     → kinds_of t.nodes ≡ nodes.graph.kinds
 kinds_alike t nodes joined apart alike =
     ext_get_or no_kind (kinds_of t.nodes) nodes.graph.kinds
     (length-kinds t.nodes none ∙ length-replicate 64 no_kind ∙ sym joined.sound.kinds)
     (λ id below. kinds_by t.nodes none id (once_by t apart) (omega (arith, below, length-kinds t.nodes none))
     ∙ at_id id (let e : id < 64 = omega (arith, below, length-kinds t.nodes none, length-replicate 64 no_kind) in e)
-    (node_at t id) (row_at nodes id) refl (alike id))
+    (node_by_id t id) (row_at nodes id) refl (alike id))
   where
     none : List NodeKind
     none = replicate 64 no_kind

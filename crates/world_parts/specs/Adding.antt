@@ -12,8 +12,8 @@ use Rattle.q2_format.specs.declared.header.Header.{Header}
 use Rattle.q2_image.specs.Image.{Known}
 use Rattle.q2_image.specs.declared.stop.ImageStop.{ImageStop}
 use Rattle.q2_image.specs.declared.stop.ImageStop.TheVariants as stop
-use Rattle.blk_nodes.specs.Adding.{with_device, with_node}
-use Rattle.blk_nodes.specs.Nodes.{DeviceState, Nodes, device_in}
+use Rattle.blk_nodes.specs.Adding.{with_node_device, with_node_row}
+use Rattle.blk_nodes.specs.Nodes.{DeviceSeen, Nodes, device_in}
 use Rattle.blk_nodes.specs.Overlays.{IsOpened, IsOpenedOn, IsUnopened, IsUnopenedOn}
 use Rattle.blk_nodes.specs.declared.row.Driver.TheVariants as drivers
 use Rattle.qmp_codec.specs.Commands.{Cmd}
@@ -24,10 +24,10 @@ use Rattle.qmp_codec.specs.declared.nodes.Added.TheVariants as added
 use Rattle.qmp_codec.specs.declared.nodes.BlockdevAdd.{BlockdevAdd}
 use Rattle.qmp_codec.specs.declared.nodes.FileRef.{FileRef}
 use Rattle.qmp_codec.specs.declared.nodes.FileRef.TheVariants as file_ref
-use Rattle.qmp_rules.specs.Answers.{refusal_of, untold}
-use Rattle.qmp_rules.specs.Looks.{ImageSight, file_stop, image_stop, is_free_file, is_unopened, raw_stop, told_as}
+use Rattle.qmp_rules.specs.Answers.{refusal_to, told_none}
+use Rattle.qmp_rules.specs.Looks.{ImageSight, file_stop, unfit_image, is_free_file, is_unopened, raw_stop, told_record}
 use Rattle.qmp_rules.specs.Asks.{file_node}
-use Rattle.qmp_rules.specs.Table.{Table}
+use Rattle.qmp_rules.specs.Table.{RunTable}
 use Rattle.qmp_rules.specs.declared.rows.NodeRecord.{NodeRecord}
 use Rattle.qmp_asks.specs.declared.look.Look.{Look}
 use Rattle.qmp_asks.specs.declared.look.Look.TheVariants as look
@@ -51,7 +51,7 @@ pub record Taken : Type 0 where
   pub faults : ℕ
 
 -- the same as that of a node
-abbrev pub of_node : ℕ → Taken → DeviceState
+abbrev pub of_node : ℕ → Taken → DeviceSeen
 of_node node device = record {
   node = node;
   number = device.number;
@@ -64,9 +64,9 @@ of_node node device = record {
 }
 
 -- the nodes with a `file` node over it
-abbrev pub with_file : Nodes → ℕ → List ℕ → Bool → Taken → Nodes
-with_file nodes id name read_only device = with_device
-    (with_node nodes id name
+abbrev pub with_node_of_file : Nodes → ℕ → List ℕ → Bool → Taken → Nodes
+with_node_of_file nodes id name read_only device = with_node_device
+    (with_node_row nodes id name
     (record { driver = drivers.File; size = device.size; is_read_only = read_only }))
     (of_node id device)
 
@@ -142,7 +142,7 @@ pub record IsNotOpenOn (old new : Taken) (why : Refusal) : Type 0 where
 -- of its length
 pub record TellsLength (stopped : Option Stopped) (first now : Taken)
     (image : Option Known) (told : Told) : Type 0 where
-  pub is : told ≡ told_as (Some first.size) None stopped
+  pub is : told ≡ told_record (Some first.size) None stopped
   pub none : image ≡ None
   pub kept : now ≡ first
 
@@ -150,25 +150,25 @@ pub record TellsLength (stopped : Option Stopped) (first now : Taken)
 pub record TellsLong (filename : List ℕ) (first now : Taken) (told : Told) : Type 0 where
   pub stopped : Stopped
   pub long : file_stop filename first.size ≡ Some stopped
-  pub is : told ≡ told_as (Some first.size) None (Some stopped)
+  pub is : told ≡ told_record (Some first.size) None (Some stopped)
   pub kept : now ≡ first
 
 -- of the image in it, or why it isn't open
-pub record TellsAddedImage (t : Table) (node filename : List ℕ) (c : AddQcow2 (List ℕ))
+pub record TellsAddedImage (t : RunTable) (node filename : List ℕ) (c : AddQcow2 (List ℕ))
     (first now : Taken) (image : Known) (told : Told) : Type 0 where
   pub on : IsOpenOn first now image
   pub fits : file_stop filename first.size ≡ None
-  pub is : told ≡ told_as (Some first.size) (Some image.header.size)
-      (image_stop t node c (opened_sight image.header))
+  pub is : told ≡ told_record (Some first.size) (Some image.header.size)
+      (unfit_image t node c (opened_sight image.header))
 
 pub record TellsRefusal (filename : List ℕ) (first now : Taken) (told : Told) : Type 0 where
   pub why : Refusal
   pub on : IsNotOpenOn first now why
   pub fits : file_stop filename first.size ≡ None
   pub is : told
-      ≡ told_as (Some first.size) None (Some (record { look = look.Image; refusal = why }))
+      ≡ told_record (Some first.size) None (Some (record { look = look.Image; refusal = why }))
 
-abbrev pub TellsInside : Table → List ℕ → List ℕ → AddQcow2 (List ℕ) → Taken → Taken
+abbrev pub TellsInside : RunTable → List ℕ → List ℕ → AddQcow2 (List ℕ) → Taken → Taken
     → Option Known → Told → Type 0
 TellsInside t node filename c first now (Some image) told =
     TellsAddedImage t node filename c first now image told
@@ -176,7 +176,8 @@ TellsInside t node filename c first now None told =
     TellsLong filename first now told ⊎ TellsRefusal filename first now told
 
 -- by the driver of the node that is added; others open no file
-abbrev pub TellsAddition : Table → List ℕ → List ℕ → Added (List ℕ) → Taken → Taken → Option Known → Told
+abbrev pub TellsAddition : RunTable → List ℕ → List ℕ → Added (List ℕ) → Taken → Taken
+    → Option Known → Told
     → Type 0
 TellsAddition t node filename (added.File own) first now image told =
     TellsLength (file_stop filename first.size) first now image told
@@ -198,10 +199,10 @@ pub record Opens : Type 0 where
 
 -- A look is reached where a stop that stood there would be answered; no command of an addition is aborted otherwise.
 abbrev pub probe : Look → Told
-probe what = told_as None None (Some (record { look = what; refusal = Aborted }))
+probe what = told_record None None (Some (record { look = what; refusal = Aborted }))
 
-abbrev pub IsLookReached : Table → Cmd → Look → Type 0
-IsLookReached t c what = refusal_of t (probe what) c ≡ Some Aborted
+abbrev pub IsLookReached : RunTable → Cmd → Look → Type 0
+IsLookReached t c what = refusal_to t (probe what) c ≡ Some Aborted
 
 -- which file a command opens, and at which look it does
 abbrev pub opens_by : FileRef (List ℕ) → Look → Option Opens
@@ -217,10 +218,10 @@ opens driver = None
 -- ---- a look at the store
 
 -- The file isn't opened: a refusal stands before the look, or a node stands for it, or it was used.
-pub record LooksAway (t : Table) (c : Cmd) (at : Opens) (old new : StoreInRun)
+pub record LooksAway (t : RunTable) (c : Cmd) (at : Opens) (old new : StoreInRun)
     (told : Told) : Type 0 where
-  pub away : (refusal_of t (probe at.what) c ≢ Some Aborted) ⊎ (is_unopened t at.filename ≡ true)
-  pub is : told ≡ untold
+  pub away : (refusal_to t (probe at.what) c ≢ Some Aborted) ⊎ (is_unopened t at.filename ≡ true)
+  pub is : told ≡ told_none
   pub kept : new ≡ old
 
 -- It is refused. A failed call stands at the look that makes it: what the file would have told stands there or behind.
@@ -232,23 +233,23 @@ pub record LooksInVain (at : Opens) (old new : StoreInRun) (told : Told) : Type 
   pub why : Refusal
   pub cause : IsFileUnopened old new at.filename why
   pub is : told
-      ≡ told_as None None (Some (record { look = look_in_vain at.what why; refusal = why }))
+      ≡ told_record None None (Some (record { look = look_in_vain at.what why; refusal = why }))
 
 -- it is opened, and tells what it does
-pub record LooksInside (t : Table) (c : Adding) (filename : List ℕ) (old new : StoreInRun)
+pub record LooksInside (t : RunTable) (c : Adding) (filename : List ℕ) (old new : StoreInRun)
     (now : Taken) (image : Option Known) (told : Told) : Type 0 where
   pub first : Taken
   pub out : IsTakenOut old new filename first
   pub tells : TellsAddition t c.node_name filename c.driver first now image told
 
-abbrev pub LooksAtFile : Table → Adding → Opens → StoreInRun → StoreInRun → Option Taken
+abbrev pub LooksAtFile : RunTable → Adding → Opens → StoreInRun → StoreInRun → Option Taken
     → Option Known → Told → Type 0
 LooksAtFile t c at old new (Some now) image told =
     LooksInside t c at.filename old new now image told
 LooksAtFile t c at old new None image told = LooksInVain at old new told
 
 -- where it is opened, the look is reached, no node stands for it and it wasn't used
-abbrev pub Looks : Table → Adding → Opens → StoreInRun → StoreInRun → Option Taken → Option Known
+abbrev pub Looks : RunTable → Adding → Opens → StoreInRun → StoreInRun → Option Taken → Option Known
     → Told → Type 0
 Looks t c at old new out image told =
     (LooksAway t (command.BlockdevAdd c) at old new told × (out ≡ None) × (image ≡ None))
@@ -277,47 +278,48 @@ IsBackIfOut old new filename = (new ≡ old) ⊎ IsBackAgain old new filename
 -- ---- a look at a node
 
 -- a `file` node without parents has the name
-pub record IsFreeFile (t : Table) (file : List ℕ) (node : ℕ) : Type 0 where
+pub record IsFreeFile (t : RunTable) (file : List ℕ) (node : ℕ) : Type 0 where
   pub row : NodeRecord
   pub named : file_node t file ≡ Some row
   pub is : row.id ≡ node
   pub free : is_free_file t file ≡ true
 
 -- The image in it isn't opened: a refusal stands before the look, or the node has a parent.
-pub record LooksPast (t : Table) (c : Adding) (file : List ℕ) (old new : Nodes)
+pub record LooksPast (t : RunTable) (c : Adding) (file : List ℕ) (old new : Nodes)
     (told : Told) : Type 0 where
-  pub away : (refusal_of t (probe look.Image) (command.BlockdevAdd c) ≢ Some Aborted)
+  pub away : (refusal_to t (probe look.Image) (command.BlockdevAdd c) ≢ Some Aborted)
       ⊎ (is_free_file t file ≡ false)
-  pub is : told ≡ untold
+  pub is : told ≡ told_none
   pub kept : new ≡ old
 
 -- it is refused, or a read of it failed
-pub record LooksBadly (t : Table) (c : Adding) (file : List ℕ) (old new : Nodes)
+pub record LooksBadly (t : RunTable) (c : Adding) (file : List ℕ) (old new : Nodes)
     (told : Told) : Type 0 where
   pub reached : IsLookReached t (command.BlockdevAdd c) look.Image
   pub node : ℕ
   pub free : IsFreeFile t file node
-  pub device : DeviceState
+  pub device : DeviceSeen
   pub held : device_in old.devices node ≡ Some device
   pub cause : ImageStop
   pub memory : cause ≢ stop.NoMemory
   pub fits : CountFits cause
   pub numbered : device.number.0 < 2 ^ 32
   pub stopped : IsUnopened old.devices new.devices node cause
-  pub is : told ≡ told_as None None
+  pub is : told ≡ told_record None None
       (Some (record { look = look.Image; refusal = unopened device.number cause }))
 
 -- it is open
-pub record LooksWell (t : Table) (node file : List ℕ) (added : AddQcow2 (List ℕ))
+pub record LooksWell (t : RunTable) (node file : List ℕ) (added : AddQcow2 (List ℕ))
     (old new : Nodes) (image : Known) (told : Told) : Type 0 where
   pub id : ℕ
   pub free : IsFreeFile t file id
   pub opened : IsOpened old.devices id image
   pub kept : new ≡ old
-  pub is : told ≡ told_as None (Some image.header.size)
-      (image_stop t node added (opened_sight image.header))
+  pub is : told ≡ told_record None (Some image.header.size)
+      (unfit_image t node added (opened_sight image.header))
 
-abbrev pub LooksUnder : Table → Adding → AddQcow2 (List ℕ) → List ℕ → Nodes → Nodes → Option Known
+abbrev pub LooksUnder : RunTable → Adding → AddQcow2 (List ℕ) → List ℕ → Nodes → Nodes
+    → Option Known
     → Told → Type 0
 LooksUnder t c added file old new (Some image) told =
     LooksWell t c.node_name file added old new image told

@@ -11,39 +11,40 @@ use Rattle.blk_graph.specs.declared.edge.Edge.{Edge}
 use Rattle.blk_graph.specs.declared.edge.Parent.TheVariants.{Guest as GuestOf}
 use Rattle.blk_graph.specs.declared.kind.Kind.{Kind}
 use Rattle.blk_graph.specs.declared.kind.Kind.TheVariants.{Protocol}
-use Rattle.blk_nodes.specs.Nodes.{Nodes, DeviceState, AreTold, row_at, kind_of}
+use Rattle.blk_nodes.specs.Nodes.{Nodes, DeviceSeen, AreTold, row_at, driver_kind}
 use Rattle.blk_nodes.specs.declared.row.Driver.{Driver}
 use Rattle.blk_nodes.specs.declared.row.Driver.TheVariants.{Raw}
 use Rattle.blk_nodes.specs.declared.row.Row.{Row}
 use Rattle.qmp_rules.specs.declared.rows.Device.{Device}
 use Rattle.qmp_rules.specs.declared.rows.NodeRecord.{NodeRecord}
-use Rattle.qmp_rules.specs.Table.{Table, node_at, device_at}
+use Rattle.qmp_rules.specs.Table.{RunTable, node_by_id, device_by_number}
 use Rattle.qmp_rules.specs.Chains.{disk_node}
 use Rattle.qmp_asks.specs.Values.{most_length}
 use Rattle.flat_machine.specs.Agreement.{HasDisk}
 use Rattle.flat_machine.specs.Bitmaps.{AreBitmapsOf}
 use Rattle.flat_machine.specs.Legal.{IsForbidden}
 use Rattle.flat_machine.specs.Wiring.{TableAtRest}
-use Rattle.flat_machine.specs.State.{Guest, drive_of, disk_of_guest, size_of, filename_of}
+use Rattle.flat_machine.specs.State.{Guest, drive_of, disk_of_guest, size_by_id, filename_of}
 use Rattle.world_parts.specs.Progress.{Progress, flight_at}
-use Rattle.world_parts.specs.Face.{Face, device_numbered}
+use Rattle.world_parts.specs.Face.{WorldSeen, device_numbered}
 
 -- ---- the table
 
 -- a device that is there is on a node
-abbrev pub HaveDrives : Table → Type 0
-HaveDrives t = (g : ℕ) → IsSome (device_at t g) → IsSome (drive_of t g)
+abbrev pub HaveDrives : RunTable → Type 0
+HaveDrives t = (g : ℕ) → IsSome (device_by_number t g) → IsSome (drive_of t g)
 
 -- and that node has a flat disk: it is settled, or is a filter over such a node
-abbrev pub AreOnDisks : Table → Type 0
-AreOnDisks t = (g node : ℕ) → drive_of t g ≡ Some node → With (node_at t (disk_node t node)) HasDisk
+abbrev pub AreOnDisks : RunTable → Type 0
+AreOnDisks t =
+    (g node : ℕ) → drive_of t g ≡ Some node → With (node_by_id t (disk_node t node)) HasDisk
 
 -- ---- table and nodes
 
 -- where a part begins
-abbrev pub offset_of : Driver → ℕ
-offset_of (Raw part) = part.offset
-offset_of other = 0
+abbrev pub offset_by_driver : Driver → ℕ
+offset_by_driver (Raw part) = part.offset
+offset_by_driver other = 0
 
 -- a `file` node has no more bytes than one may have
 abbrev pub IsOfFileLength : Kind → ℕ → Type 0
@@ -52,10 +53,10 @@ IsOfFileLength kind size = Unit {0}
 
 -- a node's row says what the node is
 pub record IsRowOf (record' : NodeRecord) (row : Row) : Type 0 where
-  pub kind : record'.kind ≡ kind_of row.driver
+  pub kind : record'.kind ≡ driver_kind row.driver
   pub size : record'.size ≡ row.size
   pub access : record'.read_only ≡ row.is_read_only
-  pub place : record'.offset ≡ offset_of row.driver
+  pub place : record'.offset ≡ offset_by_driver row.driver
   pub small : IsOfFileLength record'.kind record'.size
 
 abbrev pub AreAlike : Option NodeRecord → Option Row → Type 0
@@ -67,39 +68,40 @@ AreAlike _ _ = ⊥
 abbrev pub node_row : NodeRecord → NodeRow
 node_row row = record { id = row.id; name = row.name }
 
-pub record AreNodesOf (t : Table) (nodes : Nodes) : Type 0 where
+pub record AreNodesOf (t : RunTable) (nodes : Nodes) : Type 0 where
   pub listed : nodes.graph.nodes ≡ map node_row t.nodes
   pub edges : nodes.graph.edges ≡ t.edges
-  pub rows : (id : ℕ) → AreAlike (node_at t id) (row_at nodes id)
+  pub rows : (id : ℕ) → AreAlike (node_by_id t id) (row_at nodes id)
 
 -- ---- guests
 
 -- a request in flight lies within its guest's disk
-abbrev pub AreWithin : Table → List Guest → Type 0
+abbrev pub AreWithin : RunTable → List Guest → Type 0
 AreWithin t guests = (g : ℕ) (f : Flight) → flight_at guests g ≡ Some f
-    → With (disk_of_guest t g) (λ node. end_of (span_of f.op) ≤ size_of t node)
+    → With (disk_of_guest t g) (λ node. end_of (span_of f.op) ≤ size_by_id t node)
 
 -- and its guest has a device, which allows it
-abbrev pub AreAllowed : Table → List Guest → Type 0
+abbrev pub AreAllowed : RunTable → List Guest → Type 0
 AreAllowed t guests = (g : ℕ) (f : Flight) → flight_at guests g ≡ Some f
-    → With (device_at t g) (λ device. IsForbidden f.op device.read_only → ⊥)
+    → With (device_by_number t g) (λ device. IsForbidden f.op device.read_only → ⊥)
 
 -- the edge of a device that may write asks to write
-abbrev pub AskToWrite : Table → Type 0
+abbrev pub AskToWrite : RunTable → Type 0
 AskToWrite t =
-    (g : ℕ) (device : Device) (edge : Edge) → device_at t g ≡ Some device → device.read_only ≡ false
+    (g : ℕ) (device : Device) (edge : Edge) → device_by_number t g ≡ Some device
+    → device.read_only ≡ false
     → Contains t.edges edge → edge.parent ≡ GuestOf g → edge.perm.write ≡ true
 
 -- and the node that it is on isn't read-only
-abbrev pub AreOnWritable : Table → Type 0
+abbrev pub AreOnWritable : RunTable → Type 0
 AreOnWritable t =
-    (g node : ℕ) (device : Device) → device_at t g ≡ Some device → device.read_only ≡ false
-    → drive_of t g ≡ Some node → With (node_at t node) (λ row. row.read_only ≡ false)
+    (g node : ℕ) (device : Device) → device_by_number t g ≡ Some device → device.read_only ≡ false
+    → drive_of t g ≡ Some node → With (node_by_id t node) (λ row. row.read_only ≡ false)
 
 -- ---- openings
 
 -- a device that is held is that of an opening of its node's file, and not back yet
-pub record IsOut (t : Table) (opened : List Opened) (device : DeviceState) : Type 0 where
+pub record IsOut (t : RunTable) (opened : List Opened) (device : DeviceSeen) : Type 0 where
   pub opening : Opened
   pub there : slice_get opened device.number.0 ≡ Some opening
   pub out : opening.returned ≡ None
@@ -114,24 +116,24 @@ NamesAreOutOnce opened =
     → o.returned ≡ None → p.returned ≡ None → o.name ≡ p.name → a ≡ b
 
 -- these devices are the openings that are not back yet, in the order in which they were opened
-pub record AreHeld (t : Table) (devices : List DeviceState) (opened : List Opened) : Type 0 where
-  pub each : (device : DeviceState) → Contains devices device → IsOut t opened device
+pub record AreHeld (t : RunTable) (devices : List DeviceSeen) (opened : List Opened) : Type 0 where
+  pub each : (device : DeviceSeen) → Contains devices device → IsOut t opened device
   pub once : AllPairs (λ a b. a.number ≢ b.number) devices
   pub order : AllPairs (λ a b. a.number.0 < b.number.0) devices
   pub all : (n : ℕ) (o : Opened) → slice_get opened n ≡ Some o → o.returned ≡ None
       → IsSome (device_numbered devices n)
   pub names : NamesAreOutOnce opened
 
-abbrev pub AreOut : Table → Nodes → List Opened → Type 0
+abbrev pub AreOut : RunTable → Nodes → List Opened → Type 0
 AreOut t nodes opened = AreHeld t nodes.devices opened
 
 -- where the store tells its files, each device tells its bytes
-abbrev pub DevicesTell : Option (List File) → List DeviceState → Type 0
+abbrev pub DevicesTell : Option (List File) → List DeviceSeen → Type 0
 DevicesTell files devices = is_some files ≡ true → AreTold devices
 
 -- ---- whatever the store tells; no command that starts a job is carried out yet
 
-pub record IsCoherent (t : Table) (nodes : Nodes) (opened : List Opened)
+pub record IsCoherent (t : RunTable) (nodes : Nodes) (opened : List Opened)
     (p : Progress) : Type 0 where
   pub table : TableAtRest t
   pub drives : HaveDrives t
@@ -147,7 +149,7 @@ pub record IsCoherent (t : Table) (nodes : Nodes) (opened : List Opened)
 
 -- ---- all of it
 
-pub record IsWholeWorld (w : Face) : Type 0 where
+pub record IsWholeWorld (w : WorldSeen) : Type 0 where
   pub coherent : IsCoherent w.table w.nodes w.opened w.progress
   pub tell : DevicesTell w.files w.nodes.devices
   pub counted : w.first_faults ≤ w.faults

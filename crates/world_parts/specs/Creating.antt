@@ -13,7 +13,7 @@ use Rattle.qmp_codec.specs.declared.nodes.CreateQcow2.{CreateQcow2}
 use Rattle.qmp_codec.specs.declared.nodes.Created.{Created}
 use Rattle.qmp_codec.specs.declared.nodes.Created.TheVariants as created
 use Rattle.qmp_rules.specs.Asks.{id_or}
-use Rattle.qmp_rules.specs.Table.{Table, id_named}
+use Rattle.qmp_rules.specs.Table.{RunTable, id_named}
 use Rattle.qmp_asks.specs.Values.{amount_or}
 use Rattle.qmp_rules.specs.declared.judge.PrepareStop.{PrepareStop}
 use Rattle.qmp_rules.specs.declared.judge.PrepareStop.TheVariants.{Refused, NoMemory}
@@ -32,8 +32,8 @@ use Rattle.world_parts.specs.Steps.{StoreSeen}
 -- ---- files
 
 -- the store with a file of so many zeros
-abbrev pub with_made : List ℕ → ℕ → StoreSeen → StoreSeen
-with_made name size store = record store {
+abbrev pub with_zeroed_file : List ℕ → ℕ → StoreSeen → StoreSeen
+with_zeroed_file name size store = record store {
   files = option_map
       (put_file (record {
         name = name;
@@ -76,7 +76,7 @@ pub record CanMake (c : CreateFile (List ℕ)) (x : Ground) : Type 0 where
   pub closed : IsTrue (is_out c.filename x.store.opened) → ⊥
   pub room : amount_or 0 (Some c.size) ≤ x.store.room
 
-pub record CanFormat (t : Table) (c : CreateQcow2 (List ℕ)) (nodes : Nodes) : Type 0 where
+pub record CanFormat (t : RunTable) (c : CreateQcow2 (List ℕ)) (nodes : Nodes) : Type 0 where
   pub node : ℕ
   pub found : id_named t c.file ≡ Some node
   pub is_file : IsFile nodes node
@@ -84,7 +84,7 @@ pub record CanFormat (t : Table) (c : CreateQcow2 (List ℕ)) (nodes : Nodes) : 
   pub small : amount_or 0 (Some c.size) ≤ MAX_DISK_SIZE
   pub named : ForSome c.backing_file IsNewName
 
-abbrev pub CanCreate : Table → Created (List ℕ) → Ground → Type 0
+abbrev pub CanCreate : RunTable → Created (List ℕ) → Ground → Type 0
 CanCreate t (created.File c) x = CanMake c x
 CanCreate t (created.Qcow2 c) x = CanFormat t c x.nodes
 CanCreate t created.Unknown x = ⊥
@@ -98,9 +98,9 @@ pub record HasFormatted (node : ℕ) (old now : Ground) (image : Creation)
   pub others : (other : ℕ) → other ≢ node → disk_of now.nodes other ≡ disk_of old.nodes other
 
 -- it was carried out
-abbrev pub HasCreated : Table → Created (List ℕ) → Ground → Ground → Type 0
+abbrev pub HasCreated : RunTable → Created (List ℕ) → Ground → Ground → Type 0
 HasCreated t (created.File c) old now =
-    now ≡ record old { store = with_made c.filename (amount_or 0 (Some c.size)) old.store }
+    now ≡ record old { store = with_zeroed_file c.filename (amount_or 0 (Some c.size)) old.store }
 HasCreated t (created.Qcow2 c) old now =
     HasFormatted (id_or 0 t (Some c.file)) old now (creation_for c) (Ok tt)
 HasCreated t created.Unknown old now = ⊥
@@ -112,7 +112,7 @@ pub record HasFormatFailed (node : ℕ) (old now : Ground) (image : Creation) (c
     pub formatted : HasFormatted node old now image (Err why)
     pub is : unformatted why ≡ Refused cause
 
-abbrev pub IsFailed : Table → Created (List ℕ) → Ground → Ground → Refusal → Type 0
+abbrev pub IsFailed : RunTable → Created (List ℕ) → Ground → Ground → Refusal → Type 0
 IsFailed t (created.File c) old now cause =
     (now.nodes ≡ old.nodes) × HasMakingFailed c.filename old.store now.store cause
 IsFailed t (created.Qcow2 c) old now cause =
@@ -120,6 +120,6 @@ IsFailed t (created.Qcow2 c) old now cause =
 IsFailed t created.Unknown old now cause = ⊥
 
 -- why it was not carried out
-abbrev pub IsUncreated : Table → Created (List ℕ) → Ground → Ground → PrepareStop → Type 0
+abbrev pub IsUncreated : RunTable → Created (List ℕ) → Ground → Ground → PrepareStop → Type 0
 IsUncreated t options old now (Refused cause) = IsFailed t options old now cause
 IsUncreated t options old now NoMemory = now ≡ old

@@ -9,32 +9,32 @@ use Rattle.blk_graph.specs.declared.edge.Parent.TheVariants.{Node}
 use Rattle.blk_graph.specs.Graph.{HasNode}
 use Rattle.blk_graph.specs.Judged.{first_parent}
 use Rattle.blk_nodes.specs.Contents.{disk_of, Unfolds}
-use Rattle.blk_nodes.specs.Dropping.{without}
+use Rattle.blk_nodes.specs.Dropping.{nodes_without}
 use Rattle.blk_nodes.specs.Joined.{IsJoined}
-use Rattle.blk_nodes.specs.Nodes.{Nodes, DeviceState, device_in}
+use Rattle.blk_nodes.specs.Nodes.{Nodes, DeviceSeen, device_in}
 use Rattle.qmp_rules.specs.Changes.{changed}
 use Rattle.qmp_rules.specs.Edits.{goes_with_node}
-use Rattle.qmp_rules.specs.Table.{Table, node_named, node_at, first_into}
+use Rattle.qmp_rules.specs.Table.{RunTable, node_named, node_by_id, first_into}
 use Rattle.qmp_rules.specs.declared.rows.NodeRecord.{NodeRecord}
 use Rattle.qmp_rules.specs.declared.change.Change.TheVariants.{RemoveNode}
 use Rattle.flat_machine.specs.Wiring.{AreApart}
 use Rattle.flat_machine.specs.State.{filename_of}
 use Rattle.world_parts.specs.Coherent.{AreNodesOf, AreOut}
-use Rattle.world_parts.specs.Face.{Face}
+use Rattle.world_parts.specs.Face.{WorldSeen}
 use Rattle.world_parts.specs.Steps.{StoreSeen, seen_store, seen_in_run}
 use Rattle.world_parts.specs.Stores.{StoreInRun}
 
 -- the name of the file that a `file` node stands for; of another node, none
-abbrev pub name_under : Table → ℕ → List ℕ
+abbrev pub name_under : RunTable → ℕ → List ℕ
 name_under t node = unwrap_or (filename_of t node) []
 
 -- a device that tells its bytes tells whether it is flushed
-abbrev pub TellsFlush : Option DeviceState → Type 0
+abbrev pub TellsFlush : Option DeviceSeen → Type 0
 TellsFlush None = Unit {0}
 TellsFlush (Some device) = is_some device.content ≡ true → is_some device.is_flushed ≡ true
 
 -- the store once a device is back, where there is one
-abbrev pub with_back : List ℕ → Option DeviceState → StoreSeen → StoreSeen
+abbrev pub with_back : List ℕ → Option DeviceSeen → StoreSeen → StoreSeen
 with_back name None store = store
 with_back name (Some device) store = record store {
   files = files_with_returned name device.content device.capacity device.is_flushed store.files;
@@ -57,52 +57,52 @@ abbrev pub ground_in : StoreInRun → Nodes → Ground
 ground_in store nodes = record { store = seen_in_run store; nodes = nodes }
 
 -- a node goes, and its device is back in its file
-abbrev pub left : Table → ℕ → Ground → Ground
+abbrev pub left : RunTable → ℕ → Ground → Ground
 left t node x = record {
   store = with_back (name_under t node) (device_in x.nodes.devices node) x.store;
-  nodes = without node x.nodes;
+  nodes = nodes_without node x.nodes;
 }
 
 -- no edge leads to the node, and its device is out under its file's name
-pub record CanLeave (t : Table) (x : Ground) (node : ℕ) : Type 0 where
+pub record CanLeave (t : RunTable) (x : Ground) (node : ℕ) : Type 0 where
   pub there : HasNode x.nodes.graph node
   pub lone : first_parent node x.nodes.graph.edges ≡ None
-  pub out : (device : DeviceState) → device_in x.nodes.devices node ≡ Some device
+  pub out : (device : DeviceSeen) → device_in x.nodes.devices node ≡ Some device
       → IsTrue (is_out (name_under t node) x.store.opened)
 
 -- what is known once it has gone
 pub record HasLeft (x : Ground) (node : ℕ) : Type 0 where
   pub flush : TellsFlush (device_in x.nodes.devices node)
-  pub joined : IsJoined (without node x.nodes)
-  pub unfolds : Unfolds (without node x.nodes)
-  pub disks : (other : ℕ) → HasNode (without node x.nodes).graph other
-      → disk_of (without node x.nodes) other ≡ disk_of x.nodes other
+  pub joined : IsJoined (nodes_without node x.nodes)
+  pub unfolds : Unfolds (nodes_without node x.nodes)
+  pub disks : (other : ℕ) → HasNode (nodes_without node x.nodes).graph other
+      → disk_of (nodes_without node x.nodes) other ≡ disk_of x.nodes other
 
 -- nodes that go one after another
-abbrev pub all_left : Table → List ℕ → Ground → Ground
+abbrev pub all_left : RunTable → List ℕ → Ground → Ground
 all_left t [] x = x
 all_left t (node ∷ nodes) x = all_left t nodes (left t node x)
 
-abbrev pub HaveLeft : Table → Ground → List ℕ → Type 0
+abbrev pub HaveLeft : RunTable → Ground → List ℕ → Type 0
 HaveLeft t x [] = Unit {0}
 HaveLeft t x (node ∷ nodes) = HasLeft x node × HaveLeft t (left t node x) nodes
 
 -- ---- a world
 
-abbrev pub ground_of : Face → Ground
+abbrev pub ground_of : WorldSeen → Ground
 ground_of w = ground w.files w.opened w.room w.faults w.nodes
 
 -- a node goes, from the table too
-abbrev pub without_node : ℕ → Face → Face
-without_node node w = record w {
+abbrev pub after_deletion : ℕ → WorldSeen → WorldSeen
+after_deletion node w = record w {
   files = (left w.table node (ground_of w)).store.files;
   opened = (left w.table node (ground_of w)).store.opened;
-  nodes = without node w.nodes;
+  nodes = nodes_without node w.nodes;
   table = changed w.table (RemoveNode node);
 }
 
 -- the file node that goes with a node, where it was made with it
-abbrev pub made_with : Table → ℕ → Option ℕ
+abbrev pub made_with : RunTable → ℕ → Option ℕ
 made_with t id = option_map (λ row. row.id) (find (goes_with_node id) t.nodes)
 
 -- the nodes that go with a node, itself first
@@ -110,13 +110,13 @@ abbrev pub with_node_below : ℕ → Option ℕ → List ℕ
 with_node_below node None = node ∷ []
 with_node_below node (Some file) = node ∷ file ∷ []
 
-abbrev pub going : Table → ℕ → List ℕ
+abbrev pub going : RunTable → ℕ → List ℕ
 going t node = with_node_below node (made_with t node)
 
 -- ---- deletions
 
 -- a `file` node that was made with another one is under that alone
-pub record IsOnlyUnder (t : Table) (row : NodeRecord) (over : ℕ) : Type 0 where
+pub record IsOnlyUnder (t : RunTable) (row : NodeRecord) (over : ℕ) : Type 0 where
   pub edge : Edge
   pub there : Contains t.edges edge
   pub child : edge.child ≡ row.id
@@ -124,7 +124,7 @@ pub record IsOnlyUnder (t : Table) (row : NodeRecord) (over : ℕ) : Type 0 wher
       → other.parent ≡ Node over
 
 -- how the table, the nodes and the openings belong together
-pub record Belong (t : Table) (x : Ground) : Type 0 where
+pub record Belong (t : RunTable) (x : Ground) : Type 0 where
   pub alike : AreNodesOf t x.nodes
   pub apart : AreApart t
   pub inline : (row : NodeRecord) (over : ℕ) → Contains t.nodes row → row.made_with ≡ Some over
@@ -132,19 +132,19 @@ pub record Belong (t : Table) (x : Ground) : Type 0 where
   pub out : AreOut t x.nodes x.store.opened
 
 -- the node of that name is there, and no edge leads to it
-pub record Deletes (t : Table) (name : List ℕ) : Type 0 where
+pub record Deletes (t : RunTable) (name : List ℕ) : Type 0 where
   pub row : NodeRecord
   pub found : node_named t name ≡ Some row
   pub lone : first_into row.id t.edges ≡ None
 
 -- a node of the table that no edge leads to
-pub record IsLoneNode (t : Table) (node : ℕ) : Type 0 where
+pub record IsLoneNode (t : RunTable) (node : ℕ) : Type 0 where
   pub row : NodeRecord
-  pub there : node_at t node ≡ Some row
+  pub there : node_by_id t node ≡ Some row
   pub lone : first_into node t.edges ≡ None
 
 -- the node of that name has gone with the file node that was made with it
-pub record IsDeleted (t : Table) (name : List ℕ) (old now : Ground) : Type 0 where
+pub record IsDeleted (t : RunTable) (name : List ℕ) (old now : Ground) : Type 0 where
   pub row : NodeRecord
   pub found : node_named t name ≡ Some row
   pub left_are : now ≡ all_left t (going t row.id) old

@@ -7,9 +7,9 @@ use Rattle.flat_machine.specs.State.{State, Guest}
 use Rattle.world_parts.specs.declared.in_the_way.InTheWay.{InTheWay}
 
 -- the number of a guest's request in flight
-abbrev pub request_in : Option Guest → Option ℕ
-request_in None = None
-request_in (Some row) = option_map (λ flight. row.done) row.flight
+abbrev pub number_in_flight : Option Guest → Option ℕ
+number_in_flight None = None
+number_in_flight (Some row) = option_map (λ flight. row.done) row.flight
 
 -- the request of this guest that is in flight on one of these disks, if any
 abbrev pub IsOneOf : State → List ℕ → ℕ → Option ℕ → Type 0

@@ -5,9 +5,9 @@ use Rattle.blk_bitmaps.specs.Calls.{after, RemoveAll}
 use Rattle.qmp_codec.specs.Commands.{Cmd}
 use Rattle.qmp_codec.specs.declared.command.Command.TheVariants as command
 use Rattle.qmp_codec.specs.declared.nodes.DeviceAdd.{DeviceAdd}
-use Rattle.qmp_rules.specs.Answers.{answer, refusal_of, untold}
+use Rattle.qmp_rules.specs.Answers.{answer, refusal_to, told_none}
 use Rattle.qmp_rules.specs.Changes.{all_changed}
-use Rattle.qmp_rules.specs.Table.{Table, device_named, id_named}
+use Rattle.qmp_rules.specs.Table.{RunTable, device_named, id_named}
 use Rattle.qmp_rules.specs.declared.judge.PrepareStop.{PrepareStop}
 use Rattle.qmp_rules.specs.declared.judge.PrepareStop.TheVariants.{Refused, NoMemory}
 use Rattle.qmp_rules.specs.declared.refusal.Refusal.{Refusal}
@@ -26,16 +26,16 @@ DoneIf None done undone = done
 DoneIf (Some cause) done undone = undone
 
 -- The command is answered by the table alone. Its changes are made, and what they say was done to store and nodes.
-pub record IsHandled (given : List ℕ) (t : Table) (c : Cmd) (u : Table) (done undone : Type 0)
+pub record IsHandled (given : List ℕ) (t : RunTable) (c : Cmd) (u : RunTable) (done undone : Type 0)
     (text : List ℕ) : Type 0 where
   pub refusal : Option Refusal
-  pub judged : refusal_of t untold c ≡ refusal
+  pub judged : refusal_to t told_none c ≡ refusal
   pub done_is : DoneIf refusal done undone
-  pub table : u ≡ all_changed t (answer t untold c).changes
-  pub said : IsSaid given (answer t untold c).reply text
+  pub table : u ≡ all_changed t (answer t told_none c).changes
+  pub said : IsSaid given (answer t told_none c).reply text
 
 -- for want of memory nothing has changed
-pub record IsUntouched (t u : Table) (undone : Type 0) : Type 0 where
+pub record IsUntouched (t u : RunTable) (undone : Type 0) : Type 0 where
   pub table : u ≡ t
   pub kept : undone
 
@@ -50,7 +50,7 @@ abbrev pub is_deletion : Cmd → Bool
 is_deletion (command.BlockdevDel name) = true
 is_deletion c = false
 
-abbrev pub IsDeletedBy : Table → Cmd → Ground → Ground → Type 0
+abbrev pub IsDeletedBy : RunTable → Cmd → Ground → Ground → Type 0
 IsDeletedBy t (command.BlockdevDel name) old now = IsDeleted t name old now
 IsDeletedBy t c old now = ⊥
 
@@ -62,16 +62,16 @@ bitmaps_but [] bitmaps = bitmaps
 bitmaps_but (node ∷ nodes) bitmaps = bitmaps_but nodes (after bitmaps (RemoveAll node))
 
 -- A deletion takes the bitmaps of the node with it, and those of the `file` node that goes too.
-abbrev pub bitmaps_named : Table → Option ℕ → List Bitmap → List Bitmap
+abbrev pub bitmaps_named : RunTable → Option ℕ → List Bitmap → List Bitmap
 bitmaps_named t None bitmaps = bitmaps
 bitmaps_named t (Some node) bitmaps = bitmaps_but (going t node) bitmaps
 
-abbrev pub bitmaps_deleted : Table → Cmd → List Bitmap → List Bitmap
+abbrev pub bitmaps_deleted : RunTable → Cmd → List Bitmap → List Bitmap
 bitmaps_deleted t (command.BlockdevDel name) bitmaps = bitmaps_named t (id_named t name) bitmaps
 bitmaps_deleted t c bitmaps = bitmaps
 
 -- accepted, these are left; refused, all
-abbrev pub bitmaps_left : Option Refusal → Table → Cmd → List Bitmap → List Bitmap
+abbrev pub bitmaps_left : Option Refusal → RunTable → Cmd → List Bitmap → List Bitmap
 bitmaps_left None t c bitmaps = bitmaps_deleted t c bitmaps
 bitmaps_left (Some cause) t c bitmaps = bitmaps
 
@@ -80,7 +80,7 @@ is_attachment (command.DeviceAdd c) = true
 is_attachment c = false
 
 -- The table has the new device, and the node of its drive. That its edge is drawn to the node breaks no rule.
-pub record CanAttach (u : Table) (c : DeviceAdd (List ℕ)) (nodes : Nodes) : Type 0 where
+pub record CanAttach (u : RunTable) (c : DeviceAdd (List ℕ)) (nodes : Nodes) : Type 0 where
   pub device : Device
   pub named : device_named u c.id ≡ Some device
   pub node : ℕ
@@ -91,7 +91,7 @@ pub record CanAttach (u : Table) (c : DeviceAdd (List ℕ)) (nodes : Nodes) : Ty
       (with_below nodes (guest_edge nodes device.number node device.share_rw)).graph.edges ≡ None
 
 -- the edge is drawn
-pub record IsAttached (u : Table) (c : DeviceAdd (List ℕ)) (nodes now : Nodes) : Type 0 where
+pub record IsAttached (u : RunTable) (c : DeviceAdd (List ℕ)) (nodes now : Nodes) : Type 0 where
   pub device : Device
   pub named : device_named u c.id ≡ Some device
   pub node : ℕ
@@ -99,10 +99,10 @@ pub record IsAttached (u : Table) (c : DeviceAdd (List ℕ)) (nodes now : Nodes)
   pub drawn : now ≡ with_below nodes (guest_edge nodes device.number node device.share_rw)
   pub disks : (other : ℕ) → disk_of now other ≡ disk_of nodes other
 
-abbrev pub CanAttachBy : Table → Cmd → Nodes → Type 0
+abbrev pub CanAttachBy : RunTable → Cmd → Nodes → Type 0
 CanAttachBy u (command.DeviceAdd c) nodes = CanAttach u c nodes
 CanAttachBy u c nodes = ⊥
 
-abbrev pub IsAttachedBy : Table → Cmd → Nodes → Nodes → Type 0
+abbrev pub IsAttachedBy : RunTable → Cmd → Nodes → Nodes → Type 0
 IsAttachedBy u (command.DeviceAdd c) nodes now = IsAttached u c nodes now
 IsAttachedBy u c nodes now = ⊥

@@ -8,9 +8,9 @@ use Rattle.blk_graph.specs.declared.kind.Kind.TheVariants as kinds
 use Rattle.q2_format.specs.Contents.{file_disk, raw_disk, image_disk}
 use Rattle.q2_image.specs.Image.{Known}
 use Rattle.blk_nodes.specs.Adding.{IsAllowed, file_edge, kind_with, raw_row}
-use Rattle.blk_nodes.specs.Contents.{below, bytes_of, disk_of, told}
+use Rattle.blk_nodes.specs.Contents.{disk_under, bytes_of, disk_of, told}
 use Rattle.blk_nodes.specs.Joined.{IsFile, IsJoined}
-use Rattle.blk_nodes.specs.Nodes.{Nodes, size_of}
+use Rattle.blk_nodes.specs.Nodes.{Nodes, node_size}
 use Rattle.blk_nodes.specs.Overlays.{Asked, HasRoomForNode, IsOpened, backing_node, backing_size, backing_stop, copying_row, edges_for, qcow2_row, with_children}
 use Rattle.blk_nodes.specs.declared.backing.Backing.{Backing}
 use Rattle.blk_nodes.specs.declared.backing.Backing.TheVariants.{Unsaid, Null, Node}
@@ -26,10 +26,10 @@ use Rattle.qmp_codec.specs.declared.nodes.FileRef.TheVariants as file_ref
 use Rattle.qmp_codec.specs.declared.nodes.InlineFile.{InlineFile}
 use Rattle.qmp_asks.specs.Naming.{inline_name}
 use Rattle.qmp_asks.specs.NodeAsks.{is_read_only}
-use Rattle.qmp_rules.specs.Table.{Table, id_named, node_named}
+use Rattle.qmp_rules.specs.Table.{RunTable, id_named, node_named}
 use Rattle.qmp_asks.specs.Values.{part_offset, part_size}
 use Rattle.qmp_rules.specs.declared.rows.NodeRecord.{NodeRecord}
-use Rattle.world_parts.specs.Adding.{Adding, Taken, with_file}
+use Rattle.world_parts.specs.Adding.{Adding, Taken, with_node_of_file}
 
 -- ---- one node more
 
@@ -41,7 +41,7 @@ ReadOn old new = (other : ℕ) → HasNode old.graph other → disk_of new other
 pub record IsFileAdded (name : List ℕ) (read_only : Bool) (device : Taken)
     (old new : Nodes) (id : ℕ) : Type 0 where
   pub lowest : IsLowestFree (ids old.graph) id
-  pub is : new ≡ with_file old id name read_only device
+  pub is : new ≡ with_node_of_file old id name read_only device
   pub disks : ReadOn old new
   pub disk : disk_of new id ≡ file_disk device.size (told device.content)
   pub joined : IsJoined new
@@ -63,12 +63,12 @@ HasPart name read_only file part old new id =
 abbrev pub HasImageNode : Asked → Known → Nodes → Nodes → ℕ → Type 0
 HasImageNode asked image old new id =
     HasOver asked.name (qcow2_row image asked.is_read_only) asked.file (backing_node asked.backing)
-    (image_disk (bytes_of old asked.file) (below (disk_of old) (backing_node asked.backing)))
+    (image_disk (bytes_of old asked.file) (disk_under (disk_of old) (backing_node asked.backing)))
     old new id
 
 abbrev pub HasFilter : List ℕ → Bool → ℕ → Nodes → Nodes → ℕ → Type 0
 HasFilter name read_only child old new id =
-    HasOver name (copying_row (size_of old child) read_only) child None (disk_of old child)
+    HasOver name (copying_row (node_size old child) read_only) child None (disk_of old child)
     old new id
 
 -- ---- when it can be added
@@ -76,7 +76,7 @@ HasFilter name read_only child old new id =
 pub record CanPutPart (nodes : Nodes) (name : List ℕ) (read_only : Bool) (file : ℕ)
     (part : Extent) : Type 0 where
   pub is_file : IsFile nodes file
-  pub within : end_of part ≤ size_of nodes file
+  pub within : end_of part ≤ node_size nodes file
   pub fits : end_of part ≤ 9223372036854775808
   pub place : HasRoomForNode nodes name
   pub allowed : IsAllowed nodes (kind_with kinds.Raw read_only)
@@ -109,13 +109,13 @@ abbrev pub backing_at : Option ℕ → Backing
 backing_at None = Null
 backing_at (Some node) = Node node
 
-abbrev pub backing_for : Table → Option (Said (List ℕ)) → Backing
+abbrev pub backing_for : RunTable → Option (Said (List ℕ)) → Backing
 backing_for t None = Unsaid
 backing_for t (Some said.Null) = Null
 backing_for t (Some (said.Name name)) = backing_at (id_named t name)
 
-abbrev pub asked_for : Table → Adding → AddQcow2 (List ℕ) → ℕ → Asked
-asked_for t c qcow2 file = record {
+abbrev pub qcow2_asked : RunTable → Adding → AddQcow2 (List ℕ) → ℕ → Asked
+qcow2_asked t c qcow2 file = record {
   name = c.node_name;
   file = file;
   backing = backing_for t qcow2.backing;
@@ -138,12 +138,13 @@ pub record CanJoin (c : Adding) (file : InlineFile (List ℕ)) (device : Taken) 
       → Next between node
 
 -- over the node of a name
-pub record CanJoinAt (t : Table) (name : List ℕ) (Can : NodeRecord → Type 0) : Type 0 where
+pub record CanJoinAt (t : RunTable) (name : List ℕ) (Can : NodeRecord → Type 0) : Type 0 where
   pub row : NodeRecord
   pub found : node_named t name ≡ Some row
   pub can : Can row
 
-abbrev pub CanAddPart : Table → Adding → AddRaw (List ℕ) → FileRef (List ℕ) → Option Taken → Nodes
+abbrev pub CanAddPart : RunTable → Adding → AddRaw (List ℕ) → FileRef (List ℕ) → Option Taken
+    → Nodes
     → Type 0
 CanAddPart t c raw (file_ref.Name name) None nodes =
     CanJoinAt t name
@@ -154,15 +155,16 @@ CanAddPart t c raw (file_ref.Inline file) (Some device) nodes =
     CanPutPart now c.node_name (is_read_only c.options) node (part_in raw device.size))
 CanAddPart t c raw file out nodes = ⊥
 
-abbrev pub CanAddImage : Table → Adding → AddQcow2 (List ℕ) → FileRef (List ℕ) → Option Taken
+abbrev pub CanAddImage : RunTable → Adding → AddQcow2 (List ℕ) → FileRef (List ℕ) → Option Taken
     → Option Known → Nodes → Type 0
 CanAddImage t c qcow2 (file_ref.Name name) None (Some image) nodes =
-    CanJoinAt t name (λ row. CanPutImage nodes (asked_for t c qcow2 row.id) image)
+    CanJoinAt t name (λ row. CanPutImage nodes (qcow2_asked t c qcow2 row.id) image)
 CanAddImage t c qcow2 (file_ref.Inline file) (Some device) (Some image) nodes =
-    CanJoin c file device nodes (λ now node. CanPutImage now (asked_for t c qcow2 node) image)
+    CanJoin c file device nodes (λ now node. CanPutImage now (qcow2_asked t c qcow2 node) image)
 CanAddImage t c qcow2 file out image nodes = ⊥
 
-abbrev pub CanAddBy : Table → Adding → Added (List ℕ) → Option Taken → Option Known → Nodes → Type 0
+abbrev pub CanAddBy : RunTable → Adding → Added (List ℕ) → Option Taken → Option Known → Nodes
+    → Type 0
 CanAddBy t c (added.File filename) (Some device) image nodes = HasRoomForNode nodes c.node_name
 CanAddBy t c (added.Raw raw) out image nodes = CanAddPart t c raw raw.file out nodes
 CanAddBy t c (added.Qcow2 qcow2) out image nodes =
@@ -171,7 +173,7 @@ CanAddBy t c (added.CopyOnRead name) None image nodes =
     CanJoinAt t name (λ row. CanPutFilter nodes c.node_name (is_read_only c.options) row.id)
 CanAddBy t c driver out image nodes = ⊥
 
-abbrev pub CanAdd : Table → Adding → Option Taken → Option Known → Nodes → Type 0
+abbrev pub CanAdd : RunTable → Adding → Option Taken → Option Known → Nodes → Type 0
 CanAdd t c out image nodes = CanAddBy t c c.driver out image nodes
 
 -- ---- the nodes that were made
@@ -184,13 +186,14 @@ pub record HasJoined (c : Adding) (file : InlineFile (List ℕ)) (device : Taken
   pub node : ℕ
   pub next : Next between under node
 
-pub record HasJoinedAt (t : Table) (name : List ℕ) (Next : NodeRecord → ℕ → Type 0) : Type 0 where
+pub record HasJoinedAt (t : RunTable) (name : List ℕ)
+    (Next : NodeRecord → ℕ → Type 0) : Type 0 where
   pub row : NodeRecord
   pub found : node_named t name ≡ Some row
   pub node : ℕ
   pub next : Next row node
 
-abbrev pub HasAddedPart : Table → Adding → AddRaw (List ℕ) → FileRef (List ℕ) → Option Taken
+abbrev pub HasAddedPart : RunTable → Adding → AddRaw (List ℕ) → FileRef (List ℕ) → Option Taken
     → Nodes → Nodes → Type 0
 HasAddedPart t c raw (file_ref.Name name) None old new =
     HasJoinedAt t name
@@ -202,13 +205,13 @@ HasAddedPart t c raw (file_ref.Inline file) (Some device) old new =
     HasPart c.node_name (is_read_only c.options) under (part_in raw device.size) now new node)
 HasAddedPart t c raw file out old new = ⊥
 
-abbrev pub HasAddedImage : Table → Adding → AddQcow2 (List ℕ) → FileRef (List ℕ) → Option Taken
+abbrev pub HasAddedImage : RunTable → Adding → AddQcow2 (List ℕ) → FileRef (List ℕ) → Option Taken
     → Option Known → Nodes → Nodes → Type 0
 HasAddedImage t c qcow2 (file_ref.Name name) None (Some image) old new =
-    HasJoinedAt t name (λ row node. HasImageNode (asked_for t c qcow2 row.id) image old new node)
+    HasJoinedAt t name (λ row node. HasImageNode (qcow2_asked t c qcow2 row.id) image old new node)
 HasAddedImage t c qcow2 (file_ref.Inline file) (Some device) (Some image) old new =
     HasJoined c file device old new
-    (λ now under node. HasImageNode (asked_for t c qcow2 under) image now new node)
+    (λ now under node. HasImageNode (qcow2_asked t c qcow2 under) image now new node)
 HasAddedImage t c qcow2 file out image old new = ⊥
 
 abbrev pub HasAddedFile : Adding → Option Taken → Nodes → Nodes → Type 0
@@ -216,7 +219,7 @@ HasAddedFile c None old new = ⊥
 HasAddedFile c (Some device) old new =
     (id : ℕ) × IsFileAdded c.node_name (is_read_only c.options) device old new id
 
-abbrev pub HasAddedBy : Table → Adding → Added (List ℕ) → Option Taken → Option Known
+abbrev pub HasAddedBy : RunTable → Adding → Added (List ℕ) → Option Taken → Option Known
     → Nodes → Nodes → Type 0
 HasAddedBy t c (added.File filename) out image old new = HasAddedFile c out old new
 HasAddedBy t c (added.Raw raw) out image old new = HasAddedPart t c raw raw.file out old new
@@ -227,5 +230,5 @@ HasAddedBy t c (added.CopyOnRead name) None image old new =
     (λ row node. HasFilter c.node_name (is_read_only c.options) row.id old new node)
 HasAddedBy t c driver out image old new = ⊥
 
-abbrev pub HasAdded : Table → Adding → Option Taken → Option Known → Nodes → Nodes → Type 0
+abbrev pub HasAdded : RunTable → Adding → Option Taken → Option Known → Nodes → Nodes → Type 0
 HasAdded t c out image old new = HasAddedBy t c c.driver out image old new

@@ -5,6 +5,6 @@ use Rattle.qmp_codec.specs.Lines.{Stop, seen_stop}
 use Rattle.world_parts.specs.declared.line.Line.{Line}
 use Rattle.world_parts.specs.declared.line.Line.TheVariants.{Command, Stop as Stopped}
 
-abbrev pub read_as : Line → Result Cmd Stop
-read_as (Command command) = Ok (seen_command command)
-read_as (Stopped stop) = Err (seen_stop stop)
+abbrev pub command_or_stop : Line → Result Cmd Stop
+command_or_stop (Command command) = Ok (seen_command command)
+command_or_stop (Stopped stop) = Err (seen_stop stop)

@@ -7,7 +7,7 @@ use Rattle.q2_image.specs.declared.stop.ImageStop.{ImageStop}
 use Rattle.q2_image.specs.declared.stop.ImageStop.TheVariants as stop
 use Rattle.blk_nodes.specs.Contents.{disk_of}
 use Rattle.blk_nodes.specs.Joined.{IsFile}
-use Rattle.blk_nodes.specs.Nodes.{DeviceState, Nodes, device_in}
+use Rattle.blk_nodes.specs.Nodes.{DeviceSeen, Nodes, device_in}
 use Rattle.blk_nodes.specs.Overlays.{IsUnopened}
 use Rattle.blk_nodes.specs.Reading.{HaveRisen}
 use Rattle.qmp_codec.specs.Commands.{Cmd}
@@ -16,10 +16,10 @@ use Rattle.qmp_codec.specs.declared.nodes.Added.{Added}
 use Rattle.qmp_codec.specs.declared.nodes.Added.TheVariants as added
 use Rattle.qmp_codec.specs.declared.nodes.FileRef.{FileRef}
 use Rattle.qmp_codec.specs.declared.nodes.FileRef.TheVariants as file_ref
-use Rattle.qmp_rules.specs.Answers.{refusal_of, untold}
+use Rattle.qmp_rules.specs.Answers.{refusal_to, told_none}
 use Rattle.qmp_rules.specs.Asks.{file_node}
 use Rattle.qmp_rules.specs.Looks.{is_unopened}
-use Rattle.qmp_rules.specs.Table.{Table}
+use Rattle.qmp_rules.specs.Table.{RunTable}
 use Rattle.qmp_rules.specs.declared.refusal.Refusal.{Refusal}
 use Rattle.qmp_rules.specs.declared.refusal.Refusal.TheVariants.{Aborted}
 use Rattle.qmp_rules.specs.declared.rows.NodeRecord.{NodeRecord}
@@ -39,13 +39,13 @@ site store nodes = record { store = store; nodes = nodes }
 -- ---- whether a file is opened
 
 -- It isn't where a refusal stands before the look, a node stands for it, or it was used.
-abbrev pub MayOpen : Table → Cmd → Opens → Bool → Type 0
+abbrev pub MayOpen : RunTable → Cmd → Opens → Bool → Type 0
 MayOpen t c at true = (is_unopened t at.filename ≡ false) × IsLookReached t c at.what
 MayOpen t c at false =
-    (refusal_of t (probe at.what) c ≢ Some Aborted) ⊎ (is_unopened t at.filename ≡ true)
+    (refusal_to t (probe at.what) c ≢ Some Aborted) ⊎ (is_unopened t at.filename ≡ true)
 
 -- a file for which no node stands, and that wasn't used, isn't out
-abbrev pub AreIn : Table → List Opened → Type 0
+abbrev pub AreIn : RunTable → List Opened → Type 0
 AreIn t opened = (name : List ℕ) → is_unopened t name ≡ false → is_out name opened ≡ false
 
 -- ---- what is called
@@ -62,13 +62,13 @@ pub record HasCalled (old new : Nodes) : Type 0 where
   pub disks : (other : ℕ) → disk_of new other ≡ disk_of old other
 
 -- a `file` node of the table is one over a device
-abbrev pub HaveFileNodes : Table → Nodes → Type 0
+abbrev pub HaveFileNodes : RunTable → Nodes → Type 0
 HaveFileNodes t nodes =
     (name : List ℕ) (row : NodeRecord) → file_node t name ≡ Some row → IsFile nodes row.id
 
 -- why the image in a `file` node isn't opened
 pub record IsUnopenedFor (old new : Nodes) (node : ℕ) (why : Refusal) : Type 0 where
-  pub device : DeviceState
+  pub device : DeviceSeen
   pub held : device_in old.devices node ≡ Some device
   pub cause : ImageStop
   pub memory : cause ≢ stop.NoMemory
@@ -82,32 +82,32 @@ pub record IsUnopenedFor (old new : Nodes) (node : ℕ) (why : Refusal) : Type 0
 -- nothing is looked at
 pub record LooksNowhere (old new : Site) (out : Option Taken) (image : Option Known)
     (told : Told) : Type 0 where
-  pub is : told ≡ untold
+  pub is : told ≡ told_none
   pub none : out ≡ None
   pub unread : image ≡ None
   pub kept : new ≡ old
 
 -- a file of the store
-pub record LooksOut (t : Table) (c : Adding) (at : Opens) (old new : Site)
+pub record LooksOut (t : RunTable) (c : Adding) (at : Opens) (old new : Site)
     (out : Option Taken) (image : Option Known) (told : Told) : Type 0 where
   pub looks : Looks t c at old.store new.store out image told
   pub kept : new.nodes ≡ old.nodes
 
 -- the image in a `file` node
-pub record LooksIn (t : Table) (c : Adding) (added : AddQcow2 (List ℕ)) (file : List ℕ)
+pub record LooksIn (t : RunTable) (c : Adding) (added : AddQcow2 (List ℕ)) (file : List ℕ)
     (old new : Site) (out : Option Taken) (image : Option Known) (told : Told) : Type 0 where
   pub looks : LooksUnder t c added file old.nodes new.nodes image told
   pub none : out ≡ None
   pub kept : new.store ≡ old.store
   pub called : HasCalled old.nodes new.nodes
 
-abbrev pub LooksAtPart : Table → Adding → FileRef (List ℕ) → Site → Site → Option Taken
+abbrev pub LooksAtPart : RunTable → Adding → FileRef (List ℕ) → Site → Site → Option Taken
     → Option Known → Told → Type 0
 LooksAtPart t c (file_ref.Name name) old new out image told = LooksNowhere old new out image told
 LooksAtPart t c (file_ref.Inline file) old new out image told =
     LooksOut t c (record { filename = file.filename; what = look.Begin }) old new out image told
 
-abbrev pub LooksAtImage : Table → Adding → AddQcow2 (List ℕ) → FileRef (List ℕ) → Site → Site
+abbrev pub LooksAtImage : RunTable → Adding → AddQcow2 (List ℕ) → FileRef (List ℕ) → Site → Site
     → Option Taken → Option Known → Told → Type 0
 LooksAtImage t c added (file_ref.Name name) old new out image told =
     LooksIn t c added name old new out image told
@@ -115,7 +115,7 @@ LooksAtImage t c added (file_ref.Inline file) old new out image told =
     LooksOut t c (record { filename = file.filename; what = look.File }) old new out image told
 
 -- by the driver of the node
-abbrev pub LooksBy : Table → Adding → Added (List ℕ) → Site → Site → Option Taken → Option Known
+abbrev pub LooksBy : RunTable → Adding → Added (List ℕ) → Site → Site → Option Taken → Option Known
     → Told → Type 0
 LooksBy t c (added.File filename) old new out image told =
     LooksOut t c (record { filename = filename; what = look.File }) old new out image told
@@ -125,7 +125,7 @@ LooksBy t c (added.Qcow2 qcow2) old new out image told =
     LooksAtImage t c qcow2 qcow2.file old new out image told
 LooksBy t c driver old new out image told = LooksNowhere old new out image told
 
-abbrev pub HasLooked : Table → Adding → Site → Site → Option Taken → Option Known → Told → Type 0
+abbrev pub HasLooked : RunTable → Adding → Site → Site → Option Taken → Option Known → Told → Type 0
 HasLooked t c old new out image told = LooksBy t c c.driver old new out image told
 
 -- ---- want of memory

@@ -5,7 +5,7 @@ use Rattle.blk_base.specs.declared.memory.Room.{Room}
 use Rattle.blk_base.specs.declared.fault.Outcome.{Outcome}
 use Rattle.trace_codec.specs.declared.op.Op.{Op}
 use Rattle.trace_codec.specs.Request.{pieces_of, read_bytes_of}
-use Rattle.qmp_rules.specs.Chains.{has_id}
+use Rattle.qmp_rules.specs.Chains.{is_listed}
 use Rattle.blk_history.specs.Fold.{change}
 use Rattle.blk_history.specs.Disk.{piece}
 use Rattle.blk_history.specs.Line.{admitted_by}
@@ -30,12 +30,12 @@ pub record Progress : Type 0 where
 -- ---- what the history says by itself
 
 -- the actors that are done, in order
-abbrev pub done_by : Event → Option ℕ
-done_by (Done actor) = Some actor
-done_by e = None
+abbrev pub actor_done : Event → Option ℕ
+actor_done (Done actor) = Some actor
+actor_done e = None
 
 abbrev pub ended_in : List Event → List ℕ
-ended_in events = filter_map done_by events
+ended_in events = filter_map actor_done events
 
 -- the lines of the script that have their reply, or of which the wait is over, in order
 abbrev pub answered_by : Event → Option ℕ
@@ -109,12 +109,12 @@ HaveTheirPlaces events (row ∷ rows) = IsPlacedIn events row.done row.flight ×
 abbrev pub AreMarked : List ℕ → ℕ → List GuestProgress → Type 0
 AreMarked ended actor [] = Unit {0}
 AreMarked ended actor (row ∷ rows) =
-    (row.is_done ≡ has_id actor ended) × AreMarked ended (actor + 1) rows
+    (row.is_done ≡ is_listed actor ended) × AreMarked ended (actor + 1) rows
 
 pub record KeepsStep (log : Recorded) (spare : Room) (rows : List GuestProgress)
     (is_done : Bool) (lines : List ℕ) (capacity : ℕ) : Type 0 where
   pub placed : HaveTheirPlaces log.events rows
-  pub script : is_done ≡ has_id 0 (ended_in log.events)
+  pub script : is_done ≡ is_listed 0 (ended_in log.events)
   pub guests : AreMarked (ended_in log.events) 1 rows
   pub answered : lines ≡ answered_in log.events
   pub line_room : length lines + log.room ≤ capacity
@@ -136,54 +136,55 @@ no_progress guests room =
 -- ---- what each entry leaves
 
 -- the history with one more entry, and with bytes that it shows
-abbrev pub log_of : Recorded → Event → Recorded
-log_of log e = record log { events = log.events ++ e ∷ []; room = log.room - 1 }
+abbrev pub log_with_entry : Recorded → Event → Recorded
+log_with_entry log e = record log { events = log.events ++ e ∷ []; room = log.room - 1 }
 
-abbrev pub log_with : Recorded → Event → List ℕ → Recorded
-log_with log e got = record {
+abbrev pub log_with_shown : Recorded → Event → List ℕ → Recorded
+log_with_shown log e got = record {
   events = log.events ++ e ∷ [];
   bytes = log.bytes ++ got;
   room = log.room - 1;
   byte_room = log.byte_room - length got;
 }
 
-abbrev pub less : ℕ → ℕ → Room → Room
-less entries bytes room = record { entries = room.entries - entries; bytes = room.bytes - bytes }
+abbrev pub room_less : ℕ → ℕ → Room → Room
+room_less entries bytes room =
+    record { entries = room.entries - entries; bytes = room.bytes - bytes }
 
 -- how many requests of a guest are done
-abbrev pub done_at : List Guest → ℕ → ℕ
-done_at guests g = unwrap_or (option_map (λ row. row.done) (slice_get guests g)) 0
+abbrev pub requests_done : List Guest → ℕ → ℕ
+requests_done guests g = unwrap_or (option_map (λ row. row.done) (slice_get guests g)) 0
 
 -- a request is admitted: room for its pieces, for its entry and its end, and for what it reads is set aside
 abbrev pub with_admission : ℕ → Op → Progress → Progress
 with_admission g op p = record {
   guests = change g (admitted op) p.guests;
-  spare = less (pieces_of op + 2) (read_bytes_of op) p.spare;
-  log = log_of p.log (Admit g (done_at p.guests g) op);
+  spare = room_less (pieces_of op + 2) (read_bytes_of op) p.spare;
+  log = log_with_entry p.log (Admit g (requests_done p.guests g) op);
 }
 
 abbrev pub with_refusal : ℕ → Op → Refused → Progress → Progress
 with_refusal g op why p = record {
   guests = change g finished p.guests;
-  spare = less 1 0 p.spare;
-  log = log_of p.log (Refuse g (done_at p.guests g) op why);
+  spare = room_less 1 0 p.spare;
+  log = log_with_entry p.log (Refuse g (requests_done p.guests g) op why);
 }
 
-abbrev pub with_piece : ℕ → ℕ → Outcome → List ℕ → Progress → Progress
-with_piece g k outcome got p = record p {
+abbrev pub with_piece_entry : ℕ → ℕ → Outcome → List ℕ → Progress → Progress
+with_piece_entry g k outcome got p = record p {
   guests = change g (past_piece outcome) p.guests;
-  log = log_with p.log (Piece g (done_at p.guests g) k outcome got) got;
+  log = log_with_shown p.log (Piece g (requests_done p.guests g) k outcome got) got;
 }
 
 abbrev pub with_retirement : ℕ → Progress → Progress
 with_retirement g p = record p {
   guests = change g finished p.guests;
-  log = log_of p.log (Retire g (done_at p.guests g));
+  log = log_with_entry p.log (Retire g (requests_done p.guests g));
 }
 
 -- an entry that changes no guest's row
-abbrev pub with_entry : Event → Progress → Progress
-with_entry e p = record p { spare = less 1 0 p.spare; log = log_of p.log e }
+abbrev pub with_bare_entry : Event → Progress → Progress
+with_bare_entry e p = record p { spare = room_less 1 0 p.spare; log = log_with_entry p.log e }
 
 -- ---- when each can be made
 

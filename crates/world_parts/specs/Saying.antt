@@ -8,7 +8,7 @@ use Rattle.qmp_codec.specs.Lines.{id_at}
 use Rattle.qmp_codec.specs.Replies.{refused_data}
 use Rattle.qmp_codec.specs.declared.reply.Class.TheVariants.{GenericError}
 use Rattle.qmp_rules.specs.declared.refusal.Refusal.{Refusal}
-use Rattle.qmp_rules.specs.Answers.{reply_data}
+use Rattle.qmp_rules.specs.Answers.{answer_data}
 
 -- its number, and its text as it was given
 pub record Given : Type 0 where
@@ -25,8 +25,8 @@ pub record IsPrintable (most : ℕ) (d : Data) : Type 0 where
 
 -- the text of an answer to a line, which reads back as that answer
 pub record IsSaid (given : List ℕ) (reply : Result Data Refusal) (text : List ℕ) : Type 0 where
-  pub prints : text ≡ compact_text (reply_data (id_at given) reply)
-  pub reads : read text ≡ Some (reply_data (id_at given) reply)
+  pub prints : text ≡ compact_text (answer_data (id_at given) reply)
+  pub reads : read text ≡ Some (answer_data (id_at given) reply)
 
 -- ---- a refusal of which a call failed, before it is known which
 

@@ -6,11 +6,11 @@ use Rattle.blk_nodes.specs.Joined.{IsJoined}
 use Rattle.qmp_codec.specs.Commands.{Cmd}
 use Rattle.qmp_codec.specs.declared.command.Command.TheVariants as command
 use Rattle.qmp_codec.specs.declared.nodes.Added.{Added}
-use Rattle.qmp_rules.specs.Answers.{command_edits, refusal_of, returned}
+use Rattle.qmp_rules.specs.Answers.{command_edits, refusal_to, returned}
 use Rattle.qmp_rules.specs.Changes.{all_changed}
 use Rattle.qmp_rules.specs.Fitting.{AllChangesFit}
 use Rattle.qmp_rules.specs.Room.{HasRoomForChanges, Roomy}
-use Rattle.qmp_rules.specs.Table.{Table}
+use Rattle.qmp_rules.specs.Table.{RunTable}
 use Rattle.qmp_rules.specs.declared.refusal.Refusal.{Refusal}
 use Rattle.qmp_rules.specs.declared.told.Told.{Told}
 use Rattle.flat_machine.specs.Wiring.{TableAtRest}
@@ -18,14 +18,14 @@ use Rattle.world_parts.specs.declared.adding.staging.Staged.{Staged}
 use Rattle.world_parts.specs.declared.adding.staging.Staged.TheVariants as staged
 use Rattle.world_parts.specs.Adding.{Adding, Taken, opens, put_back}
 use Rattle.world_parts.specs.Coherent.{AreNodesOf}
-use Rattle.world_parts.specs.Face.{Face}
+use Rattle.world_parts.specs.Face.{WorldSeen}
 use Rattle.world_parts.specs.Joining.{HasAdded}
 use Rattle.world_parts.specs.Looking.{AreIn, HasLooked, IsLookedBack, Site, site}
 use Rattle.world_parts.specs.Saying.{IsSaid}
 use Rattle.world_parts.specs.Stores.{StoreInRun}
 
 -- the world's store and nodes
-abbrev pub store_of : Face → StoreInRun
+abbrev pub store_of : WorldSeen → StoreInRun
 store_of w = record {
   files = w.files;
   earlier = w.earlier;
@@ -34,7 +34,7 @@ store_of w = record {
   faults = w.faults;
 }
 
-abbrev pub site_of : Face → Site
+abbrev pub site_of : WorldSeen → Site
 site_of w = site (store_of w) w.nodes
 
 -- ---- a device that no node has
@@ -56,15 +56,17 @@ back_if driver (Some device) store = put_back (opened_name driver) device store
 -- ---- the answer
 
 -- the command is refused for this
-pub record IsStagedNo (t : Table) (given : List ℕ) (told : Told) (c : Cmd) (text : List ℕ) : Type 0
+pub record IsStagedNo (t : RunTable) (given : List ℕ) (told : Told) (c : Cmd)
+    (text : List ℕ) : Type 0
   where
     pub cause : Refusal
-    pub is : refusal_of t told c ≡ Some cause
+    pub is : refusal_to t told c ≡ Some cause
     pub said : IsSaid given (Err cause) text
 
-pub record IsCommandAccepted (t : Table) (given : List ℕ) (told : Told) (c : Cmd) (text : List ℕ) : Type 0
+pub record IsCommandAccepted (t : RunTable) (given : List ℕ) (told : Told) (c : Cmd)
+    (text : List ℕ) : Type 0
   where
-    pub none : refusal_of t told c ≡ None
+    pub none : refusal_to t told c ≡ None
     pub said : IsSaid given (Ok (returned t told c)) text
 
 -- or accepted, and there is memory for its changes
@@ -79,33 +81,36 @@ IsStaged names given told c (staged.Accepted edits text) =
 -- ---- the whole
 
 -- what an addition needs of the table, the openings and the nodes
-pub record CanLook (t : Table) (x : Site) : Type 0 where
+pub record CanLook (t : RunTable) (x : Site) : Type 0 where
   pub alike : AreNodesOf t x.nodes
   pub rests : TableAtRest t
   pub closed : AreIn t x.store.opened
 
 -- it was refused after these looks
-pub record IsRefusedSo (t : Table) (given : List ℕ) (c : Adding) (told : Told) (out : Option Taken)
-    (between new : Site) (now : Table) (text : List ℕ) : Type 0 where
+pub record IsRefusedSo (t : RunTable) (given : List ℕ) (c : Adding) (told : Told)
+    (out : Option Taken)
+    (between new : Site) (now : RunTable) (text : List ℕ) : Type 0 where
   pub staged : IsStagedNo t given told (command.BlockdevAdd c) text
   pub is : new ≡ site (back_if c.driver out between.store) between.nodes
   pub table : now ≡ t
 
 -- or its nodes were added
-pub record IsAddedSo (t : Table) (given : List ℕ) (c : Adding) (told : Told) (out : Option Taken)
-    (image : Option Known) (between new : Site) (now : Table) (text : List ℕ) : Type 0 where
+pub record IsAddedSo (t : RunTable) (given : List ℕ) (c : Adding) (told : Told) (out : Option Taken)
+    (image : Option Known) (between new : Site) (now : RunTable) (text : List ℕ) : Type 0 where
   pub accepted : IsCommandAccepted t given told (command.BlockdevAdd c) text
   pub added : HasAdded t c out image between.nodes new.nodes
   pub store : new.store ≡ between.store
   pub table : now ≡ all_changed t (command_edits t told (command.BlockdevAdd c))
 
-abbrev pub HasAdditionEnded : Table → List ℕ → Adding → Told → Option Taken → Option Known → Site → Site
-    → Table → List ℕ → Type 0
+abbrev pub HasAdditionEnded : RunTable → List ℕ → Adding → Told → Option Taken → Option Known → Site
+    → Site
+    → RunTable → List ℕ → Type 0
 HasAdditionEnded t given c told out image between new now text =
     IsRefusedSo t given c told out between new now text
     ⊎ IsAddedSo t given c told out image between new now text
 
-pub record IsAdditionOf (t : Table) (given : List ℕ) (c : Adding) (old new : Site) (now : Table)
+pub record IsAdditionOf (t : RunTable) (given : List ℕ) (c : Adding) (old new : Site)
+    (now : RunTable)
     (text : List ℕ) : Type 0 where
   pub between : Site
   pub out : Option Taken
@@ -116,7 +121,7 @@ pub record IsAdditionOf (t : Table) (given : List ℕ) (c : Adding) (old new : S
   pub ends : HasAdditionEnded t given c told out image between new now text
 
 -- for want of memory all is back
-pub record IsUnadded (t : Table) (c : Adding) (old new : Site) : Type 0 where
+pub record IsUnadded (t : RunTable) (c : Adding) (old new : Site) : Type 0 where
   pub between : Site
   pub out : Option Taken
   pub image : Option Known
@@ -124,7 +129,7 @@ pub record IsUnadded (t : Table) (c : Adding) (old new : Site) : Type 0 where
   pub looked : HasLooked t c old between out image told
   pub is : new ≡ site (back_if c.driver out between.store) between.nodes
 
-abbrev pub IsNotAdded : Table → Adding → Site → Site → Type 0
+abbrev pub IsNotAdded : RunTable → Adding → Site → Site → Type 0
 IsNotAdded t c old new = IsLookedBack c.driver old new ⊎ IsUnadded t c old new
 
 -- ---- by the command
@@ -133,11 +138,11 @@ abbrev pub is_addition : Cmd → Bool
 is_addition (command.BlockdevAdd c) = true
 is_addition c = false
 
-abbrev pub IsAdditionBy : Table → List ℕ → Cmd → Site → Site → Table → List ℕ → Type 0
+abbrev pub IsAdditionBy : RunTable → List ℕ → Cmd → Site → Site → RunTable → List ℕ → Type 0
 IsAdditionBy t given (command.BlockdevAdd c) old new now text =
     IsAdditionOf t given c old new now text
 IsAdditionBy t given c old new now text = ⊥
 
-abbrev pub IsNotAddedBy : Table → Cmd → Site → Site → Type 0
+abbrev pub IsNotAddedBy : RunTable → Cmd → Site → Site → Type 0
 IsNotAddedBy t (command.BlockdevAdd c) old new = IsNotAdded t c old new
 IsNotAddedBy t c old new = ⊥

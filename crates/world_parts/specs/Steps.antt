@@ -8,16 +8,16 @@ use Rattle.trace_codec.specs.declared.awaiting.Await.{Await}
 use Rattle.blk_history.specs.Fold.{With}
 use Rattle.blk_history.specs.declared.event.Event.TheVariants.{Reached, Done}
 use Rattle.blk_nodes.specs.Nodes.{no_nodes}
-use Rattle.qmp_rules.specs.Table.{Table, device_at, opening_table}
+use Rattle.qmp_rules.specs.Table.{RunTable, device_by_number, opening_table}
 use Rattle.flat_machine.specs.declared.opening.Opening.{Opening}
-use Rattle.flat_machine.specs.State.{Guest, disk_of_guest, size_of}
+use Rattle.flat_machine.specs.State.{Guest, disk_of_guest, size_by_id}
 use Rattle.flat_machine.specs.Legal.{IsNextJudged, CanAdmit, IsRefusedFor}
-use Rattle.flat_machine.specs.Marks.{after_reply, is_held, none_drained}
+use Rattle.flat_machine.specs.Marks.{after_reply, is_guest_held, none_drained}
 use Rattle.world_parts.specs.declared.admission.Admission.{Admission}
 use Rattle.world_parts.specs.declared.admission.Admission.TheVariants.{Admitted, Refused as NotAdmitted, Held, Away}
 use Rattle.world_parts.specs.declared.admission.Seat.{Seat}
-use Rattle.world_parts.specs.Progress.{Progress, with_admission, with_refusal, with_entry, done_at, no_progress}
-use Rattle.world_parts.specs.Face.{Face, seen_state}
+use Rattle.world_parts.specs.Progress.{Progress, with_admission, with_refusal, with_bare_entry, requests_done, no_progress}
+use Rattle.world_parts.specs.Face.{WorldSeen, seen_state}
 use Rattle.world_parts.specs.Stores.{StoreInRun}
 
 -- a store as it is found
@@ -40,7 +40,7 @@ abbrev pub seen_in_run : StoreInRun → StoreSeen
 seen_in_run store = seen_store store.files store.opened store.room store.faults
 
 -- a new world: no node is there, nothing has been opened, and no guest has asked for anything
-abbrev pub new_world : StoreSeen → List (List ℕ) → Room → Face
+abbrev pub new_world : StoreSeen → List (List ℕ) → Room → WorldSeen
 new_world store guests room = record {
   files = store.files;
   earlier = store.opened;
@@ -62,47 +62,49 @@ pub record IsOpeningOf (store : StoreSeen) (guests : List (List ℕ)) (o : Openi
   pub room_is : is_some store.files ≡ true → store.room ≡ o.room
 
 -- the world with another history
-abbrev pub onward : Face → (Progress → Progress) → Face
-onward w f = record w { progress = f w.progress }
+abbrev pub with_history : WorldSeen → (Progress → Progress) → WorldSeen
+with_history w f = record w { progress = f w.progress }
 
 -- a line is answered: the disks of the command that had to come again are held no more
-abbrev pub lifted : Face → Face
+abbrev pub lifted : WorldSeen → WorldSeen
 lifted w = record w { drains = after_reply w.drains }
 
 -- ---- admissions
 
 -- what a guest's requests are judged by
-pub record IsSeat (t : Table) (g : ℕ) (seat : Seat) : Type 0 where
-  pub access : With (device_at t g) (λ device. seat.read_only ≡ device.read_only)
-  pub size_is : With (disk_of_guest t g) (λ node. seat.size ≡ size_of t node)
+pub record IsSeat (t : RunTable) (g : ℕ) (seat : Seat) : Type 0 where
+  pub access : With (device_by_number t g) (λ device. seat.read_only ≡ device.read_only)
+  pub size_is : With (disk_of_guest t g) (λ node. seat.size ≡ size_by_id t node)
 
-abbrev pub after_admission : Face → ℕ → Op → Admission → Face
-after_admission w g op (Admitted r) = onward w (with_admission g op)
-after_admission w g op (NotAdmitted why) = onward w (with_refusal g op why)
+abbrev pub after_admission : WorldSeen → ℕ → Op → Admission → WorldSeen
+after_admission w g op (Admitted r) = with_history w (with_admission g op)
+after_admission w g op (NotAdmitted why) = with_history w (with_refusal g op why)
 after_admission w g op (Held back) = w
 after_admission w g op (Away back) = w
 
 -- A request is away exactly where its guest has no device, and else held exactly where a drain that stands holds the guest. Else
 -- its span is judged, and then whether the guest may write.
-abbrev pub IsAnswered : Face → ℕ → Op → Admission → Type 0
+abbrev pub IsAnswered : WorldSeen → ℕ → Op → Admission → Type 0
 IsAnswered w g op (Admitted r) =
-    IsNextJudged (seen_state w) g r (CanAdmit op) × (is_held (seen_state w) w.drains g ≡ false)
+    IsNextJudged (seen_state w) g r (CanAdmit op)
+    × (is_guest_held (seen_state w) w.drains g ≡ false)
 IsAnswered w g op (NotAdmitted why) =
-    IsNextJudged (seen_state w) g (done_at w.progress.guests g)
+    IsNextJudged (seen_state w) g (requests_done w.progress.guests g)
     (λ access size. IsRefusedFor op access size why)
-    × (is_held (seen_state w) w.drains g ≡ false)
+    × (is_guest_held (seen_state w) w.drains g ≡ false)
 IsAnswered w g op (Held back) =
-    IsSome (device_at w.table g) × (is_held (seen_state w) w.drains g ≡ true) × (back ≡ op)
-IsAnswered w g op (Away back) = (device_at w.table g ≡ None) × (back ≡ op)
+    IsSome (device_by_number w.table g) × (is_guest_held (seen_state w) w.drains g ≡ true)
+    × (back ≡ op)
+IsAnswered w g op (Away back) = (device_by_number w.table g ≡ None) × (back ≡ op)
 
 -- ---- waits and ends of actors
 
-abbrev pub after_wait : Face → ℕ → Await (List ℕ) → Bool → Face
-after_wait w line what true = onward w (with_entry (Reached line what))
+abbrev pub after_wait : WorldSeen → ℕ → Await (List ℕ) → Bool → WorldSeen
+after_wait w line what true = with_history w (with_bare_entry (Reached line what))
 after_wait w line what false = w
 
-abbrev pub after_end : Face → ℕ → Face
-after_end w actor = onward w (with_entry (Done actor))
+abbrev pub after_actor_end : WorldSeen → ℕ → WorldSeen
+after_actor_end w actor = with_history w (with_bare_entry (Done actor))
 
 -- the actor has no request in flight: the script never has
 abbrev pub IsActorIdle : List Guest → ℕ → Type 0

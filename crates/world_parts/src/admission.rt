@@ -3,8 +3,8 @@ ghost use Rattle.std.specs.Prelude.{◌≡◌, MatchOption};
 ghost use Rattle.blk_history.specs.Disk.{is_write};
 ghost use Rattle.blk_history.specs.Fold.{With};
 ghost use Rattle.flat_machine.specs.Legal.{CanAdmit, IsRefusedFor};
-ghost use Rattle.flat_machine.specs.State.{disk_of_guest, size_of};
-ghost use Rattle.qmp_rules.specs.Table.{device_at};
+ghost use Rattle.flat_machine.specs.State.{disk_of_guest, size_by_id};
+ghost use Rattle.qmp_rules.specs.Table.{device_by_number};
 ghost use Rattle.world_parts.specs.Coherent.{HaveDrives};
 ghost use Rattle.world_parts.specs.Steps.{IsSeat};
 
@@ -57,7 +57,7 @@ pub fn refusal_of(op: &Op, seat: Seat) -> Option<Refused>
 /// What a guest's requests are judged by, where its device is there.
 pub fn seat_of(names: &Names, guest: u32) -> Option<Seat>
     requires { HaveDrives names.now.table }
-    ensures { MatchOption result (device_at names.now.table guest ≡ None)
+    ensures { MatchOption result (device_by_number names.now.table guest ≡ None)
         (IsSeat names.now.table guest) }
 {
     let read_only = names.device_at(guest)?.read_only;

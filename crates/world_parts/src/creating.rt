@@ -7,13 +7,13 @@ ghost use Rattle.q2_format.specs.Created.{IsNewName};
 ghost use Rattle.q2_format.specs.declared.header.TheConstants.{MAX_DISK_SIZE};
 ghost use Rattle.qmp_codec.specs.Nodes.{seen_created, seen_create_qcow2};
 ghost use Rattle.qmp_rules.specs.Asks.{id_or};
-ghost use Rattle.qmp_rules.specs.Looks.{create_told, told_as};
+ghost use Rattle.qmp_rules.specs.Looks.{create_told, told_record};
 ghost use Rattle.qmp_asks.specs.Values.{amount_or};
 ghost use Rattle.flat_machine.specs.Changed.{format_name};
 ghost use Rattle.blk_nodes.specs.Contents.{disk_of};
 ghost use Rattle.blk_nodes.specs.Joined.{IsFile};
 ghost use Rattle.blk_nodes.specs.Formatting.{IsFormatAt};
-ghost use Rattle.world_parts.specs.Creating.{with_made, IsUnmade, creation_for, unformatted, CanFormat, CanCreate, HasCreated, IsUncreated};
+ghost use Rattle.world_parts.specs.Creating.{with_zeroed_file, IsUnmade, creation_for, unformatted, CanFormat, CanCreate, HasCreated, IsUncreated};
 ghost use Rattle.world_parts.specs.Steps.{seen_in_run};
 ghost use Rattle.world_parts.specs.Deleting.{ground_in};
 
@@ -65,7 +65,7 @@ fn maybe_text(text: &Option<String>) -> Option<&str>
 
 /// That a file would be longer than the room.
 fn too_long(alloc: Global, filename: &str) -> Result<Told, NoMemory>
-    ensures { IfOk result (λ told. told ≡ told_as None None
+    ensures { IfOk result (λ told. told ≡ told_record None None
         (Some (record {
           look = Look.File;
           refusal = Refusal.File filename.now FileFault.TooLong;
@@ -104,7 +104,7 @@ fn make_file<S: Store>(store: &mut RunStore<S>, name: &str, size: u64) -> Result
     requires closed { IsTrue (is_out name.now store.old.opened) → ⊥ }
     requires room { size ≤ store.old.room }
     ensures made { OnOk result
-        (seen_in_run store.new ≡ with_made name.now size (seen_in_run store.old)) }
+        (seen_in_run store.new ≡ with_zeroed_file name.now size (seen_in_run store.old)) }
     ensures stop { IfErr result
         (IsUnmade name.now (seen_in_run store.old) (seen_in_run store.new)) }
     ensures earlier { store.new.earlier ≡ store.old.earlier }

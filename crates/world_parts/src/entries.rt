@@ -3,7 +3,7 @@ ghost use Rattle.std.specs.Prelude.{◌≡◌, ◌<◌, ◌≤◌, length, optio
 ghost use Rattle.blk_history.specs.declared.event.Event.{Event};
 ghost use Rattle.qmp_codec.specs.Commands.{seen_command};
 ghost use Rattle.trace_codec.specs.Awaits.{seen_await};
-ghost use Rattle.world_parts.specs.Progress.{log_of, log_with};
+ghost use Rattle.world_parts.specs.Progress.{log_with_entry, log_with_shown};
 
 use blk_base::{Outcome, Text};
 use blk_history::{Asked, Awaited, Entry, History, Refused, Understood};
@@ -14,7 +14,7 @@ use trace_codec::{Await, Op};
 pub(crate) fn note_admission(history: &mut History, guest: u32, request: u32, op: Op) -> u64
     requires { 0 < history.old.room }
     ensures place { result ≡ length history.old.events }
-    ensures noted { history.new ≡ log_of history.old (Event.Admit guest request op) }
+    ensures noted { history.new ≡ log_with_entry history.old (Event.Admit guest request op) }
 {
     let place = history.len();
     history.push(Entry::Admit {
@@ -28,7 +28,7 @@ pub(crate) fn note_admission(history: &mut History, guest: u32, request: u32, op
 /// That a request is refused.
 pub(crate) fn note_refusal(history: &mut History, guest: u32, request: u32, op: Op, why: Refused)
     requires { 0 < history.old.room }
-    ensures { history.new ≡ log_of history.old (Event.Refuse guest request op why) }
+    ensures { history.new ≡ log_with_entry history.old (Event.Refuse guest request op why) }
 {
     history.push(Entry::Refuse {
         guest,
@@ -50,7 +50,7 @@ pub(crate) fn note_piece(
     requires room { 0 < history.old.room }
     requires byte_room { length shown.now ≤ history.old.byte_room }
     ensures { history.new
-        ≡ log_with history.old (Event.Piece guest request k outcome shown.now) shown.now }
+        ≡ log_with_shown history.old (Event.Piece guest request k outcome shown.now) shown.now }
 {
     let got = history.push_read(shown);
     history.push(Entry::Piece {
@@ -65,7 +65,7 @@ pub(crate) fn note_piece(
 /// That a request is over.
 pub(crate) fn note_retirement(history: &mut History, guest: u32, request: u32)
     requires { 0 < history.old.room }
-    ensures { history.new ≡ log_of history.old (Event.Retire guest request) }
+    ensures { history.new ≡ log_with_entry history.old (Event.Retire guest request) }
 {
     history.push(Entry::Retire { guest, request });
 }
@@ -79,7 +79,7 @@ pub(crate) fn note_reply(
     text: String,
 )
     requires { 0 < history.old.room }
-    ensures { history.new ≡ log_of history.old
+    ensures { history.new ≡ log_with_entry history.old
         (Event.Reply line (string_bytes given) (option_map seen_command command)
         (string_bytes text)) }
 {
@@ -94,7 +94,7 @@ pub(crate) fn note_reply(
 /// That what a line of the script waits for has come.
 pub(crate) fn note_reached(history: &mut History, line: u32, what: Await)
     requires { 0 < history.old.room }
-    ensures { history.new ≡ log_of history.old (Event.Reached line (seen_await what)) }
+    ensures { history.new ≡ log_with_entry history.old (Event.Reached line (seen_await what)) }
 {
     history.push(Entry::Reached {
         line,
@@ -105,7 +105,7 @@ pub(crate) fn note_reached(history: &mut History, line: u32, what: Await)
 /// That an actor is done.
 pub(crate) fn note_done(history: &mut History, actor: u32)
     requires { 0 < history.old.room }
-    ensures { history.new ≡ log_of history.old (Event.Done actor) }
+    ensures { history.new ≡ log_with_entry history.old (Event.Done actor) }
 {
     history.push(Entry::Done { actor });
 }

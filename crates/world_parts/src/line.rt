@@ -3,10 +3,10 @@ ghost use Rattle.std.specs.Prelude.{◌≡◌, Err, IfOk, string_bytes};
 ghost use Rattle.serde_json.specs.Data.{object, no_members};
 ghost use Rattle.serde_json.specs.View.{view};
 ghost use Rattle.qmp_codec.specs.Lines.{asks_for_capabilities, command_at, seen_stop};
-ghost use Rattle.qmp_rules.specs.Answers.{line_answer, line_refusal, out_of_turn, untold};
+ghost use Rattle.qmp_rules.specs.Answers.{line_answer, line_refusal, out_of_turn, told_none};
 ghost use Rattle.qmp_rules.specs.Refusals.{or_else};
 ghost use Rattle.world_parts.specs.Saying.{IsSaid};
-ghost use Rattle.world_parts.specs.Lines.{read_as};
+ghost use Rattle.world_parts.specs.Lines.{command_or_stop};
 
 use crate::answering::{given_text, refused_text};
 use blk_base::NoMemory;
@@ -25,7 +25,7 @@ pub enum Line {
 
 /// Reads a line.
 pub fn read_line(alloc: Global, given: &str) -> Result<Line, NoMemory>
-    ensures { IfOk result (λ line. command_at given.now ≡ read_as line) }
+    ensures { IfOk result (λ line. command_at given.now ≡ command_or_stop line) }
 {
     match read_command(alloc, given) {
         Ok(command) => Ok(Line::Command(command)),
@@ -112,7 +112,7 @@ pub fn stopped_text(
 ) -> Result<String, NoMemory>
     requires { command_at given.now ≡ Err (seen_stop stop) }
     ensures { IfOk result (λ text. IsSaid given.now
-        (line_answer names.now.table untold given.now).reply (string_bytes text)) }
+        (line_answer names.now.table told_none given.now).reply (string_bytes text)) }
 {
     match line_refusal(alloc, names, given, stop)? {
         Some(cause) => refused_text(alloc, given, &cause),

@@ -2,9 +2,9 @@
 ghost use Rattle.std.specs.Prelude.{◌≡◌, ◌↔◌, ℕ, ◌+◌, ◌<◌, ◌≤◌, List, [], ◌∷◌, ◌++◌, length, replicate, slice_get, slice_set, IfOk, Some, IsTrue, vec_len};
 ghost use Rattle.std.specs.List.{list_all};
 ghost use Rattle.world_parts.specs.declared.row.GuestProgress.{GuestProgress as Row};
-ghost use Rattle.qmp_rules.specs.Chains.{has_id};
+ghost use Rattle.qmp_rules.specs.Chains.{is_listed};
 ghost use Rattle.blk_history.specs.declared.event.Event.{Event};
-ghost use Rattle.world_parts.specs.Progress.{less, new_row, AreMarked, HaveTheirPlaces, guests_in};
+ghost use Rattle.world_parts.specs.Progress.{room_less, new_row, AreMarked, HaveTheirPlaces, guests_in};
 
 use crate::entries;
 use crate::row::{GuestProgress, InFlight};
@@ -64,7 +64,7 @@ fn put_row(rows: &mut Vec<GuestProgress>, guest: u32, row: GuestProgress)
 fn less(room: Room, entries: u64, bytes: u64) -> Room
     requires entries { entries ≤ room.entries }
     requires bytes { bytes ≤ room.bytes }
-    ensures { result ≡ less entries bytes room }
+    ensures { result ≡ room_less entries bytes room }
 {
     Room {
         entries: room.entries - entries,
@@ -75,8 +75,8 @@ fn less(room: Room, entries: u64, bytes: u64) -> Room
 /// Marks an actor as done.
 fn mark_done(script: &mut bool, rows: &mut Vec<GuestProgress>, actor: u32)
     requires { actor ≤ vec_len rows.old }
-    ensures script { (ended : List ℕ) → script.old ≡ has_id 0 ended
-        → script.new ≡ has_id 0 (ended ++ actor ∷ []) }
+    ensures script { (ended : List ℕ) → script.old ≡ is_listed 0 ended
+        → script.new ≡ is_listed 0 (ended ++ actor ∷ []) }
     ensures guests { (ended : List ℕ) → AreMarked ended 1 rows.old.items
         → AreMarked (ended ++ actor ∷ []) 1 rows.new.items }
     ensures placed { (events : List Event) → HaveTheirPlaces events rows.old.items
@@ -125,8 +125,8 @@ impl Progress {
     ghost use Rattle.blk_history.specs.Machine.{Flight};
     ghost use Rattle.blk_history.specs.Legal.{IsOver};
     ghost use Rattle.trace_codec.specs.Awaits.{seen_await};
-    ghost use Rattle.world_parts.specs.Draining.{request_in};
-    ghost use Rattle.world_parts.specs.Progress.{no_progress, answered_in, ended_in, done_at, IsFree, HasRoomFor, with_admission, with_refusal, with_retirement, with_entry, with_piece, flight_at, CanShow};
+    ghost use Rattle.world_parts.specs.Draining.{number_in_flight};
+    ghost use Rattle.world_parts.specs.Progress.{no_progress, answered_in, ended_in, requests_done, IsFree, HasRoomFor, with_admission, with_refusal, with_retirement, with_bare_entry, with_piece_entry, flight_at, CanShow};
 
     /// So many guests that have asked for nothing yet, no entry, and room for those of a run.
     pub fn new(alloc: Global, guests: usize, room: Room) -> Result<Self, NoMemory>
@@ -169,7 +169,7 @@ impl Progress {
     pub fn admit(&mut self, guest: u32, op: Op) -> u32
         requires free { With (slice_get self.old.guests guest) IsFree }
         requires room { HasRoomFor op self.old.spare }
-        ensures number { result ≡ done_at self.old.guests guest }
+        ensures number { result ≡ requests_done self.old.guests guest }
         ensures kept { self.new ≡ with_admission guest op self.old }
     {
         let row = row_at(self.rows.as_slice(), guest);
@@ -229,7 +229,7 @@ impl Progress {
     /// Notes that a line of the script is answered.
     pub fn reply(&mut self, line: u32, given: String, command: Option<Command>, text: String)
         requires { 0 < self.old.spare.entries }
-        ensures { self.new ≡ with_entry
+        ensures { self.new ≡ with_bare_entry
             (Event.Reply line (string_bytes given) (option_map seen_command command)
             (string_bytes text)) self.old }
     {
@@ -242,7 +242,7 @@ impl Progress {
     /// Notes that what a line of the script waits for has come.
     pub fn reach(&mut self, line: u32, what: Await)
         requires { 0 < self.old.spare.entries }
-        ensures { self.new ≡ with_entry (Event.Reached line (seen_await what)) self.old }
+        ensures { self.new ≡ with_bare_entry (Event.Reached line (seen_await what)) self.old }
     {
         let spare = less(self.spare, 1, 0);
         entries::note_reached(&mut self.history, line, what);
@@ -252,7 +252,7 @@ impl Progress {
 
     /// Whether a line of the script has its reply, or its wait is over.
     pub fn is_answered(&self, line: u32) -> bool
-        ensures { result ≡ has_id line (answered_in self.now.log.events) }
+        ensures { result ≡ is_listed line (answered_in self.now.log.events) }
     {
         self.lines.iter().any(|other| *other == line)
     }
@@ -260,7 +260,7 @@ impl Progress {
     /// Whether an actor is done: the script, which is actor 0, or a guest behind it.
     pub fn is_done(&self, actor: u32) -> bool
         requires { actor ≤ length self.now.guests }
-        ensures { result ≡ has_id actor (ended_in self.now.log.events) }
+        ensures { result ≡ is_listed actor (ended_in self.now.log.events) }
     {
         if actor == 0 {
             return self.script_is_done;
@@ -270,7 +270,7 @@ impl Progress {
 
     /// The number of a guest's request in flight.
     pub fn request(&self, guest: u32) -> Option<u32>
-        ensures { result ≡ request_in (slice_get self.now.guests guest) }
+        ensures { result ≡ number_in_flight (slice_get self.now.guests guest) }
     {
         if guest as usize >= self.rows.len() {
             return None;
@@ -308,7 +308,7 @@ impl Progress {
     pub fn note_piece(&mut self, guest: u32, outcome: Outcome, shown: &[u8])
         requires { With (flight_at self.old.guests guest) (CanShow (length shown.now)) }
         ensures { (f : Flight) → flight_at self.old.guests guest ≡ Some f
-            → self.new ≡ with_piece guest f.next outcome shown.now self.old }
+            → self.new ≡ with_piece_entry guest f.next outcome shown.now self.old }
     {
         let row = row_at(self.rows.as_slice(), guest);
         let Some(flight) = row.flight else {
@@ -334,7 +334,7 @@ impl Progress {
     pub fn finish(&mut self, actor: u32)
         requires known { actor ≤ length self.old.guests }
         requires room { 0 < self.old.spare.entries }
-        ensures { self.new ≡ with_entry (Event.Done actor) self.old }
+        ensures { self.new ≡ with_bare_entry (Event.Done actor) self.old }
     {
         let spare = less(self.spare, 1, 0);
         entries::note_done(&mut self.history, actor);

@@ -6,9 +6,9 @@ ghost use Rattle.q2_image.specs.Reading.{IsWithinCluster};
 ghost use Rattle.blk_nodes.specs.Contents.{disk_of};
 ghost use Rattle.blk_nodes.specs.Copying.{AtEach, HasRoomIn, IsBeside, IsMappedAt, IsRoomInEach, LeavesRest, MapsEach, ReadsPiece, images_met, images_met_in, puts_below};
 ghost use Rattle.blk_nodes.specs.Joined.{IsJoined};
-ghost use Rattle.blk_nodes.specs.Nodes.{AreTold, row_at, size_of};
+ghost use Rattle.blk_nodes.specs.Nodes.{AreTold, row_at, node_size};
 ghost use Rattle.blk_nodes.specs.Reading.{ReadsDisk};
-ghost use Rattle.blk_nodes.specs.Writing.{MayWrite};
+ghost use Rattle.blk_nodes.specs.Writing.{MayWriteThrough};
 
 use crate::copying::puts_below;
 use crate::nodes::Nodes;
@@ -20,7 +20,7 @@ use blk_graph::{NodeId, Parent, Role};
 impl<D: Device> Nodes<D> {
     /// Whether a read through a node puts the cluster of a place into the node below.
     fn puts_below(&self, node: NodeId, child: NodeId, place: u64) -> bool
-        requires { place < size_of self.now child }
+        requires { place < node_size self.now child }
         ensures { result ≡ puts_below (row_at self.now node) (row_at self.now child) place }
     {
         let Some(row) = &self.rows[node.index()] else {
@@ -34,7 +34,7 @@ impl<D: Device> Nodes<D> {
 
     /// Whether there is room to put the cluster of a piece into an image that has none: Good, or NoSpace.
     fn room_in(&self, node: NodeId, child: NodeId, span: Span) -> Outcome
-        requires inside { span.start < size_of self.now child }
+        requires inside { span.start < node_size self.now child }
         requires puts { puts_below (row_at self.now node) (row_at self.now child) span.start
             ≡ true }
         ensures { IsRoomInEach (child ∷ []) self.now span result }
@@ -52,7 +52,7 @@ impl<D: Device> Nodes<D> {
 
     /// Whether there is room in all images that a read maps, down a chain of so many nodes: Good, or NoSpace.
     fn room_below(&self, turns: u32, node: NodeId, span: Span) -> Outcome
-        requires inside { span.start < size_of self.now node }
+        requires inside { span.start < node_size self.now node }
         ensures { IsRoomInEach (images_met_in turns self.now node span.start) self.now span result }
     {
         let _ = self.edges();
@@ -72,10 +72,11 @@ impl<D: Device> Nodes<D> {
     /// Writes a piece that was read to all images that its read maps, the lowest first, down a chain of so many nodes.
     fn map_below(&mut self, turns: u32, node: NodeId, span: Span, bytes: &[u8]) -> Outcome
         requires block { IsWithinCluster 65536 span }
-        requires inside { end_of span ≤ size_of self.old node }
+        requires inside { end_of span ≤ node_size self.old node }
         requires some { 0 < span.len }
         requires whole { length bytes.now ≡ span.len }
-        requires may { AtEach (MayWrite self.old) (images_met_in turns self.old node span.start) }
+        requires may { AtEach (MayWriteThrough self.old)
+            (images_met_in turns self.old node span.start) }
         requires room { AtEach (HasRoomIn self.old span)
             (images_met_in turns self.old node span.start) }
         requires read { AreTold self.old.devices
@@ -114,9 +115,9 @@ impl<D: Device> Nodes<D> {
     #[tactic(auto, unfolding(crate::specs::Copying::images_met))]
     pub fn read_piece(&mut self, node: NodeId, span: Span, buffer: &mut [u8]) -> Outcome
         requires block { IsWithinCluster 65536 span }
-        requires inside { end_of span ≤ size_of self.old node }
+        requires inside { end_of span ≤ node_size self.old node }
         requires whole { length buffer.old ≡ span.len }
-        requires may { AtEach (MayWrite self.old) (images_met self.old node span.start) }
+        requires may { AtEach (MayWriteThrough self.old) (images_met self.old node span.start) }
         ensures none { span.len ≡ 0 → (result ≡ Outcome.Good) × (self.new ≡ self.old) }
         ensures read { AreTold self.old.devices
             → ReadsDisk result (disk_of self.old node) span buffer.new }

@@ -3,8 +3,8 @@ ghost use Rattle.std.specs.Prelude.{◌≡◌, ℕ, None, Some, Err, IsOk, IfOk,
 ghost use Rattle.blk_graph.specs.Graph.{HasNode};
 ghost use Rattle.blk_graph.specs.Judged.{first_parent};
 ghost use Rattle.blk_nodes.specs.Contents.{disk_of};
-ghost use Rattle.blk_nodes.specs.Dropping.{without};
-ghost use Rattle.blk_nodes.specs.Nodes.{DeviceState, device_in};
+ghost use Rattle.blk_nodes.specs.Dropping.{nodes_without};
+ghost use Rattle.blk_nodes.specs.Nodes.{DeviceSeen, device_in};
 
 use crate::nodes::Nodes;
 use blk_base::Device;
@@ -18,10 +18,10 @@ impl<D: Device> Nodes<D> {
         requires { HasNode self.old.graph node }
         ensures answer { MatchOption (first_parent node self.old.graph.edges) (IsOk result)
             (λ parent. result ≡ Err (GraphStop.InUse parent)) }
-        ensures ok { OnOk result (self.new ≡ without node self.old) }
+        ensures ok { OnOk result (self.new ≡ nodes_without node self.old) }
         ensures back { IfOk result
             (λ device. MatchOption device (device_in self.old.devices node ≡ None)
-            (λ device. (held : DeviceState) × (device_in self.old.devices node ≡ Some held)
+            (λ device. (held : DeviceSeen) × (device_in self.old.devices node ≡ Some held)
             × (held ≡ record held {
               content = D.content device;
               is_flushed = D.is_flushed device;

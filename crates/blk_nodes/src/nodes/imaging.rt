@@ -5,7 +5,7 @@ ghost use Rattle.blk_graph.specs.Ids.{IsLowestFree};
 ghost use Rattle.blk_graph.specs.declared.edge.Conflict.{Conflict as Pair};
 ghost use Rattle.q2_format.specs.Contents.{image_disk};
 ghost use Rattle.blk_nodes.specs.Adding.{kind_with, IsDenied, IsOverStop};
-ghost use Rattle.blk_nodes.specs.Contents.{below, bytes_of, disk_of};
+ghost use Rattle.blk_nodes.specs.Contents.{disk_under, bytes_of, disk_of};
 ghost use Rattle.blk_nodes.specs.Joined.{IsFile};
 ghost use Rattle.blk_nodes.specs.Nodes.{device_in};
 ghost use Rattle.blk_nodes.specs.Overlays.{backing_node, backing_size, backing_stop, edges_for, with_qcow2, IsOpened, IsUnopened};
@@ -79,7 +79,7 @@ impl<D: Device> Nodes<D> {
             → disk_of self.new other ≡ disk_of self.old other) }
         ensures disk { IfOk result (λ id. disk_of self.new id
             ≡ image_disk (bytes_of self.old file)
-            (below (disk_of self.old) (backing_node backing))) }
+            (disk_under (disk_of self.old) (backing_node backing))) }
         ensures err { OnErr result (self.new ≡ self.old) }
     {
         if let Err(stop) = self.check_name(name.as_str()) {

@@ -6,7 +6,7 @@ ghost use Rattle.blk_graph.specs.Refreshed.{refreshed};
 ghost use Rattle.blk_graph.specs.Rule.{KeepsPermissions, first_conflict};
 ghost use Rattle.blk_graph.specs.declared.edge.Conflict.{Conflict as Pair};
 ghost use Rattle.blk_nodes.specs.Contents.{disk_of};
-ghost use Rattle.blk_nodes.specs.Jobs.{with_job, with_job_edges, with_read_only, with_written, without_job};
+ghost use Rattle.blk_nodes.specs.Jobs.{with_job, with_job_edges, with_read_only, with_node_writes, without_job};
 ghost use Rattle.blk_nodes.specs.Joined.{IsFile};
 
 use crate::adding::{conflict_of, take_drawn};
@@ -103,12 +103,12 @@ impl<D: Device> Nodes<D> {
     pub fn make_writable(&mut self, node: NodeId) -> Result<(), Conflict>
         requires { HasNode self.old.graph node }
         ensures denied { (pair : Pair) → (result ≡ Err pair)
-            ↔ (first_conflict (ids self.old.graph) (with_written node true self.old).graph.edges
+            ↔ (first_conflict (ids self.old.graph) (with_node_writes node true self.old).graph.edges
             ≡ Some pair) }
         ensures kept { IsOk result
-            ↔ KeepsPermissions (with_written node true self.old).graph.edges }
+            ↔ KeepsPermissions (with_node_writes node true self.old).graph.edges }
         ensures file { IsFile self.old node → IsOk result }
-        ensures ok { OnOk result (self.new ≡ with_written node true self.old) }
+        ensures ok { OnOk result (self.new ≡ with_node_writes node true self.old) }
         ensures err { OnErr result (self.new ≡ self.old) }
         ensures disks { (other : ℕ) → disk_of self.new other ≡ disk_of self.old other }
     {
@@ -123,7 +123,7 @@ impl<D: Device> Nodes<D> {
     /// then, so this can't be refused. Guests that are on the node write on, and each node reads as before.
     pub fn make_read_only(&mut self, node: NodeId)
         requires { HasNode self.old.graph node }
-        ensures nodes { self.new ≡ with_written node false self.old }
+        ensures nodes { self.new ≡ with_node_writes node false self.old }
         ensures disks { (other : ℕ) → disk_of self.new other ≡ disk_of self.old other }
     {
         self.graph.make_read_only(node);

@@ -5,10 +5,10 @@ ghost use Rattle.blk_base.specs.Pieces.{end_of};
 ghost use Rattle.q2_image.specs.Reading.{IsWithinCluster};
 ghost use Rattle.blk_nodes.specs.Contents.{disk_of};
 ghost use Rattle.blk_nodes.specs.Joined.{IsJoined};
-ghost use Rattle.blk_nodes.specs.Nodes.{AreTold, size_of, file_of};
+ghost use Rattle.blk_nodes.specs.Nodes.{AreTold, node_size, file_of};
 ghost use Rattle.blk_nodes.specs.Parts.{HasPiece, IsImage};
-ghost use Rattle.blk_nodes.specs.Sources.{source_of};
-ghost use Rattle.blk_nodes.specs.Writing.{MayWrite, WritesPiece, ZerosPiece, LeavesNodes, IsApartFrom, taken_by};
+ghost use Rattle.blk_nodes.specs.Sources.{source_at};
+ghost use Rattle.blk_nodes.specs.Writing.{MayWriteThrough, WritesPiece, ZerosPiece, LeavesNodes, IsApartFrom, taken_by};
 
 use crate::nodes::Nodes;
 use crate::part::{Part, cluster_around};
@@ -33,12 +33,12 @@ impl<D: Device> Nodes<D> {
     fn part(&self, node: NodeId, span: Span) -> Part
         requires some { 0 < span.len }
         requires block { IsWithinCluster 65536 span }
-        requires inside { end_of span ≤ size_of self.now node }
+        requires inside { end_of span ≤ node_size self.now node }
         requires image { IsImage self.now node }
         ensures node { result.node ≡ node }
         ensures span { result.span ≡ span }
         ensures file { file_of self.now node ≡ Some result.file }
-        ensures source { source_of self.now node result.whole.start ≡ result.source }
+        ensures source { source_at self.now node result.whole.start ≡ result.source }
         ensures piece { HasPiece self.now.rows self.now.devices result }
     {
         let Some(file) = self.graph.child(Parent::Node(node), Role::File) else {
@@ -57,10 +57,10 @@ impl<D: Device> Nodes<D> {
 
     /// Writes a piece of a `file` or `raw` node.
     fn write_in_file(&mut self, node: NodeId, span: Span, bytes: &[u8]) -> Outcome
-        requires inside { end_of span ≤ size_of self.old node }
+        requires inside { end_of span ≤ node_size self.old node }
         requires some { 0 < span.len }
         requires whole { length bytes.now ≡ span.len }
-        requires may { MayWrite self.old node }
+        requires may { MayWriteThrough self.old node }
         requires plain { ¬ IsImage self.old node }
         ensures wrote { WritesPiece self.old self.new node span bytes.now result }
         ensures disk { AreTold self.old.devices
@@ -79,10 +79,10 @@ impl<D: Device> Nodes<D> {
     /// Writes a piece of a qcow2 node.
     pub(super) fn write_in_image(&mut self, node: NodeId, span: Span, bytes: &[u8]) -> Outcome
         requires block { IsWithinCluster 65536 span }
-        requires inside { end_of span ≤ size_of self.old node }
+        requires inside { end_of span ≤ node_size self.old node }
         requires some { 0 < span.len }
         requires whole { length bytes.now ≡ span.len }
-        requires may { MayWrite self.old node }
+        requires may { MayWriteThrough self.old node }
         requires image { IsImage self.old node }
         ensures wrote { WritesPiece self.old self.new node span bytes.now result }
         ensures disk { AreTold self.old.devices
@@ -110,9 +110,9 @@ impl<D: Device> Nodes<D> {
     /// Takes no memory.
     pub fn write_piece(&mut self, node: NodeId, span: Span, bytes: &[u8]) -> Outcome
         requires block { IsWithinCluster 65536 span }
-        requires inside { end_of span ≤ size_of self.old node }
+        requires inside { end_of span ≤ node_size self.old node }
         requires whole { length bytes.now ≡ span.len }
-        requires may { MayWrite self.old node }
+        requires may { MayWriteThrough self.old node }
         ensures none { span.len ≡ 0 → (result ≡ Outcome.Good) × (self.new ≡ self.old) }
         ensures wrote { 0 < span.len → WritesPiece self.old self.new node span bytes.now result }
         ensures disk { AreTold self.old.devices
@@ -134,9 +134,9 @@ impl<D: Device> Nodes<D> {
     /// Writes zeros to a piece of a `file` or `raw` node.
     fn zero_in_file(&mut self, node: NodeId, span: Span) -> Outcome
         requires block { IsWithinCluster 65536 span }
-        requires inside { end_of span ≤ size_of self.old node }
+        requires inside { end_of span ≤ node_size self.old node }
         requires some { 0 < span.len }
-        requires may { MayWrite self.old node }
+        requires may { MayWriteThrough self.old node }
         requires plain { ¬ IsImage self.old node }
         ensures wrote { ZerosPiece self.old self.new node span result }
         ensures disk { AreTold self.old.devices
@@ -159,9 +159,9 @@ impl<D: Device> Nodes<D> {
     /// Writes zeros to a piece of a qcow2 node.
     fn zero_in_image(&mut self, node: NodeId, span: Span) -> Outcome
         requires block { IsWithinCluster 65536 span }
-        requires inside { end_of span ≤ size_of self.old node }
+        requires inside { end_of span ≤ node_size self.old node }
         requires some { 0 < span.len }
-        requires may { MayWrite self.old node }
+        requires may { MayWriteThrough self.old node }
         requires image { IsImage self.old node }
         ensures wrote { ZerosPiece self.old self.new node span result }
         ensures disk { AreTold self.old.devices
@@ -187,8 +187,8 @@ impl<D: Device> Nodes<D> {
     /// of one that reads so is left.
     pub fn zero_piece(&mut self, node: NodeId, span: Span) -> Outcome
         requires block { IsWithinCluster 65536 span }
-        requires inside { end_of span ≤ size_of self.old node }
-        requires may { MayWrite self.old node }
+        requires inside { end_of span ≤ node_size self.old node }
+        requires may { MayWriteThrough self.old node }
         ensures none { span.len ≡ 0 → (result ≡ Outcome.Good) × (self.new ≡ self.old) }
         ensures wrote { 0 < span.len → ZerosPiece self.old self.new node span result }
         ensures disk { AreTold self.old.devices

@@ -6,7 +6,7 @@ ghost use Rattle.flat_machine.specs.Agreement.{ReadAsDisks};
 ghost use Rattle.flat_machine.specs.Final.{AreDisks, bytes_named};
 ghost use Rattle.flat_machine.specs.Imaging.{ImagesAreSound};
 ghost use Rattle.flat_machine.specs.State.{State};
-ghost use Rattle.world_commands.specs.Closing.{AreFlushed, AreNodesFlushed, IsClosed};
+ghost use Rattle.world_commands.specs.Closing.{AreFlushed, AreNodesFlushed, EndsWorld};
 ghost use Rattle.world_parts.specs.Face.{held, told_bytes, contents_of};
 ghost use Rattle.world_parts.specs.Steps.{seen_store};
 
@@ -20,7 +20,7 @@ impl<S: Store> World<S> {
     /// the first fault of these flushes, where there was one. Takes no memory.
     pub fn close_world(self) -> (S, History, Option<FaultAt>)
         ensures history { result.1 ≡ self.progress.log }
-        ensures closed { IsClosed self
+        ensures closed { EndsWorld self
             (seen_store (S.files result.0) (S.opened result.0) (S.room result.0)
             (S.faults result.0)) result.2 }
         ensures faults { S.faults result.0 ≡ self.faults }

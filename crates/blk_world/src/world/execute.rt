@@ -8,9 +8,9 @@ ghost use Rattle.flat_machine.specs.declared.opening.Opening.{Opening};
 ghost use Rattle.world_parts.specs.Face.{seen_state};
 ghost use Rattle.world_commands.specs.Comes.{Comes};
 ghost use Rattle.world_parts.specs.Draining.{is_drain};
-ghost use Rattle.world_parts.specs.Progress.{with_entry};
+ghost use Rattle.world_parts.specs.Progress.{with_bare_entry};
 ghost use Rattle.world_parts.specs.Saying.{given_line};
-ghost use Rattle.world_parts.specs.Steps.{lifted, onward};
+ghost use Rattle.world_parts.specs.Steps.{lifted, with_history};
 ghost use Rattle.world_commands.specs.Carrying.{IsCarriedAs, IsCarriedOut, IsExecuted, IsPutBack, IsPutBackBy, IsPutBackIn};
 
 use crate::world::World;
@@ -72,7 +72,7 @@ impl<S: Store> World<S> {
     /// Notes the reply to a line, after which no drain of a command stands.
     fn note_reply(&mut self, line: u32, given: String, command: Option<Command>, text: String)
         requires { 0 < self.old.progress.spare.entries }
-        ensures { self.new ≡ lifted (onward self.old (with_entry
+        ensures { self.new ≡ lifted (with_history self.old (with_bare_entry
             (Event.Reply line (string_bytes given) (option_map seen_command command)
             (string_bytes text)))) }
     {

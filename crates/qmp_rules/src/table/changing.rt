@@ -2,7 +2,7 @@
 ghost use Rattle.std.specs.Prelude.{◌≡◌, ◌<◌, ◌≤◌, ◌+◌, ◌-◌, ◌^◌, ◌∷◌, ◌++◌, [], IsTrue, Some, map, true};
 ghost use Rattle.blk_graph.specs.Edges.{HasNumber, may_have};
 ghost use Rattle.blk_graph.specs.Edits.{IsLone, with_edge, with_filter, with_replaced, without_parent};
-ghost use Rattle.qmp_rules.specs.Changes.{asked_for, bitmaps_but_of, busy_by, lost_with, rewired, with_turned, with_unsettled, with_writable, without_bitmap, without_device, without_name, without_row};
+ghost use Rattle.qmp_rules.specs.Changes.{asked_for, bitmaps_but_of, busy_by, lost_with, rewired, with_turned, with_unsettled, with_writable, without_bitmap, without_device, without_name, without_record};
 ghost use Rattle.qmp_rules.specs.Room.{KeepsSpare};
 ghost use Rattle.qmp_rules.specs.Table.{with_file};
 
@@ -50,7 +50,7 @@ impl Names {
 
     pub(crate) fn drop_node(&mut self, id: NodeId)
         ensures table { self.new.table
-            ≡ record self.old.table { nodes = without_row id self.old.table.nodes } }
+            ≡ record self.old.table { nodes = without_record id self.old.table.nodes } }
         ensures spare { KeepsSpare self.old self.new }
     {
         edit::drop_node(&mut self.nodes, id);

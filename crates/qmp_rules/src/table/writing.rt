@@ -1,6 +1,6 @@
 //! What a guest's write makes of the table.
 ghost use Rattle.std.specs.Prelude.{◌≡◌, ◌<◌, length, slice_set, slice_get, Some};
-ghost use Rattle.qmp_rules.specs.Chains.{below, has_id, is_over, unsettled_over, written_under};
+ghost use Rattle.qmp_rules.specs.Chains.{chain_below, is_listed, is_over, unsettled_over, written_under};
 ghost use Rattle.qmp_rules.specs.declared.rows.NodeRecord.{NodeRecord as Row};
 
 use crate::table::Names;
@@ -9,7 +9,7 @@ use blk_graph::NodeId;
 impl Names {
     /// Whether a node is one of the backing nodes below another.
     fn is_below(&self, node: NodeId, id: NodeId) -> bool
-        ensures { result ≡ has_id node (below self.now.table id) }
+        ensures { result ≡ is_listed node (chain_below self.now.table id) }
     {
         let mut top = id;
         for _ in 0..64u32 {

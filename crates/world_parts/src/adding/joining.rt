@@ -6,7 +6,7 @@ ghost use Rattle.blk_nodes.specs.Overlays.{HasRoomForNode};
 ghost use Rattle.qmp_codec.specs.Nodes.{seen_add_qcow2, seen_add_raw, seen_backing, seen_blockdev_add, seen_file_ref, seen_inline_file};
 ghost use Rattle.qmp_asks.specs.Naming.{inline_name};
 ghost use Rattle.qmp_asks.specs.NodeAsks.{is_read_only};
-ghost use Rattle.world_parts.specs.Joining.{CanAdd, CanAddImage, CanAddPart, CanJoin, CanJoinAt, CanPutFilter, CanPutImage, CanPutPart, HasAdded, HasAddedFile, HasAddedImage, HasAddedPart, IsFileAdded, HasFilter, HasImageNode, HasInline, HasJoined, HasJoinedAt, HasPart, asked_for, backing_for, part_in};
+ghost use Rattle.world_parts.specs.Joining.{CanAdd, CanAddImage, CanAddPart, CanJoin, CanJoinAt, CanPutFilter, CanPutImage, CanPutPart, HasAdded, HasAddedFile, HasAddedImage, HasAddedPart, IsFileAdded, HasFilter, HasImageNode, HasInline, HasJoined, HasJoinedAt, HasPart, qcow2_asked, backing_for, part_in};
 
 use crate::adding::opening::Out;
 use crate::adding::telling::{part_offset, part_size};
@@ -246,11 +246,11 @@ fn add_file_image<D: Device>(
     image: Image,
 ) -> Result<(), Out<D>>
     requires { CanJoin (seen_blockdev_add c.now) (seen_inline_file file.now) out nodes.old
-        (λ now node. CanPutImage now (asked_for names.now.table (seen_blockdev_add c.now)
+        (λ now node. CanPutImage now (qcow2_asked names.now.table (seen_blockdev_add c.now)
         (seen_add_qcow2 added.now) node) image) }
     ensures ok { OnOk result (HasJoined (seen_blockdev_add c.now) (seen_inline_file file.now) out
         nodes.old nodes.new
-        (λ now under node. HasImageNode (asked_for names.now.table (seen_blockdev_add c.now)
+        (λ now under node. HasImageNode (qcow2_asked names.now.table (seen_blockdev_add c.now)
         (seen_add_qcow2 added.now) under)
         image now nodes.new node)) }
     ensures back { IfErr result (λ back. back ≡ out) }
@@ -307,10 +307,10 @@ fn add_image<D: Device>(
     image: Image,
 ) -> Result<(), NoMemory>
     requires { CanJoinAt names.now.table file.now (λ row. CanPutImage nodes.old
-        (asked_for names.now.table (seen_blockdev_add c.now) (seen_add_qcow2 added.now) row.id)
+        (qcow2_asked names.now.table (seen_blockdev_add c.now) (seen_add_qcow2 added.now) row.id)
         image) }
     ensures ok { OnOk result (HasJoinedAt names.now.table file.now (λ row node. HasImageNode
-        (asked_for names.now.table (seen_blockdev_add c.now) (seen_add_qcow2 added.now) row.id)
+        (qcow2_asked names.now.table (seen_blockdev_add c.now) (seen_add_qcow2 added.now) row.id)
         image nodes.old nodes.new node)) }
     ensures err { OnErr result (nodes.new ≡ nodes.old) }
 {

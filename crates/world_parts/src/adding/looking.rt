@@ -7,8 +7,8 @@ ghost use Rattle.blk_nodes.specs.Overlays.{IsOpened};
 ghost use Rattle.qmp_codec.specs.Commands.{seen_command};
 ghost use Rattle.qmp_codec.specs.Nodes.{seen_add_qcow2, seen_blockdev_add, seen_file_ref};
 ghost use Rattle.qmp_codec.specs.declared.command.Command.TheVariants.{BlockdevAdd as AddCommand};
-ghost use Rattle.qmp_rules.specs.Answers.{untold};
-ghost use Rattle.qmp_rules.specs.Looks.{image_stop, is_free_file, is_unopened, told_as};
+ghost use Rattle.qmp_rules.specs.Answers.{told_none};
+ghost use Rattle.qmp_rules.specs.Looks.{unfit_image, is_free_file, is_unopened, told_record};
 ghost use Rattle.world_parts.specs.Adding.{IsBackIfOut, IsFreeFile, IsLookReached, IsNotOpenOn, IsOpenOn, Looks, LooksAtFile, LooksUnder, TellsAddition, TellsInside, look_in_vain, opened_sight, opens_by};
 ghost use Rattle.world_parts.specs.Looking.{AreIn, HasCalled, HasLooked, HaveFileNodes, IsLookedBack, IsUnopenedFor, LooksAtImage, LooksAtPart, MayOpen, StoreIsBack, site};
 
@@ -42,7 +42,7 @@ pub(crate) struct Looked<D: Device> {
 /// What a file tells of a node over it that opens no image.
 fn length_seen(alloc: Global, length: u64, stopped: Option<Stopped>) -> Seen
     ensures image { result.image ≡ None }
-    ensures told { result.told ≡ told_as (Some length) None stopped }
+    ensures told { result.told ≡ told_record (Some length) None stopped }
 {
     Seen {
         image: None,
@@ -80,8 +80,8 @@ fn image_seen(
     image: Image,
 ) -> Result<Seen, NoMemory>
     ensures image { IfOk result (λ seen. seen.image ≡ Some image) }
-    ensures told { IfOk result (λ seen. seen.told ≡ told_as length (Some image.header.size)
-        (image_stop names.now.table node.now (seen_add_qcow2 added.now)
+    ensures told { IfOk result (λ seen. seen.told ≡ told_record length (Some image.header.size)
+        (unfit_image names.now.table node.now (seen_add_qcow2 added.now)
         (opened_sight image.header))) }
 {
     let stopped = image_stop(alloc, names, node, added, &image)?;
@@ -95,7 +95,7 @@ fn image_seen(
 /// What is told of an image that isn't opened for that.
 fn refused_seen(alloc: Global, length: Option<u64>, refusal: Refusal) -> Seen
     ensures image { result.image ≡ None }
-    ensures told { result.told ≡ told_as length None
+    ensures told { result.told ≡ told_record length None
         (Some (record { look = Look.Image; refusal = refusal })) }
 {
     let stopped = Some(Stopped {
@@ -211,7 +211,7 @@ fn look_in_vain(what: Look, refusal: &Refusal) -> Look
 /// What is seen of a file that isn't opened for that.
 fn vain<D: Device>(alloc: Global, what: Look, refusal: Refusal) -> Looked<D>
     ensures none { result.out ≡ None }
-    ensures told { result.seen.told ≡ told_as None None
+    ensures told { result.seen.told ≡ told_record None None
         (Some (record { look = look_in_vain what refusal; refusal = refusal })) }
 {
     let stopped = Some(Stopped {
@@ -278,7 +278,7 @@ fn may_open(
 /// That nothing is looked at.
 fn nothing_seen(alloc: Global) -> Seen
     ensures image { result.image ≡ None }
-    ensures told { result.told ≡ untold }
+    ensures told { result.told ≡ told_none }
 {
     Seen {
         image: None,

@@ -3,7 +3,7 @@ ghost use Rattle.std.specs.Prelude.{◌≡◌, length, true, None, IfOk, OnOk, O
 ghost use Rattle.qmp_codec.specs.Commands.{seen_command};
 ghost use Rattle.qmp_codec.specs.Nodes.{seen_added, seen_blockdev_add};
 ghost use Rattle.qmp_codec.specs.declared.command.Command.TheVariants.{BlockdevAdd as AddCommand};
-ghost use Rattle.qmp_rules.specs.Answers.{refusal_of};
+ghost use Rattle.qmp_rules.specs.Answers.{refusal_to};
 ghost use Rattle.qmp_rules.specs.Changes.{all_changed};
 ghost use Rattle.qmp_rules.specs.Fitting.{AllChangesFit};
 ghost use Rattle.qmp_rules.specs.Room.{HasRoomForChanges};
@@ -135,7 +135,7 @@ fn end<S: Store>(
     staged: Staged,
 ) -> Result<String, NoMemory>
     requires out { IsOutForAddition (seen_blockdev_add c.now).driver out store.old }
-    requires ready { refusal_of names.old.table told.now (AddCommand (seen_blockdev_add c.now))
+    requires ready { refusal_to names.old.table told.now (AddCommand (seen_blockdev_add c.now))
         ≡ None
         → CanAdd names.old.table (seen_blockdev_add c.now) out image nodes.old }
     requires staged { IsStaged names.old given.now told.now (AddCommand (seen_blockdev_add c.now))

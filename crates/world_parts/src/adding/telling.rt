@@ -2,7 +2,7 @@
 ghost use Rattle.std.specs.Prelude.{◌≡◌, ◌==◌, ◌&&◌, IfOk, Some, None, is_none, is_some, not, option_and_then, option_map};
 ghost use Rattle.qmp_codec.specs.Nodes.{seen_add_qcow2, seen_add_raw};
 ghost use Rattle.qmp_rules.specs.Asks.{if_there};
-ghost use Rattle.qmp_rules.specs.Looks.{file_stop, image_stop, raw_stop, stop_at, told_as, too_long};
+ghost use Rattle.qmp_rules.specs.Looks.{file_stop, unfit_image, raw_stop, stop_at, told_record, too_long};
 ghost use Rattle.qmp_rules.specs.Refusals.{refused};
 ghost use Rattle.qmp_rules.specs.Table.{node_named};
 ghost use Rattle.qmp_asks.specs.NodeAsks.{backing_name};
@@ -73,7 +73,7 @@ pub(crate) fn told_as(
     size: Option<u64>,
     stopped: Option<Stopped>,
 ) -> Told
-    ensures { result ≡ told_as length size stopped }
+    ensures { result ≡ told_record length size stopped }
 {
     let nothing = Told::nothing(alloc);
     Told {
@@ -217,7 +217,7 @@ pub(crate) fn image_stop(
     added: &AddQcow2,
     image: &Image,
 ) -> Result<Option<Stopped>, NoMemory>
-    ensures { IfOk result (λ stopped. stopped ≡ image_stop names.now.table node.now
+    ensures { IfOk result (λ stopped. stopped ≡ unfit_image names.now.table node.now
         (seen_add_qcow2 added.now) (opened_sight image.now.header)) }
 {
     match backing_needed(alloc, node, added, image)? {

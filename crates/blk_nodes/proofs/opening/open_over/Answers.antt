@@ -1,7 +1,7 @@
 use Rattle.std.proofs.Common.{◌≡◌, ◌==◌, ℕ, Bool, true, false, cond, List, refl, sym, subst, Option, Some, None, Ok, Err}
 use Rattle.std.specs.Prelude.{Result, MatchOption, is_some}
 use Rattle.q2_image.specs.Image.{Known}
-use Rattle.blk_nodes.specs.Nodes.{DeviceState}
+use Rattle.blk_nodes.specs.Nodes.{DeviceSeen}
 use Rattle.blk_nodes.specs.Overlays.{backing_stop, IsMisfit, IsOpened, IsOpening}
 use Rattle.blk_nodes.specs.declared.backing.Backing.{Backing}
 use Rattle.blk_nodes.specs.declared.backing.Backing.TheVariants.{Unsaid, Null, Node}
@@ -16,7 +16,7 @@ abbrev done : Result (Unit {0}) AddStop
 done = Ok tt
 
 -- the image doesn't fit its backing node
-module _ (old new : List DeviceState) (file : ℕ) (size : ℕ) (image : Known) (opened : IsOpened old file image) (same : new ≡ old) (stop : AddStop) where
+module _ (old new : List DeviceSeen) (file : ℕ) (size : ℕ) (image : Known) (opened : IsOpened old file image) (same : new ≡ old) (stop : AddStop) where
   abbrev Answer : Option AddStop → Type 0
   Answer found = MatchOption found (fails stop ≡ done) (λ s. fails stop ≡ fails s)
 

@@ -8,8 +8,8 @@ use Rattle.blk_history.specs.Recorded.{Recorded}
 use Rattle.blk_history.specs.Transcript.{transcript}
 use Rattle.blk_history.specs.declared.event.Event.{Event}
 use Rattle.qblk_core.specs.Run.{Outside, guest_names}
-use Rattle.blk_nodes.specs.Nodes.{DeviceState}
-use Rattle.qblk_core.specs.ImageNodes.{faults_of, seen}
+use Rattle.blk_nodes.specs.Nodes.{DeviceSeen}
+use Rattle.qblk_core.specs.ImageNodes.{device_faults, seen_device}
 use Rattle.qblk_core.specs.Session.{EndsAs}
 use Rattle.qblk_core.proofs.Returned.{open_opening, none-out-back}
 use Rattle.qblk_core.proofs.Whole.{ends, stops, store-stands, sink-stands, ends-stands, closed-of}
@@ -25,8 +25,8 @@ returns-in-Ok-made-clause-ended g c =
     let K = g.K.Sink in
     let dev = c.in-Ok-open_image.device in
     let back = c.make_run-made.result.1 in
-    let d : DeviceState = seen D dev in
-    let n : DeviceState = seen D back in
+    let d : DeviceSeen = seen_device D dev in
+    let n : DeviceSeen = seen_device D back in
     let old : Outside = record { files = S.files c.args.store.now; opened = S.opened c.args.store.now; store_faults = S.faults c.args.store.now; sent = K.sent c.args.out.now; sink_faults = K.faults c.args.out.now } in
     let new : Outside = record { files = S.files c.give_back.new.self; opened = S.opened c.give_back.new.self; store_faults = S.faults c.give_back.new.self; sent = K.sent c.write_out.new.out; sink_faults = K.faults c.write_out.new.out } in
     let sized : (b : List ℕ) → d.content ≡ Some b → d.size ≡ length b = λ b is. g.met.S.Dev.Device.told_size dev b is in
@@ -52,8 +52,8 @@ returns-in-Err-made-clause-ended g c =
     let K = g.K.Sink in
     let dev = c.in-Ok-open_image.device in
     let back = c.make_run-made.result.1 in
-    let d : DeviceState = seen D dev in
-    let n : DeviceState = seen D back in
+    let d : DeviceSeen = seen_device D dev in
+    let n : DeviceSeen = seen_device D back in
     let old : Outside = record { files = S.files c.args.store.now; opened = S.opened c.args.store.now; store_faults = S.faults c.args.store.now; sent = K.sent c.args.out.now; sink_faults = K.faults c.args.out.now } in
     let new : Outside = record { files = S.files c.give_back.new.self; opened = S.opened c.give_back.new.self; store_faults = S.faults c.give_back.new.self; sent = K.sent c.args.out.now; sink_faults = K.faults c.args.out.now } in
     let sized : (b : List ℕ) → d.content ≡ Some b → d.size ≡ length b = λ b is. g.met.S.Dev.Device.told_size dev b is in
@@ -74,7 +74,7 @@ pub returns-in-Ok-made-clause-back : goal.returns-in-Ok-made-clause-back
 returns-in-Ok-made-clause-back g c =
     let S = g.S.Store in
     let D = g.S.Dev.Device in
-    let d : DeviceState = seen D c.in-Ok-open_image.device in
+    let d : DeviceSeen = seen_device D c.in-Ok-open_image.device in
     let count = D.faults c.make_run-made.result.1 in
     let opened1 = c.in-Ok-open_image.ensures.opened ∙ ap (λ (os : List Opened). os ++ open_opening c.args.image.now d ∷ []) c.in-Ok.ensures.opened in
     none-out-back c.args.image.now d count (S.opened c.args.store.now) (S.opened c.give_back.new.self) c.requires (c.give_back.ensures.opened ∙ ap (given_back c.args.image.now count) opened1)
@@ -83,7 +83,7 @@ pub returns-in-Err-made-clause-back : goal.returns-in-Err-made-clause-back
 returns-in-Err-made-clause-back g c =
     let S = g.S.Store in
     let D = g.S.Dev.Device in
-    let d : DeviceState = seen D c.in-Ok-open_image.device in
+    let d : DeviceSeen = seen_device D c.in-Ok-open_image.device in
     let count = D.faults c.make_run-made.result.1 in
     let opened1 = c.in-Ok-open_image.ensures.opened ∙ ap (λ (os : List Opened). os ++ open_opening c.args.image.now d ∷ []) c.in-Ok.ensures.opened in
     none-out-back c.args.image.now d count (S.opened c.args.store.now) (S.opened c.give_back.new.self) c.requires (c.give_back.ensures.opened ∙ ap (given_back c.args.image.now count) opened1)
@@ -94,14 +94,14 @@ returns-in-Ok-made-clause-faults g c =
     let D = g.S.Dev.Device in
     let K = g.K.Sink in
     let back = c.make_run-made.result.1 in
-    let n : DeviceState = seen D back in
+    let n : DeviceSeen = seen_device D back in
     let made = rw c.in-Ok-made.is at c.make_run-made.ensures.made in
     let w = made.1 in
     let counts = c.give_back.ensures.faults ∙ c.in-Ok-open_image.ensures.quiet ∙ c.in-Ok.ensures.quiet in
     record {
       store = store-stands (S.faults c.args.store.now) (S.faults c.give_back.new.self) c.write_out.result counts;
-      sink = ends-stands n (faults_of w.nodes) c.in-Ok-made.made.fault (K.sent c.args.out.now) (K.sent c.write_out.new.out) (transcript guest_names c.in-Ok-made.made.history.events)
-          (K.faults c.args.out.now) (K.faults c.write_out.new.out) c.write_out.result (closed-of c.args.format made.0 (seen D c.in-Ok-open_image.device) n w c.in-Ok-made.made.fault made.3).flushed c.write_out.ensures;
+      sink = ends-stands n (device_faults w.nodes) c.in-Ok-made.made.fault (K.sent c.args.out.now) (K.sent c.write_out.new.out) (transcript guest_names c.in-Ok-made.made.history.events)
+          (K.faults c.args.out.now) (K.faults c.write_out.new.out) c.write_out.result (closed-of c.args.format made.0 (seen_device D c.in-Ok-open_image.device) n w c.in-Ok-made.made.fault made.3).flushed c.write_out.ensures;
     }
 
 pub returns-in-Err-made-clause-faults : goal.returns-in-Err-made-clause-faults

@@ -2,7 +2,7 @@ use Rattle.std.proofs.Common.{◌≡◌, ◌+◌, ◌∷◌, ◌++◌, [], List,
 use Rattle.std.specs.Prelude.{map}
 use Rattle.std.proofs.lemmas.List.{map-append}
 use Rattle.trace_codec.specs.declared.wish.Wish.{Wish}
-use Rattle.qblk_inputs.specs.Words.{Player, texts_of, player_of}
+use Rattle.qblk_inputs.specs.Words.{Player, texts_in, player_of}
 use Rattle.qblk_inputs.specs.Inputs.{IsRefusedTrace, IsTraceFlaw}
 use Rattle.qblk_inputs.specs.Reading.{OfFile, OfTraces}
 use Rattle.qblk_inputs.proofs.Stops.{stops_more}
@@ -13,7 +13,7 @@ use Rattle.qblk_inputs.proofs.inputs.read_traces.Goals as goal
 pub loop-word-preserved : goal.loop-word-preserved
 loop-word-preserved g c =
     let files = g.S.Store.files c.args.store.now in
-    let players = map player_of (texts_of c.args.players.now) in
+    let players = map player_of (texts_in c.args.players.now) in
     let w = c.word-item.result in
     let done = map (λ t. t.items) c.loop-word.traces.items in
     let invariant = c.loop-word.invariant in
@@ -22,7 +22,7 @@ loop-word-preserved g c =
     let trace : c.player_of.result.1.now ≡ (player_of w.bytes).trace = c.player_of.ensures.trace ∙ ap (λ (bs : List ℕ). (player_of bs).trace) c.as_str.ensures in
     let here = rw (trace, invariant.files) at c.in-Ok.ensures.read in
     let next = ahead-next files players c.loop-word.asked c.read_trace.new.asked (player_of w.bytes) _ done c.in-Ok.wishes.items here ahead in
-    let Q : List (List Wish) → Type 0 = λ ts. IsAhead files players c.read_trace.new.asked (map player_of (texts_of (drop (c.loop-word.word-index + 1) c.args.players.now))) ts in
+    let Q : List (List Wish) → Type 0 = λ ts. IsAhead files players c.read_trace.new.asked (map player_of (texts_in (drop (c.loop-word.word-index + 1) c.args.players.now))) ts in
     let more : map (λ t. t.items) c.push.new.self.items ≡ done ++ c.in-Ok.wishes.items ∷ [] =
     ap (λ ts. map (λ t. t.items) ts) c.in-Ok-push.ensures.items ∙ map-append (λ t. t.items) c.loop-word.traces.items (c.in-Ok.wishes ∷ []) in
     record {
@@ -37,7 +37,7 @@ loop-word-preserved g c =
 pub returns-clause-read : goal.returns-clause-read
 returns-clause-read g c =
     let files = g.S.Store.files c.args.store.now in
-    let players = map player_of (texts_of c.args.players.now) in
+    let players = map player_of (texts_in c.args.players.now) in
     let none = players_none c.args.players.now c.loop-word.word-index (omega arith) in
     let P : List Player → Type 0 = λ rest. IsAhead files players c.loop-word.asked rest (map (λ t. t.items) c.loop-word.traces.items) in
     ahead-end files players c.loop-word.asked _ (subst P none c.loop-word.invariant.ahead)
@@ -45,10 +45,10 @@ returns-clause-read g c =
 pub returns-in-Err-clause-stop : goal.returns-in-Err-clause-stop
 returns-in-Err-clause-stop g c =
     let files = g.S.Store.files c.args.store.now in
-    let players = map player_of (texts_of c.args.players.now) in
+    let players = map player_of (texts_in c.args.players.now) in
     let w = c.word-item.result in
     let invariant = c.loop-word.invariant in
-    let rest = map player_of (texts_of (drop (c.loop-word.word-index + 1) c.args.players.now)) in
+    let rest = map player_of (texts_in (drop (c.loop-word.word-index + 1) c.args.players.now)) in
     let P : List Player → Type 0 = λ left. IsAhead files players c.loop-word.asked left (map (λ t. t.items) c.loop-word.traces.items) in
     let ahead = subst P (players_from c.args.players.now c.loop-word.word-index w (omega arith) c.word-item.is) invariant.ahead in
     let trace : c.player_of.result.1.now ≡ (player_of w.bytes).trace = c.player_of.ensures.trace ∙ ap (λ (bs : List ℕ). (player_of bs).trace) c.as_str.ensures in

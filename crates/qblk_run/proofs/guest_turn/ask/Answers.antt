@@ -5,7 +5,7 @@ use Rattle.trace_codec.specs.declared.wish.Wish.TheVariants.{Ask, Wait}
 use Rattle.trace_codec.specs.declared.waits.Waits.TheVariants.{Line}
 use Rattle.flat_machine.specs.Courses.{past_waits}
 use Rattle.flat_machine.specs.Blocked.{TraceWaits}
-use Rattle.world_parts.specs.Face.{Face, seen_state}
+use Rattle.world_parts.specs.Face.{WorldSeen, seen_state}
 use Rattle.world_parts.specs.Progress.{answered_in, HasRoomFor}
 use Rattle.qblk_run.specs.Tasks.{Task}
 use Rattle.qblk_run.specs.Worlds.{HasCome}
@@ -74,7 +74,7 @@ returns-in-Admitted-clause-turn g c =
     c.in-Some-Ask.op c.in-Admitted.field-0 (ap (λ (t : Task). t.left) c.task.view_is ∙ c.requires.idle)
     (first ∙ ap (λ (n : Option Wish). Ask c.in-Some-Ask.op ∷ (option_to_list n ++ c.pass_waits.new.rest.items)) (sym c.take.ensures.after)) room c.in-Admitted.ensures.kept
     (ap (λ (n : _). Some n) c.pieces-pieces.ensures) refl (ap (λ (t : Task). t.is_done) c.task.view_is ∙ c.requires.runs))
-    (ap (λ (u : Face). u.drains) c.in-Admitted.ensures.kept)
+    (ap (λ (u : WorldSeen). u.drains) c.in-Admitted.ensures.kept)
 
 pub returns-in-Refused-clause-turn : goal.returns-in-Refused-clause-turn
 returns-in-Refused-clause-turn g c =
@@ -94,7 +94,7 @@ returns-in-Refused-clause-turn g c =
     c.in-Some-Ask.op c.in-Refused.field-0 (ap (λ (t : Task). t.left) c.task.view_is ∙ c.requires.idle)
     (first ∙ ap (λ (n : Option Wish). Ask c.in-Some-Ask.op ∷ (option_to_list n ++ c.pass_waits.new.rest.items)) (sym c.take.ensures.after)) room c.in-Refused.ensures.kept
     (ap (λ (t : Task). t.left) c.task.view_is ∙ c.requires.idle) refl (ap (λ (t : Task). t.is_done) c.task.view_is ∙ c.requires.runs))
-    (ap (λ (u : Face). u.drains) c.in-Refused.ensures.kept)
+    (ap (λ (u : WorldSeen). u.drains) c.in-Refused.ensures.kept)
 
 pub returns-in-Admitted-clause-comes : goal.returns-in-Admitted-clause-comes
 returns-in-Admitted-clause-comes g c = λ orders o d first has.
@@ -107,10 +107,10 @@ returns-in-Refused-clause-comes g c = λ orders o d first has.
     c.args.guest c.in-Some-Ask.op c.in-Refused.field-0 c.in-Refused.ensures.answer c.in-Refused.ensures.kept
 
 pub returns-in-Away-clause-comes : goal.returns-in-Away-clause-comes
-returns-in-Away-clause-comes g c = λ orders o d first has. subst (λ (u : Face). HasCome o d first u orders) (sym c.in-Away.ensures.kept) has
+returns-in-Away-clause-comes g c = λ orders o d first has. subst (λ (u : WorldSeen). HasCome o d first u orders) (sym c.in-Away.ensures.kept) has
 
 pub returns-in-Held-clause-comes : goal.returns-in-Held-clause-comes
-returns-in-Held-clause-comes g c = λ orders o d first has. subst (λ (u : Face). HasCome o d first u orders) (sym c.in-Held.ensures.kept) has
+returns-in-Held-clause-comes g c = λ orders o d first has. subst (λ (u : WorldSeen). HasCome o d first u orders) (sym c.in-Held.ensures.kept) has
 
 pub returns-in-Held-clause-turn : goal.returns-in-Held-clause-turn
 returns-in-Held-clause-turn g c =

@@ -1,6 +1,6 @@
 use Rattle.std.proofs.Common.{◌≡◌, ℕ, List, length, refl, ap, Some}
 use Rattle.blk_history.specs.Machine.{Flight}
-use Rattle.world_parts.specs.Progress.{CanShow, flight_at, with_piece}
+use Rattle.world_parts.specs.Progress.{CanShow, flight_at, with_piece_entry}
 use Rattle.qblk_run.specs.Tasks.{Task}
 use Rattle.qblk_run.proofs.GuestTurns.{can-go, flight-of, piece-drains, piece-move, piece-noted}
 use Rattle.qblk_run.proofs.Worlds.{come-piece}
@@ -14,7 +14,7 @@ returns-clause-moved g c =
     let w = g.W.Events.face c.args.world.now in
     let v = g.W.Events.face c.piece-outcome.new.self in
     let noted : (f : Flight) → flight_at w.progress.guests c.args.guest ≡ Some f
-    → (got : List ℕ) × (v.progress ≡ with_piece c.args.guest f.next c.piece-outcome.result got w.progress) × CanShow (length got) f =
+    → (got : List ℕ) × (v.progress ≡ with_piece_entry c.args.guest f.next c.piece-outcome.result got w.progress) × CanShow (length got) f =
     piece-noted w v c.args.guest c.piece-outcome.result (can-go w.progress c.args.guest c.args.left c.args.task.now c.requires.task c.requires.flying c.requires.more) c.piece-outcome.ensures.made in
     let f = flight-of w.progress c.args.guest c.args.left c.args.task.now c.requires.task c.requires.flying in (
       piece-move w v c.args.guest c.args.task.now _ c.requires.task

@@ -3,15 +3,15 @@ use Rattle.blk_base.specs.Files.{IfTold}
 use Rattle.std.specs.Prelude.{map}
 use Rattle.trace_codec.specs.Script.{seen_order}
 use Rattle.qblk_inputs.specs.Inputs.{Work, HasWork}
-use Rattle.qblk_inputs.specs.Words.{Cast, texts_of, cast_of}
+use Rattle.qblk_inputs.specs.Words.{Cast, texts_in, cast_of}
 use Rattle.qblk_run.specs.Run.{Answers, Setting, setting, status_of}
 use Rattle.qblk_run.proofs.Runs.{one-cast, refused-answers}
 use Rattle.qblk_run.proofs.run.run_script.Goals as goal
 
 pub returns-in-Ok-clause-ended : goal.returns-in-Ok-clause-ended
 returns-in-Ok-clause-ended g c = λ cast form.
-    let its = cast_of c.in-Some.run'.script.now (texts_of c.in-Some.run'.players.now) in
-    let same : its ≡ cast = one-cast (texts_of c.args.words.now) its cast c.in-Some.ensures form in
+    let its = cast_of c.in-Some.run'.script.now (texts_in c.in-Some.run'.players.now) in
+    let same : its ≡ cast = one-cast (texts_in c.args.words.now) its cast c.in-Some.ensures form in
     let read = c.in-Ok.ensures in
     let work : Work = record { script = map seen_order c.in-Ok.inputs.script.items; traces = map (λ t. t.items) c.in-Ok.inputs.traces.items } in
     let told : IfTold (g.S.Store.files c.read_inputs.new.store) (HasWork its work) = rw read.files read.read in
@@ -24,8 +24,8 @@ returns-in-Ok-clause-ended g c = λ cast form.
 
 pub returns-in-Err-clause-ended : goal.returns-in-Err-clause-ended
 returns-in-Err-clause-ended g c = λ cast form.
-    let its = cast_of c.in-Some.run'.script.now (texts_of c.in-Some.run'.players.now) in
-    let same : its ≡ cast = one-cast (texts_of c.args.words.now) its cast c.in-Some.ensures form in
+    let its = cast_of c.in-Some.run'.script.now (texts_in c.in-Some.run'.players.now) in
+    let same : its ≡ cast = one-cast (texts_in c.args.words.now) its cast c.in-Some.ensures form in
     let read = c.in-Err.ensures in
     let old : Setting = setting (g.S.Store.files c.args.store) (g.S.Store.opened c.args.store) (g.S.Store.room c.args.store) (g.S.Store.faults c.args.store) (g.K.Sink.sent c.args.out.now) (g.K.Sink.faults c.args.out.now) in
     let new : Setting = setting (g.S.Store.files c.read_inputs.new.store) (g.S.Store.opened c.read_inputs.new.store) (g.S.Store.room c.read_inputs.new.store) (g.S.Store.faults c.read_inputs.new.store) (g.K.Sink.sent c.args.out.now) (g.K.Sink.faults c.args.out.now) in

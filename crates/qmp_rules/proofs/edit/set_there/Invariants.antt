@@ -1,10 +1,10 @@
 use Rattle.std.proofs.Common.{◌≡◌, ◌++◌, take, drop, map, vec_capacity, vec_len}
-use Rattle.qmp_rules.specs.Table.{in_state}
+use Rattle.qmp_rules.specs.Table.{row_in_state}
 use Rattle.qmp_rules.proofs.edit.set_there.Given as goal
 
 abbrev pub invariant-loop-i : goal.invariant-loop-i
 invariant-loop-i l = record {
-  so_far : take l.i l.rows.items ++ map (in_state l.name l.state) (drop l.i l.rows.items) ≡ map (in_state l.name l.state) l.fn.rows.items;
+  so_far : take l.i l.rows.items ++ map (row_in_state l.name l.state) (drop l.i l.rows.items) ≡ map (row_in_state l.name l.state) l.fn.rows.items;
   count : vec_len l.rows ≡ vec_len l.fn.rows;
   room : vec_capacity l.rows ≡ vec_capacity l.fn.rows;
 }

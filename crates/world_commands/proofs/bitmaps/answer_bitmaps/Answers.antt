@@ -1,8 +1,8 @@
 use Rattle.std.proofs.Common.{Ok, sym, ◌∙◌, subst}
 use Rattle.std.specs.Prelude.{IfOk, OnOk, string_bytes}
 use Rattle.qmp_codec.specs.Commands.{Cmd, seen_command}
-use Rattle.qmp_rules.specs.Table.{Table}
-use Rattle.qmp_rules.specs.Answers.{returned, untold}
+use Rattle.qmp_rules.specs.Table.{RunTable}
+use Rattle.qmp_rules.specs.Answers.{returned, told_none}
 use Rattle.world_commands.specs.Recorded.{AreAfter}
 use Rattle.world_parts.specs.Saying.{IsSaid}
 use Rattle.world_commands.proofs.CarryPlain.{bitmaps-stay}
@@ -12,8 +12,8 @@ use Rattle.world_commands.proofs.bitmaps.answer_bitmaps.Goals as goal
 pub returns-in-Ok-clause-said : goal.returns-in-Ok-clause-said
 returns-in-Ok-clause-said c =
     let command : Cmd = seen_command c.args.command.now in
-    let said = subst (λ (t : Table). IfOk c.accept.result
-    (λ text. IsSaid c.args.given.now (Ok (returned t untold command)) (string_bytes text)))
+    let said = subst (λ (t : RunTable). IfOk c.accept.result
+    (λ text. IsSaid c.args.given.now (Ok (returned t told_none command)) (string_bytes text)))
     c.prepare.ensures.table c.accept.ensures.said in
     accepted_said c.args.names.now.table command string_bytes c.args.given.now c.accept.result c.in-Ok.ensures.accepted said
 
@@ -26,7 +26,7 @@ returns-in-Ok-clause-changed c =
 pub returns-in-Ok-clause-follow : goal.returns-in-Ok-clause-follow
 returns-in-Ok-clause-follow c =
     let command : Cmd = seen_command c.args.command.now in
-    let after = subst (λ (t : Table). OnOk c.accept.result (AreAfter t command c.args.bitmaps.now c.accept.new.bitmaps))
+    let after = subst (λ (t : RunTable). OnOk c.accept.result (AreAfter t command c.args.bitmaps.now c.accept.new.bitmaps))
     c.prepare.ensures.table c.accept.ensures.bitmaps in
     accepted_follows c.args.names.now.table command c.accept.result c.args.bitmaps.now c.accept.new.bitmaps c.requires.alike c.requires.is
     c.in-Ok.ensures.accepted after
@@ -53,7 +53,7 @@ returns-in-Err-clause-follow c =
 pub returns-in-Ok-clause-left : goal.returns-in-Ok-clause-left
 returns-in-Ok-clause-left c =
     let command : Cmd = seen_command c.args.command.now in
-    let after = subst (λ (t : Table). OnOk c.accept.result (AreAfter t command c.args.bitmaps.now c.accept.new.bitmaps))
+    let after = subst (λ (t : RunTable). OnOk c.accept.result (AreAfter t command c.args.bitmaps.now c.accept.new.bitmaps))
     c.prepare.ensures.table c.accept.ensures.bitmaps in
     accepted_bitmaps c.args.names.now.table command c.accept.result c.args.bitmaps.now c.accept.new.bitmaps c.requires.is c.in-Ok.ensures.accepted after
 

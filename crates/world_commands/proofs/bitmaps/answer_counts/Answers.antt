@@ -1,11 +1,11 @@
 use Rattle.std.proofs.Common.{List, ℕ, map, Ok, sym, ◌∙◌, subst}
 use Rattle.std.specs.Prelude.{IfOk, string_bytes}
 use Rattle.qmp_codec.specs.Commands.{Cmd, seen_command}
-use Rattle.qmp_rules.specs.Table.{Table}
-use Rattle.qmp_rules.specs.Answers.{returned, untold}
+use Rattle.qmp_rules.specs.Table.{RunTable}
+use Rattle.qmp_rules.specs.Answers.{returned, told_none}
 use Rattle.flat_machine.specs.Bitmaps.{dirty_in}
 use Rattle.flat_machine.specs.Marking.{dirty_bytes}
-use Rattle.world_commands.specs.Carrying.{counted}
+use Rattle.world_commands.specs.Carrying.{with_counts}
 use Rattle.world_parts.specs.Saying.{IsSaid}
 use Rattle.world_commands.proofs.CarryInTable.{accepted_changes, counted_said, counted_refused_said, prints-stays, refused_unchanged}
 use Rattle.world_commands.proofs.bitmaps.answer_counts.Goals as goal
@@ -14,8 +14,8 @@ pub returns-in-Ok-clause-said : goal.returns-in-Ok-clause-said
 returns-in-Ok-clause-said c =
     let command : Cmd = seen_command c.args.command.now in
     let ds : List ℕ = map dirty_bytes (map dirty_in c.args.bitmaps.now) in
-    let said = subst (λ (t : Table). IfOk c.accept_counts.result
-    (λ text. IsSaid c.args.given.now (Ok (returned t (counted untold ds) command)) (string_bytes text)))
+    let said = subst (λ (t : RunTable). IfOk c.accept_counts.result
+    (λ text. IsSaid c.args.given.now (Ok (returned t (with_counts told_none ds) command)) (string_bytes text)))
     c.prepare.ensures.table c.accept_counts.ensures.said in
     counted_said c.args.names.now.table command ds string_bytes c.args.given.now c.accept_counts.result c.in-Ok.ensures.accepted said
 

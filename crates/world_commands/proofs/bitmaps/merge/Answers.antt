@@ -3,14 +3,14 @@ use Rattle.std.proofs.lemmas.List.{at_drop_more}
 use Rattle.qmp_codec.specs.Bitmaps.{seen_bitmap_merge, seen_source}
 use Rattle.qmp_rules.specs.Asks.{id_or}
 use Rattle.qmp_asks.specs.BitmapAsks.{source_node}
-use Rattle.qmp_rules.specs.Table.{Table}
+use Rattle.qmp_rules.specs.Table.{RunTable}
 use Rattle.world_commands.specs.Recorded.{bitmaps_merged}
 use Rattle.world_commands.proofs.BitmapsChanged.{merged-more}
 use Rattle.world_commands.proofs.bitmaps.merge.Goals as goal
 
 pub loop-source-preserved : goal.loop-source-preserved
 loop-source-preserved c =
-    let t : Table = c.args.names.now.table in
+    let t : RunTable = c.args.names.now.table in
     let node : List ℕ = (seen_bitmap_merge c.args.c.now).node in
     let target : List ℕ = (seen_bitmap_merge c.args.c.now).target in
     let items = c.args.c.now.bitmaps.items in

@@ -1,9 +1,9 @@
 use Rattle.std.proofs.Common.{◌≡◌, None, refl, ◌∙◌, ap, subst}
 use Rattle.std.specs.Prelude.{string_bytes}
 use Rattle.qmp_codec.specs.Commands.{Cmd, seen_command}
-use Rattle.qmp_rules.specs.Answers.{command_edits, refusal_of, untold}
+use Rattle.qmp_rules.specs.Answers.{command_edits, refusal_to, told_none}
 use Rattle.qmp_rules.specs.Changes.{all_changed}
-use Rattle.qmp_rules.specs.Table.{Table}
+use Rattle.qmp_rules.specs.Table.{RunTable}
 use Rattle.qmp_rules.specs.declared.told.Told.{Told}
 use Rattle.world_parts.specs.Deleting.{ground_in}
 use Rattle.world_parts.specs.Handling.{IsDeletedBy}
@@ -12,15 +12,15 @@ use Rattle.world_commands.proofs.deleting.delete.Goals as goal
 
 pub returns-in-Ok-clause-handled : goal.returns-in-Ok-clause-handled
 returns-in-Ok-clause-handled g c =
-    let t : Table = c.args.names.now.table in
+    let t : RunTable = c.args.names.now.table in
     let seen : Cmd = seen_command c.args.command.now in
-    let none : refusal_of t untold seen ≡ None = rw c.nothing-told.ensures at c.in-Ok.ensures.accepted in
-    let table : c.apply.new.self.table ≡ all_changed t (command_edits t untold seen) =
+    let none : refusal_to t told_none seen ≡ None = rw c.nothing-told.ensures at c.in-Ok.ensures.accepted in
+    let table : c.apply.new.self.table ≡ all_changed t (command_edits t told_none seen) =
     c.apply.ensures
-    ∙ ap (λ (names : Table). all_changed names c.in-Ok.edits) c.in-Ok.ensures.table
+    ∙ ap (λ (names : RunTable). all_changed names c.in-Ok.edits) c.in-Ok.ensures.table
     ∙ ap (all_changed t) (c.in-Ok.ensures.edits ∙ ap (λ (told : Told). command_edits t told seen) c.nothing-told.ensures) in
     handled_accepted _ t seen _ _ _ _ none table
-    (subst (λ (names : Table). IsDeletedBy names seen (ground_in c.args.store.now c.args.nodes.now) (ground_in c.drop_by.new.store c.drop_by.new.nodes))
+    (subst (λ (names : RunTable). IsDeletedBy names seen (ground_in c.args.store.now c.args.nodes.now) (ground_in c.drop_by.new.store c.drop_by.new.nodes))
     c.in-Ok.ensures.table c.drop_by.ensures.deleted)
     (rw (c.in-Ok.ensures.table, c.nothing-told.ensures) at c.in_ok-text-in-Ok.ensures)
 

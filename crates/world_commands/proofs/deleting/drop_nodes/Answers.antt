@@ -1,5 +1,5 @@
 use Rattle.std.proofs.Common.{sym, ◌∙◌, subst}
-use Rattle.qmp_rules.specs.Table.{Table}
+use Rattle.qmp_rules.specs.Table.{RunTable}
 use Rattle.world_parts.specs.Deleting.{Ground, ground_in, left, CanLeave}
 use Rattle.world_parts.specs.Steps.{StoreSeen}
 use Rattle.blk_nodes.specs.Nodes.{Nodes}
@@ -13,7 +13,7 @@ drop_node-requires g c =
 
 pub drop_node-requires-in-Some : goal.drop_node-requires-in-Some
 drop_node-requires-in-Some g c =
-    let t : Table = c.args.names.now.table in
+    let t : RunTable = c.args.names.now.table in
     let x : Ground = ground_in c.args.store.now c.args.nodes.now in
     let can : CanLeave t x c.args.node = first_can t x c.edges.ensures.joined c.requires.belong c.args.node c.requires.free in
     subst (λ (n : Nodes). CanLeave t (ground_in c.drop_node.new.store n) c.in-Some.file)

@@ -1,14 +1,14 @@
 use Rattle.std.proofs.Common.{Ok, refl}
 use Rattle.std.specs.Prelude.{string_bytes}
 use Rattle.qmp_codec.specs.Commands.{Cmd, seen_command}
-use Rattle.qmp_rules.specs.Table.{Table}
+use Rattle.qmp_rules.specs.Table.{RunTable}
 use Rattle.world_commands.proofs.DeviceAsked.{detachment_leaves, not_accepted}
 use Rattle.world_commands.proofs.Handled.{handled_stop}
 use Rattle.world_commands.proofs.detaching.detach.Goals as goal
 
 pub returns-in_ok-text-in-Err-clause-ok : goal.returns-in_ok-text-in-Err-clause-ok
 returns-in_ok-text-in-Err-clause-ok g c = λ s table guests.
-    let t : Table = c.args.names.now.table in
+    let t : RunTable = c.args.names.now.table in
     let seen : Cmd = seen_command c.args.command.now in
     record {
       handled = handled_stop {E = Unit {0}} (Ok c.in_ok-text-in-Err.text) string_bytes c.args.given.now t seen _ _ _ c.in-Err.stop c.in-Err.ensures.refused

@@ -1,8 +1,8 @@
 use Rattle.std.proofs.Common.{Ok, sym, ◌∙◌, subst}
 use Rattle.std.specs.Prelude.{IfOk, string_bytes}
 use Rattle.qmp_codec.specs.Commands.{Cmd, seen_command}
-use Rattle.qmp_rules.specs.Table.{Table}
-use Rattle.qmp_rules.specs.Answers.{returned, untold}
+use Rattle.qmp_rules.specs.Table.{RunTable}
+use Rattle.qmp_rules.specs.Answers.{returned, told_none}
 use Rattle.world_parts.specs.Saying.{IsSaid}
 use Rattle.world_commands.proofs.CarryPlain.{alone-stays}
 use Rattle.world_commands.proofs.CarryInTable.{accepted_said, accepted_changes, refused_said, refused_unchanged}
@@ -11,8 +11,8 @@ use Rattle.world_commands.proofs.in_table.answer_alone.Goals as goal
 pub returns-in-Ok-clause-said : goal.returns-in-Ok-clause-said
 returns-in-Ok-clause-said c =
     let command : Cmd = seen_command c.args.command.now in
-    let said = subst (λ (t : Table). IfOk c.accept_alone.result
-    (λ text. IsSaid c.args.given.now (Ok (returned t untold command)) (string_bytes text)))
+    let said = subst (λ (t : RunTable). IfOk c.accept_alone.result
+    (λ text. IsSaid c.args.given.now (Ok (returned t told_none command)) (string_bytes text)))
     c.prepare.ensures.table c.accept_alone.ensures.said in
     accepted_said c.args.names.now.table command string_bytes c.args.given.now c.accept_alone.result c.in-Ok.ensures.accepted said
 

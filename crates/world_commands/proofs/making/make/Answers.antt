@@ -1,8 +1,8 @@
 use Rattle.std.proofs.Common.{◌≡◌, ◌≤◌, length, None, refl, sym, ◌∙◌, subst}
 use Rattle.std.specs.Prelude.{string_bytes}
 use Rattle.qmp_codec.specs.Commands.{Cmd, seen_command}
-use Rattle.qmp_rules.specs.Answers.{refusal_of}
-use Rattle.qmp_rules.specs.Table.{Table}
+use Rattle.qmp_rules.specs.Answers.{refusal_to}
+use Rattle.qmp_rules.specs.Table.{RunTable}
 use Rattle.world_parts.specs.Deleting.{Ground, ground_in}
 use Rattle.world_commands.specs.Making.{CanCreateBy, told_first}
 use Rattle.world_parts.proofs.CreatedKept.{has_room_less}
@@ -11,17 +11,17 @@ use Rattle.world_commands.proofs.making.make.Goals as goal
 
 pub make_edited-requires-clause-can : goal.make_edited-requires-clause-can
 make_edited-requires-clause-can g c =
-    let t : Table = c.args.names.now.table in
+    let t : RunTable = c.args.names.now.table in
     let seen : Cmd = seen_command c.args.command.now in
     let x : Ground = ground_in c.args.store.now c.args.nodes.now in
     let first : c.in_ok-told.told ≡ told_first seen x.store.room = rw c.room.ensures at c.in_ok-told.ensures in
-    let none : refusal_of t (told_first seen x.store.room) seen ≡ None = rw (c.prepare_failure.ensures.table, first) at c.in-Ok.ensures.accepted in
-    subst (λ (u : Table). CanCreateBy u seen x) (sym (c.in-Ok.ensures.table ∙ c.prepare_failure.ensures.table))
+    let none : refusal_to t (told_first seen x.store.room) seen ≡ None = rw (c.prepare_failure.ensures.table, first) at c.in-Ok.ensures.accepted in
+    subst (λ (u : RunTable). CanCreateBy u seen x) (sym (c.in-Ok.ensures.table ∙ c.prepare_failure.ensures.table))
     (creation_can t x seen c.requires.belong c.requires.creation none)
 
 pub make_edited-requires-clause-spoiled_room : goal.make_edited-requires-clause-spoiled_room
 make_edited-requires-clause-spoiled_room g c =
-    let t : Table = c.args.names.now.table in
+    let t : RunTable = c.args.names.now.table in
     let seen : Cmd = seen_command c.args.command.now in
     let fewer : length c.in_ok-spoiled.spoiled ≤ length c.in-Ok.edits =
     rw (c.in_ok-spoiled.ensures.edits, c.in-Ok.ensures.edits, c.prepare_failure.ensures.table) (creation_fewer t c.in_ok-told.told seen c.requires.creation) in
@@ -29,7 +29,7 @@ make_edited-requires-clause-spoiled_room g c =
 
 pub returns-in-Ok-clause-made : goal.returns-in-Ok-clause-made
 returns-in-Ok-clause-made g c =
-    let t : Table = c.args.names.now.table in
+    let t : RunTable = c.args.names.now.table in
     let seen : Cmd = seen_command c.args.command.now in
     let x : Ground = ground_in c.args.store.now c.args.nodes.now in
     let first : c.in_ok-told.told ≡ told_first seen x.store.room = rw c.room.ensures at c.in_ok-told.ensures in
@@ -40,7 +40,7 @@ returns-in-Ok-clause-made g c =
 
 pub returns-clause-made : goal.returns-clause-made
 returns-clause-made g c =
-    let t : Table = c.args.names.now.table in
+    let t : RunTable = c.args.names.now.table in
     let seen : Cmd = seen_command c.args.command.now in
     let x : Ground = ground_in c.args.store.now c.args.nodes.now in
     let first : c.in_ok-told.told ≡ told_first seen x.store.room = rw c.room.ensures at c.in_ok-told.ensures in

@@ -1,5 +1,5 @@
 use Rattle.std.proofs.Common.{List, sym, ◌∙◌, ap, subst, get_or}
-use Rattle.blk_nodes.specs.Nodes.{DeviceState}
+use Rattle.blk_nodes.specs.Nodes.{DeviceSeen}
 use Rattle.blk_nodes.specs.Reading.{HasRisen, IsReadOf}
 use Rattle.blk_nodes.proofs.HeldDevices.{is_placed, at_place, HaveRisen-set, read_over, told_at}
 use Rattle.blk_nodes.proofs.devices.Devices.read_image.Goals as goal
@@ -9,10 +9,10 @@ unreachable-requires g c = is_placed c.args.file c.args.self.now (sym c.place_of
 
 pub returns-clause-read : goal.returns-clause-read
 returns-clause-read g c =
-    let items : List DeviceState = c.self.inside.list.items in
-    let x : DeviceState = c.index_mut-held.result.now in
+    let items : List DeviceSeen = c.self.inside.list.items in
+    let x : DeviceSeen = c.index_mut-held.result.now in
     let place = rw (sym c.self.view_is) at (sym c.in-Some.ensures.place) in
-    let content = ap (λ (d : DeviceState). d.content) c.index_mut-held.ensures.value in
+    let content = ap (λ (d : DeviceSeen). d.content) c.index_mut-held.ensures.value in
     let known = rw (sym c.self.view_is) at c.requires.known in
     rw (sym c.self.view_is)
     (λ all good.
@@ -21,20 +21,20 @@ returns-clause-read g c =
 
 pub returns-clause-outcome : goal.returns-clause-outcome
 returns-clause-outcome g c =
-    let items : List DeviceState = c.self.inside.list.items in
-    let x : DeviceState = c.index_mut-held.result.now in
-    let y : DeviceState = c.read_image.new.self in
+    let items : List DeviceSeen = c.self.inside.list.items in
+    let x : DeviceSeen = c.index_mut-held.result.now in
+    let y : DeviceSeen = c.read_image.new.self in
     let place = rw (sym c.self.view_is) at (sym c.in-Some.ensures.place) in
     rw (sym c.self.view_is)
     (read_over c.args.file items c.in-Some.at x y c.read_image.result place
-    (subst (λ (d : DeviceState). HasRisen d y) c.index_mut-held.ensures.value c.read_image.ensures.kept)
-    (subst (λ (d : DeviceState). IsReadOf d y c.read_image.result) c.index_mut-held.ensures.value c.read_image.ensures.outcome))
+    (subst (λ (d : DeviceSeen). HasRisen d y) c.index_mut-held.ensures.value c.read_image.ensures.kept)
+    (subst (λ (d : DeviceSeen). IsReadOf d y c.read_image.result) c.index_mut-held.ensures.value c.read_image.ensures.outcome))
 
 pub returns-clause-devices : goal.returns-clause-devices
 returns-clause-devices g c =
-    let items : List DeviceState = c.self.inside.list.items in
-    let x : DeviceState = c.index_mut-held.result.now in
-    let y : DeviceState = c.read_image.new.self in
+    let items : List DeviceSeen = c.self.inside.list.items in
+    let x : DeviceSeen = c.index_mut-held.result.now in
+    let y : DeviceSeen = c.read_image.new.self in
     let within = rw (sym c.self.view_is) at c.in-Some.ensures.within in
     rw (sym c.self.view_is)
-    (HaveRisen-set items c.in-Some.at x y within (subst (λ (d : DeviceState). HasRisen d y) c.index_mut-held.ensures.value c.read_image.ensures.kept))
+    (HaveRisen-set items c.in-Some.at x y within (subst (λ (d : DeviceSeen). HasRisen d y) c.index_mut-held.ensures.value c.read_image.ensures.kept))

@@ -1,5 +1,5 @@
 use Rattle.std.proofs.Common.{List, sym, ◌∙◌, subst}
-use Rattle.blk_nodes.specs.Nodes.{DeviceState}
+use Rattle.blk_nodes.specs.Nodes.{DeviceSeen}
 use Rattle.blk_nodes.specs.Writing.{IsWriteOf}
 use Rattle.blk_nodes.proofs.HeldDevices.{is_placed, written_over}
 use Rattle.blk_nodes.proofs.devices.Devices.write_file.Goals as goal
@@ -9,10 +9,10 @@ unreachable-requires g c = is_placed c.args.file c.args.self.now (sym c.place_of
 
 pub returns : goal.returns
 returns g c =
-    let items : List DeviceState = c.self.inside.list.items in
-    let x : DeviceState = c.index_mut-held.result.now in
-    let y : DeviceState = c.write.new.self in
+    let items : List DeviceSeen = c.self.inside.list.items in
+    let x : DeviceSeen = c.index_mut-held.result.now in
+    let y : DeviceSeen = c.write.new.self in
     let place = rw (sym c.self.view_is) at (sym c.in-Some.ensures.place) in
     rw (sym c.self.view_is)
     (written_over c.args.file items c.in-Some.at x y c.args.start c.args.bytes.now c.write.result place
-    (subst (λ (d : DeviceState). IsWriteOf d y c.args.start c.args.bytes.now c.write.result) c.index_mut-held.ensures.value c.write.ensures))
+    (subst (λ (d : DeviceSeen). IsWriteOf d y c.args.start c.args.bytes.now c.write.result) c.index_mut-held.ensures.value c.write.ensures))

@@ -6,7 +6,7 @@ use Rattle.q2_image.specs.Made.{put_steps}
 use Rattle.q2_image.specs.Reading.{IsHost}
 use Rattle.q2_image.specs.Writing.{IsDiskWith, PutFits}
 use Rattle.blk_nodes.specs.Changing.{PutsCluster}
-use Rattle.blk_nodes.specs.Nodes.{DeviceState}
+use Rattle.blk_nodes.specs.Nodes.{DeviceSeen}
 use Rattle.blk_nodes.specs.Writing.{HasImageCause, taken_by}
 use Rattle.blk_nodes.proofs.ImageCalls.{host_mapped, cluster_mapped, cluster_cause, cluster_change, cluster_disk}
 use Rattle.blk_nodes.proofs.devices.Held.put_image.Goals as goal
@@ -21,7 +21,7 @@ returns g c =
     let image = c.args.image.now in
     let left = c.put_cluster-written.new.self in
     let bits = c.cluster_size.ensures.bits in
-    let old : DeviceState = record {
+    let old : DeviceSeen = record {
       node = c.self.inside.node;
       number = c.self.inside.number;
       content = g.D.Device.content c.self.inside.device;
@@ -31,7 +31,7 @@ returns g c =
       capacity = g.D.Device.capacity c.self.inside.device;
       faults = g.D.Device.faults c.self.inside.device;
     } in
-    let new : DeviceState = record {
+    let new : DeviceSeen = record {
       node = c.self.inside.node;
       number = c.self.inside.number;
       content = g.D.Device.content c.put_cluster-written.new.dev;

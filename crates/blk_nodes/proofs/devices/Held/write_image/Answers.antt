@@ -2,7 +2,7 @@ use Rattle.std.proofs.Common.{◌≡◌, ◌≤◌, ℕ, List, Some, length, ref
 use Rattle.blk_base.specs.declared.device.Stop.TheVariants as why
 use Rattle.blk_base.specs.declared.fault.Outcome.{Outcome}
 use Rattle.q2_image.specs.Writing.{IsDiskWith, own_end, own_place}
-use Rattle.blk_nodes.specs.Nodes.{DeviceState}
+use Rattle.blk_nodes.specs.Nodes.{DeviceSeen}
 use Rattle.blk_nodes.specs.Writing.{HasImageCause, taken_by}
 use Rattle.blk_nodes.specs.Changing.{ChangesInPlace}
 use Rattle.blk_nodes.proofs.ImageCalls.{own_cause, own_header, own_made, own_mapped, own_stopped, own_taken, same_state}
@@ -32,7 +32,7 @@ pub returns-in-Err : goal.returns-in-Err
 returns-in-Err g c =
     let stop = c.in-Err.stop in
     let e = c.in-Err.ensures in
-    let old : DeviceState = record {
+    let old : DeviceSeen = record {
       node = c.self.inside.node;
       number = c.self.inside.number;
       content = g.D.Device.content c.self.inside.device;
@@ -42,7 +42,7 @@ returns-in-Err g c =
       capacity = g.D.Device.capacity c.self.inside.device;
       faults = g.D.Device.faults c.self.inside.device;
     } in
-    let new : DeviceState = record {
+    let new : DeviceSeen = record {
       node = c.self.inside.node;
       number = c.self.inside.number;
       content = g.D.Device.content c.write_own.new.dev;

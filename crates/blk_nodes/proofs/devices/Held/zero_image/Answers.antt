@@ -7,7 +7,7 @@ use Rattle.q2_image.specs.Image.{cluster_size_in, entry_in}
 use Rattle.q2_image.specs.Made.{zero_steps}
 use Rattle.q2_image.specs.Writing.{IsDiskWith, ZeroFits}
 use Rattle.blk_nodes.specs.Changing.{ClearsCluster}
-use Rattle.blk_nodes.specs.Nodes.{DeviceState}
+use Rattle.blk_nodes.specs.Nodes.{DeviceSeen}
 use Rattle.blk_nodes.specs.Writing.{HasImageCause, taken_by}
 use Rattle.blk_nodes.proofs.ImageCalls.{zero_mapped, cluster_mapped, cluster_change, cluster_zeros, stable_zero, zeros_disk, cluster_cause, cluster_disk, same_state}
 use Rattle.blk_nodes.proofs.devices.Held.zero_image.Goals as goal
@@ -22,7 +22,7 @@ returns g c =
     let image = c.args.image.now in
     let left = c.zero_cluster-written.new.self in
     let bits = c.cluster_size.ensures.bits in
-    let old : DeviceState = record {
+    let old : DeviceSeen = record {
       node = c.self.inside.node;
       number = c.self.inside.number;
       content = g.D.Device.content c.self.inside.device;
@@ -32,7 +32,7 @@ returns g c =
       capacity = g.D.Device.capacity c.self.inside.device;
       faults = g.D.Device.faults c.self.inside.device;
     } in
-    let new : DeviceState = record {
+    let new : DeviceSeen = record {
       node = c.self.inside.node;
       number = c.self.inside.number;
       content = g.D.Device.content c.zero_cluster-written.new.dev;

@@ -5,7 +5,7 @@ use Rattle.blk_base.specs.declared.fault.Outcome.TheVariants.{Good}
 use Rattle.blk_nodes.specs.Copying.{AtEach, HasRoomIn, IsMappedAt, MapsEach, puts_below}
 use Rattle.blk_nodes.specs.Nodes.{Nodes, row_at}
 use Rattle.blk_nodes.specs.Sources.{step_of}
-use Rattle.blk_nodes.specs.Writing.{MayWrite}
+use Rattle.blk_nodes.specs.Writing.{MayWriteThrough}
 use Rattle.blk_nodes.specs.declared.source.Step.TheVariants.{Found, Below}
 use Rattle.blk_nodes.proofs.Copied.{met_found}
 use Rattle.blk_nodes.proofs.MappedDown.{bad_is, each_below, inside_below, read_below, maps_early, mapped_early, rest_early, disk_early, disks_early, may_put, image_put, inside_put, maps_on, mapped_on, rest_on, disk_on, disks_on}
@@ -50,7 +50,7 @@ map_below-below-requires g t c κs within =
               (
                 c.requires.whole,
                 (
-                  each_below old c.edges.ensures.joined c.args.turns (c.args.turns - 1) c.args.node c.in-Below.next c.args.span one goes (MayWrite old) c.requires.may,
+                  each_below old c.edges.ensures.joined c.args.turns (c.args.turns - 1) c.args.node c.in-Below.next c.args.span one goes (MayWriteThrough old) c.requires.may,
                   (
                     each_below old c.edges.ensures.joined c.args.turns (c.args.turns - 1) c.args.node c.in-Below.next c.args.span one goes (HasRoomIn old c.args.span) c.requires.room,
                     read_below old c.edges.ensures.joined c.args.turns (c.args.turns - 1) c.args.node c.in-Below.next c.args.span one goes c.args.bytes.now c.requires.block c.requires.inside c.requires.read,

@@ -1,7 +1,7 @@
 use Rattle.std.proofs.Common.{◌≡◌, ◌<◌, refl, sym, subst}
 use Rattle.blk_graph.specs.Edits.{IsLone}
 use Rattle.blk_graph.specs.Graph.{HasNode}
-use Rattle.blk_nodes.specs.Nodes.{Nodes, size_of}
+use Rattle.blk_nodes.specs.Nodes.{Nodes, node_size}
 use Rattle.blk_nodes.proofs.Additions.{graph_back, has_after}
 use Rattle.blk_nodes.proofs.OverlayAdded.{joined_copying, disks_copying, disk_copying}
 use Rattle.blk_nodes.proofs.nodes.Nodes.add_copy_on_read.Goals as goal
@@ -30,7 +30,7 @@ invariant_of-self-2 g c =
     let value : c.index.result ≡ c.in-Ok.node = c.index.ensures.value in
     let small : c.in-Ok.node < 64 = rw value at c.index.ensures.small in
     let lone : IsLone nodes.graph.edges c.in-Ok.node = rw c.in-Ok.ensures.ok at c.in-Ok.ensures.lone in
-    let size : size_of nodes c.args.child ≡ c.size-size.result = sym (rw (sym c.self.view_is) at c.size-size.ensures) in
+    let size : node_size nodes c.args.child ≡ c.size-size.result = sym (rw (sym c.self.view_is) at c.size-size.ensures) in
     let sound = rw (c.in_default-draw_edges.ensures.drawn, c.in-Ok.ensures.ok, c.node_kind-kind.ensures) at c.in_default-draw_edges.ensures.sound in
     rw (c.take_drawn.ensures, c.in_default-draw_edges.ensures.drawn, c.in-Ok.ensures.ok, c.node_kind-kind.ensures, value)
     (joined_copying nodes c.in-Ok.node c.args.child c.size-size.result c.args.name.bytes c.args.read_only c.self.invariant c.in-Ok.ensures.lowest.free
@@ -43,7 +43,7 @@ returns-clause-disks g c =
     let value : c.index.result ≡ c.in-Ok.node = c.index.ensures.value in
     let small : c.in-Ok.node < 64 = rw value at c.index.ensures.small in
     let lone : IsLone nodes.graph.edges c.in-Ok.node = rw c.in-Ok.ensures.ok at c.in-Ok.ensures.lone in
-    let size : size_of nodes c.args.child ≡ c.size-size.result = sym (rw (sym c.self.view_is) at c.size-size.ensures) in
+    let size : node_size nodes c.args.child ≡ c.size-size.result = sym (rw (sym c.self.view_is) at c.size-size.ensures) in
     rw (sym c.self.view_is, c.take_drawn.ensures, c.in_default-draw_edges.ensures.drawn, c.in-Ok.ensures.ok, c.node_kind-kind.ensures, value)
     (disks_copying nodes c.in-Ok.node c.args.child c.size-size.result c.args.name.bytes c.args.read_only c.self.invariant c.in-Ok.ensures.lowest.free
     small lone has size)
@@ -55,7 +55,7 @@ returns-clause-disk g c =
     let value : c.index.result ≡ c.in-Ok.node = c.index.ensures.value in
     let small : c.in-Ok.node < 64 = rw value at c.index.ensures.small in
     let lone : IsLone nodes.graph.edges c.in-Ok.node = rw c.in-Ok.ensures.ok at c.in-Ok.ensures.lone in
-    let size : size_of nodes c.args.child ≡ c.size-size.result = sym (rw (sym c.self.view_is) at c.size-size.ensures) in
+    let size : node_size nodes c.args.child ≡ c.size-size.result = sym (rw (sym c.self.view_is) at c.size-size.ensures) in
     let sound = rw (c.in_default-draw_edges.ensures.drawn, c.in-Ok.ensures.ok, c.node_kind-kind.ensures) at c.in_default-draw_edges.ensures.sound in
     rw (sym c.self.view_is, c.take_drawn.ensures, c.in_default-draw_edges.ensures.drawn, c.in-Ok.ensures.ok, c.node_kind-kind.ensures, value)
     (disk_copying nodes c.in-Ok.node c.args.child c.size-size.result c.args.name.bytes c.args.read_only c.self.invariant c.in-Ok.ensures.lowest.free

@@ -1,6 +1,6 @@
 use Rattle.std.proofs.Common.{◌≡◌, ◌≢◌, Err, refl, sym, ◌∙◌, ap, subst}
 use Rattle.blk_graph.specs.Edits.{IsLone}
-use Rattle.blk_graph.specs.Graph.{HasNode, IsSoundGraph, with_node as with_graph_node}
+use Rattle.blk_graph.specs.Graph.{HasNode, IsSoundGraph, with_node}
 use Rattle.blk_graph.specs.Judged.{without_node}
 use Rattle.blk_graph.specs.declared.stop.GraphStop.TheVariants as graph
 use Rattle.blk_graph.proofs.ChildLemmas.{no-way-back}
@@ -34,7 +34,7 @@ conflict_of-requires-clause-cycle g c = λ is.
 pub graph_back : (g : given.Over) (c : goal.After-conflict_of g) → c.take_back.new.graph ≡ c.self.inside.graph
 graph_back g c =
     let lone : IsLone c.self.inside.graph.edges c.in-Ok.node = rw c.in-Ok.ensures.ok at c.in-Ok.ensures.lone in
-    let sound : IsSoundGraph (with_graph_node c.self.inside.graph c.in-Ok.node c.args.name.bytes c.node_kind-kind.result)
+    let sound : IsSoundGraph (with_node c.self.inside.graph c.in-Ok.node c.args.name.bytes c.node_kind-kind.result)
     = rw c.in-Ok.ensures.ok at c.in-Ok.ensures.sound in
     c.take_back.ensures
     ∙ ap (without_node c.in-Ok.node) (c.in-Err-set_edge.ensures.err ∙ c.in-Ok.ensures.ok)

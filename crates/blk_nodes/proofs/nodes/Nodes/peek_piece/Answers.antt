@@ -4,7 +4,7 @@ use Rattle.blk_base.proofs.Contents.{bytes_at-by_place}
 use Rattle.blk_nodes.specs.Contents.{disk_of}
 use Rattle.blk_nodes.specs.Found.{IsReadOfSource}
 use Rattle.blk_nodes.specs.Nodes.{Nodes}
-use Rattle.blk_nodes.specs.Sources.{source_of}
+use Rattle.blk_nodes.specs.Sources.{source_at}
 use Rattle.blk_nodes.specs.declared.source.Source.{Source}
 use Rattle.blk_nodes.proofs.Chains.{reads_found, when_good}
 use Rattle.blk_nodes.proofs.Disks.{disks_risen}
@@ -22,7 +22,7 @@ pub returns-then-span-eq0-clause-devices : goal.returns-then-span-eq0-clause-dev
 returns-then-span-eq0-clause-devices g c = HaveRisen-refl c.args.self.now.devices
 
 pub returns-then-span-eq0-clause-source : goal.returns-then-span-eq0-clause-source
-returns-then-span-eq0-clause-source g c = unread (source_of c.args.self.now c.args.node c.args.span.start) c.args.self.now.devices
+returns-then-span-eq0-clause-source g c = unread (source_at c.args.self.now c.args.node c.args.span.start) c.args.self.now.devices
 
 pub invariant_of-self : goal.invariant_of-self
 invariant_of-self g c =

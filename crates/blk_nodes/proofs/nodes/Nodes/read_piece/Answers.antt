@@ -6,7 +6,7 @@ use Rattle.blk_base.proofs.Contents.{bytes_at-by_place}
 use Rattle.blk_nodes.specs.Contents.{disk_of}
 use Rattle.blk_nodes.specs.Copying.{AtEach, HasRoomIn, IsBeside, IsMappedAt, LeavesRest, MapsEach, images_met, images_met_in}
 use Rattle.blk_nodes.specs.Nodes.{Nodes, AreTold}
-use Rattle.blk_nodes.specs.Writing.{MayWrite}
+use Rattle.blk_nodes.specs.Writing.{MayWriteThrough}
 use Rattle.blk_nodes.proofs.MappedDown.{bad_is, leaves_risen, peeked_same, read_stopped_unread, room_for_all}
 use Rattle.blk_nodes.proofs.PartsWritten.{good_is}
 use Rattle.blk_nodes.proofs.nodes.Nodes.read_piece.Goals as goal
@@ -45,7 +45,7 @@ unfolding images_met
 map_below-requires-clause-may g c =
     let old : Nodes = c.args.self.now in
     let same = peeked_same old c.peek_piece-outcome.new.self c.args.node c.peek_piece-outcome.result (sym c.is_good-2.ensures ∙ c.if-not-is_good-2.false) c.peek_piece-outcome.ensures.outcome in
-    subst (λ (n : Nodes). AtEach (MayWrite n) (images_met_in 64 n c.args.node c.args.span.start)) (sym same) c.requires.may
+    subst (λ (n : Nodes). AtEach (MayWriteThrough n) (images_met_in 64 n c.args.node c.args.span.start)) (sym same) c.requires.may
 
 pub map_below-requires-clause-room : goal.map_below-requires-clause-room
 unfolding images_met

@@ -1,6 +1,6 @@
 use Rattle.std.proofs.Common.{◌≡◌, ℕ, ◌<◌, Some, None, refl, sym, ◌∙◌, ap, arith, get_or}
 use Rattle.std.proofs.lemmas.List.{get_or_default}
-use Rattle.blk_nodes.specs.Nodes.{Nodes, row_at, size_by, size_of}
+use Rattle.blk_nodes.specs.Nodes.{Nodes, row_at, size_by, node_size}
 use Rattle.blk_nodes.proofs.Joints.{goes_by}
 use Rattle.blk_nodes.proofs.Leading.{step_leads}
 use Rattle.blk_nodes.proofs.nodes.Nodes.step.Goals as goal
@@ -14,8 +14,8 @@ returns-in-Some-clause-walk g c =
     let small = c.index.ensures.small in
     let there : row_at nodes c.args.node ≡ Some c.in-Some.row =
     ap (λ (k : ℕ). get_or rows k None) (sym index) ∙ get_or_default rows c.index.result None c.index-2.result.now (omega (arith, count, small)) ∙ sym c.index-2.ensures ∙ c.in-Some.is in
-    let size : size_of nodes c.args.node ≡ c.in-Some.row.size = ap size_by there in
-    let inside : c.args.place < size_of nodes c.args.node = rw (sym c.self.view_is) at c.requires in
+    let size : node_size nodes c.args.node ≡ c.in-Some.row.size = ap size_by there in
+    let inside : c.args.place < node_size nodes c.args.node = rw (sym c.self.view_is) at c.requires in
     rw (sym c.self.view_is)
     (rw (c.step.ensures, c.child-file.ensures.child, c.child-backing.ensures.child)
     (goes_by nodes c.args.node c.args.place c.in-Some.row c.in-Some.row.driver c.self.invariant there refl (omega (arith, size, inside))))

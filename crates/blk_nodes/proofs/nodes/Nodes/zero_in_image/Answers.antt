@@ -7,10 +7,10 @@ use Rattle.q2_image.specs.Image.{Known}
 use Rattle.q2_image.specs.Room.{ZerosFit, is_whole}
 use Rattle.blk_nodes.specs.Contents.{IsToldDisk, disk_of}
 use Rattle.blk_nodes.specs.Changing.{ImageChange, IsZeroed}
-use Rattle.blk_nodes.specs.Nodes.{Nodes, DeviceState, file_of}
+use Rattle.blk_nodes.specs.Nodes.{Nodes, DeviceSeen, file_of}
 use Rattle.blk_nodes.specs.Parts.{IsDiskFound, WritesPart}
-use Rattle.blk_nodes.specs.Sources.{source_of}
-use Rattle.blk_nodes.specs.Writing.{MayWrite, IsApartFrom, LeavesNodes, ZerosPiece, zeros_place, taken_by}
+use Rattle.blk_nodes.specs.Sources.{source_at}
+use Rattle.blk_nodes.specs.Writing.{MayWriteThrough, IsApartFrom, LeavesNodes, ZerosPiece, zeros_place, taken_by}
 use Rattle.blk_nodes.specs.declared.part.Part.{Part}
 use Rattle.blk_nodes.specs.declared.row.Row.{Row}
 use Rattle.blk_nodes.proofs.Imaged.{disk_found, refuses_zeroed, joined_piece, disk_piece, others_piece, leaves_piece, left_piece, wrote_piece, zeros_image, sliced}
@@ -25,17 +25,17 @@ invariant_of-self g c =
     let fits : Known → ℕ → Type 0 = λ image. ZerosFit image part.span in
     let own : Known → Option ℕ = λ image. zeros_place (is_whole image part.span) image part.span in
     let rows : List (Option Row) = c.zero_part.new.rows in
-    let devices : List DeviceState = c.zero_part.new.devices in
+    let devices : List DeviceSeen = c.zero_part.new.devices in
     let outcome = c.zero_part.result in
     let bytes : List ℕ = (replicate part.span.len 0) in
     let change : ImageChange = IsZeroed (IsDiskFound nodes.devices part) part.span in
-    let may = subst (MayWrite nodes) (sym e.node) (rw (sym c.self.view_is) at c.requires.may) in
+    let may = subst (MayWriteThrough nodes) (sym e.node) (rw (sym c.self.view_is) at c.requires.may) in
     let edge = subst (λ (n : ℕ). file_of nodes n ≡ Some part.file) (sym e.node) (rw (sym c.self.view_is) at e.file) in
-    let source = subst (λ (n : ℕ). source_of nodes n part.whole.start ≡ part.source) (sym e.node) (rw (sym c.self.view_is) at e.source) in
+    let source = subst (λ (n : ℕ). source_at nodes n part.whole.start ≡ part.source) (sym e.node) (rw (sym c.self.view_is) at e.source) in
     let piece = rw (sym c.self.view_is) at e.piece in
     let w : WritesPart fits own change nodes.rows rows nodes.devices devices part bytes outcome
     = subst (λ (rs : List (Option Row)). WritesPart fits own change rs rows nodes.devices devices part bytes outcome) c.deref_mut.ensures.value c.zero_part.ensures in
-    let refuses : (device : DeviceState) (dev : DevNo) → (fits w.image device.capacity → ⊥) → change w.image w.image device device (NoSpace dev)
+    let refuses : (device : DeviceSeen) (dev : DevNo) → (fits w.image device.capacity → ⊥) → change w.image w.image device device (NoSpace dev)
     = λ device dev full. refuses_zeroed (IsDiskFound nodes.devices part) part.span w.image device dev full in
     let whole : take c.self.inside.rows.len (rows ++ drop (length rows) nodes.rows) ≡ rows
     = sliced rows nodes.rows c.self.inside.rows.len (c.zero_part.auto.rows ∙ ap length c.deref_mut.ensures.value) (omega (arith, c.self.inside.rows.ok.0)) in
@@ -50,17 +50,17 @@ returns-clause-wrote g c =
     let fits : Known → ℕ → Type 0 = λ image. ZerosFit image part.span in
     let own : Known → Option ℕ = λ image. zeros_place (is_whole image part.span) image part.span in
     let rows : List (Option Row) = c.zero_part.new.rows in
-    let devices : List DeviceState = c.zero_part.new.devices in
+    let devices : List DeviceSeen = c.zero_part.new.devices in
     let outcome = c.zero_part.result in
     let bytes : List ℕ = (replicate part.span.len 0) in
     let change : ImageChange = IsZeroed (IsDiskFound nodes.devices part) part.span in
-    let may = subst (MayWrite nodes) (sym e.node) (rw (sym c.self.view_is) at c.requires.may) in
+    let may = subst (MayWriteThrough nodes) (sym e.node) (rw (sym c.self.view_is) at c.requires.may) in
     let edge = subst (λ (n : ℕ). file_of nodes n ≡ Some part.file) (sym e.node) (rw (sym c.self.view_is) at e.file) in
-    let source = subst (λ (n : ℕ). source_of nodes n part.whole.start ≡ part.source) (sym e.node) (rw (sym c.self.view_is) at e.source) in
+    let source = subst (λ (n : ℕ). source_at nodes n part.whole.start ≡ part.source) (sym e.node) (rw (sym c.self.view_is) at e.source) in
     let piece = rw (sym c.self.view_is) at e.piece in
     let w : WritesPart fits own change nodes.rows rows nodes.devices devices part bytes outcome
     = subst (λ (rs : List (Option Row)). WritesPart fits own change rs rows nodes.devices devices part bytes outcome) c.deref_mut.ensures.value c.zero_part.ensures in
-    let refuses : (device : DeviceState) (dev : DevNo) → (fits w.image device.capacity → ⊥) → change w.image w.image device device (NoSpace dev)
+    let refuses : (device : DeviceSeen) (dev : DevNo) → (fits w.image device.capacity → ⊥) → change w.image w.image device device (NoSpace dev)
     = λ device dev full. refuses_zeroed (IsDiskFound nodes.devices part) part.span w.image device dev full in
     let whole : take c.self.inside.rows.len (rows ++ drop (length rows) nodes.rows) ≡ rows
     = sliced rows nodes.rows c.self.inside.rows.len (c.zero_part.auto.rows ∙ ap length c.deref_mut.ensures.value) (omega (arith, c.self.inside.rows.ok.0)) in
@@ -77,17 +77,17 @@ returns-clause-disk g c =
     let fits : Known → ℕ → Type 0 = λ image. ZerosFit image part.span in
     let own : Known → Option ℕ = λ image. zeros_place (is_whole image part.span) image part.span in
     let rows : List (Option Row) = c.zero_part.new.rows in
-    let devices : List DeviceState = c.zero_part.new.devices in
+    let devices : List DeviceSeen = c.zero_part.new.devices in
     let outcome = c.zero_part.result in
     let bytes : List ℕ = (replicate part.span.len 0) in
     let change : ImageChange = IsZeroed (IsDiskFound nodes.devices part) part.span in
-    let may = subst (MayWrite nodes) (sym e.node) (rw (sym c.self.view_is) at c.requires.may) in
+    let may = subst (MayWriteThrough nodes) (sym e.node) (rw (sym c.self.view_is) at c.requires.may) in
     let edge = subst (λ (n : ℕ). file_of nodes n ≡ Some part.file) (sym e.node) (rw (sym c.self.view_is) at e.file) in
-    let source = subst (λ (n : ℕ). source_of nodes n part.whole.start ≡ part.source) (sym e.node) (rw (sym c.self.view_is) at e.source) in
+    let source = subst (λ (n : ℕ). source_at nodes n part.whole.start ≡ part.source) (sym e.node) (rw (sym c.self.view_is) at e.source) in
     let piece = rw (sym c.self.view_is) at e.piece in
     let w : WritesPart fits own change nodes.rows rows nodes.devices devices part bytes outcome
     = subst (λ (rs : List (Option Row)). WritesPart fits own change rs rows nodes.devices devices part bytes outcome) c.deref_mut.ensures.value c.zero_part.ensures in
-    let refuses : (device : DeviceState) (dev : DevNo) → (fits w.image device.capacity → ⊥) → change w.image w.image device device (NoSpace dev)
+    let refuses : (device : DeviceSeen) (dev : DevNo) → (fits w.image device.capacity → ⊥) → change w.image w.image device device (NoSpace dev)
     = λ device dev full. refuses_zeroed (IsDiskFound nodes.devices part) part.span w.image device dev full in
     let whole : take c.self.inside.rows.len (rows ++ drop (length rows) nodes.rows) ≡ rows
     = sliced rows nodes.rows c.self.inside.rows.len (c.zero_part.auto.rows ∙ ap length c.deref_mut.ensures.value) (omega (arith, c.self.inside.rows.ok.0)) in
@@ -102,17 +102,17 @@ returns-clause-others g c =
     let fits : Known → ℕ → Type 0 = λ image. ZerosFit image part.span in
     let own : Known → Option ℕ = λ image. zeros_place (is_whole image part.span) image part.span in
     let rows : List (Option Row) = c.zero_part.new.rows in
-    let devices : List DeviceState = c.zero_part.new.devices in
+    let devices : List DeviceSeen = c.zero_part.new.devices in
     let outcome = c.zero_part.result in
     let bytes : List ℕ = (replicate part.span.len 0) in
     let change : ImageChange = IsZeroed (IsDiskFound nodes.devices part) part.span in
-    let may = subst (MayWrite nodes) (sym e.node) (rw (sym c.self.view_is) at c.requires.may) in
+    let may = subst (MayWriteThrough nodes) (sym e.node) (rw (sym c.self.view_is) at c.requires.may) in
     let edge = subst (λ (n : ℕ). file_of nodes n ≡ Some part.file) (sym e.node) (rw (sym c.self.view_is) at e.file) in
-    let source = subst (λ (n : ℕ). source_of nodes n part.whole.start ≡ part.source) (sym e.node) (rw (sym c.self.view_is) at e.source) in
+    let source = subst (λ (n : ℕ). source_at nodes n part.whole.start ≡ part.source) (sym e.node) (rw (sym c.self.view_is) at e.source) in
     let piece = rw (sym c.self.view_is) at e.piece in
     let w : WritesPart fits own change nodes.rows rows nodes.devices devices part bytes outcome
     = subst (λ (rs : List (Option Row)). WritesPart fits own change rs rows nodes.devices devices part bytes outcome) c.deref_mut.ensures.value c.zero_part.ensures in
-    let refuses : (device : DeviceState) (dev : DevNo) → (fits w.image device.capacity → ⊥) → change w.image w.image device device (NoSpace dev)
+    let refuses : (device : DeviceSeen) (dev : DevNo) → (fits w.image device.capacity → ⊥) → change w.image w.image device device (NoSpace dev)
     = λ device dev full. refuses_zeroed (IsDiskFound nodes.devices part) part.span w.image device dev full in
     let whole : take c.self.inside.rows.len (rows ++ drop (length rows) nodes.rows) ≡ rows
     = sliced rows nodes.rows c.self.inside.rows.len (c.zero_part.auto.rows ∙ ap length c.deref_mut.ensures.value) (omega (arith, c.self.inside.rows.ok.0)) in
@@ -127,17 +127,17 @@ returns-clause-kept g c =
     let fits : Known → ℕ → Type 0 = λ image. ZerosFit image part.span in
     let own : Known → Option ℕ = λ image. zeros_place (is_whole image part.span) image part.span in
     let rows : List (Option Row) = c.zero_part.new.rows in
-    let devices : List DeviceState = c.zero_part.new.devices in
+    let devices : List DeviceSeen = c.zero_part.new.devices in
     let outcome = c.zero_part.result in
     let bytes : List ℕ = (replicate part.span.len 0) in
     let change : ImageChange = IsZeroed (IsDiskFound nodes.devices part) part.span in
-    let may = subst (MayWrite nodes) (sym e.node) (rw (sym c.self.view_is) at c.requires.may) in
+    let may = subst (MayWriteThrough nodes) (sym e.node) (rw (sym c.self.view_is) at c.requires.may) in
     let edge = subst (λ (n : ℕ). file_of nodes n ≡ Some part.file) (sym e.node) (rw (sym c.self.view_is) at e.file) in
-    let source = subst (λ (n : ℕ). source_of nodes n part.whole.start ≡ part.source) (sym e.node) (rw (sym c.self.view_is) at e.source) in
+    let source = subst (λ (n : ℕ). source_at nodes n part.whole.start ≡ part.source) (sym e.node) (rw (sym c.self.view_is) at e.source) in
     let piece = rw (sym c.self.view_is) at e.piece in
     let w : WritesPart fits own change nodes.rows rows nodes.devices devices part bytes outcome
     = subst (λ (rs : List (Option Row)). WritesPart fits own change rs rows nodes.devices devices part bytes outcome) c.deref_mut.ensures.value c.zero_part.ensures in
-    let refuses : (device : DeviceState) (dev : DevNo) → (fits w.image device.capacity → ⊥) → change w.image w.image device device (NoSpace dev)
+    let refuses : (device : DeviceSeen) (dev : DevNo) → (fits w.image device.capacity → ⊥) → change w.image w.image device device (NoSpace dev)
     = λ device dev full. refuses_zeroed (IsDiskFound nodes.devices part) part.span w.image device dev full in
     let whole : take c.self.inside.rows.len (rows ++ drop (length rows) nodes.rows) ≡ rows
     = sliced rows nodes.rows c.self.inside.rows.len (c.zero_part.auto.rows ∙ ap length c.deref_mut.ensures.value) (omega (arith, c.self.inside.rows.ok.0)) in

@@ -1,12 +1,12 @@
 use Rattle.std.specs.Prelude.{string_bytes}
 use Rattle.qmp_codec.specs.Commands.{seen_command}
-use Rattle.world_parts.specs.Face.{Face}
+use Rattle.world_parts.specs.Face.{WorldSeen}
 use Rattle.world_commands.proofs.HandledDevices.{attachment_texts, attachment_whole, attachment_back}
 use Rattle.blk_world.proofs.world.World.carry_attachment.Goals as goal
 
 pub returns-clause-carried : goal.returns-clause-carried
 returns-clause-carried g c =
-    let w : Face = record {
+    let w : WorldSeen = record {
       files = c.self.inside.store.files;
       earlier = c.self.inside.store.earlier;
       opened = c.self.inside.store.opened;
@@ -25,7 +25,7 @@ returns-clause-carried g c =
 
 pub returns-clause-back : goal.returns-clause-back
 returns-clause-back g c =
-    let w : Face = record {
+    let w : WorldSeen = record {
       files = c.self.inside.store.files;
       earlier = c.self.inside.store.earlier;
       opened = c.self.inside.store.opened;
@@ -45,7 +45,7 @@ returns-clause-back g c =
 
 pub invariant_of-self : goal.invariant_of-self
 invariant_of-self g c =
-    let w : Face = record {
+    let w : WorldSeen = record {
       files = c.self.inside.store.files;
       earlier = c.self.inside.store.earlier;
       opened = c.self.inside.store.opened;

@@ -1,6 +1,6 @@
 use Rattle.std.specs.Prelude.{string_bytes}
 use Rattle.qmp_codec.specs.Commands.{seen_command}
-use Rattle.world_parts.specs.Face.{Face, face_of}
+use Rattle.world_parts.specs.Face.{WorldSeen, face_of}
 use Rattle.world_commands.proofs.CarryInTable.{bitmaps_back, bitmaps_carried, bitmaps_coherent, bitmaps_listed}
 use Rattle.blk_world.proofs.world.World.carry_bitmaps.Goals as goal
 
@@ -9,7 +9,7 @@ answer_bitmaps-requires-clause-alike g c = c.self.invariant.bitmaps
 
 pub invariant_of-self : goal.invariant_of-self
 invariant_of-self g c =
-    let w : Face = face_of c.self.inside.store c.self.inside.first_faults c.self.inside.nodes c.self.inside.names.table c.self.inside.progress c.self.inside.drained c.self.inside.bitmaps in
+    let w : WorldSeen = face_of c.self.inside.store c.self.inside.first_faults c.self.inside.nodes c.self.inside.names.table c.self.inside.progress c.self.inside.drained c.self.inside.bitmaps in
     record {
       coherent = bitmaps_coherent w c.answer_bitmaps.new.names.table c.answer_bitmaps.new.bitmaps
           (seen_command c.args.command.now) c.requires c.answer_bitmaps.result

@@ -1,7 +1,7 @@
 use Rattle.std.specs.Prelude.{string_bytes}
 use Rattle.qmp_codec.specs.Commands.{seen_command}
 use Rattle.world_parts.specs.Deleting.{ground_in}
-use Rattle.world_parts.specs.Face.{Face}
+use Rattle.world_parts.specs.Face.{WorldSeen}
 use Rattle.world_commands.proofs.Belonging.{belong_of}
 use Rattle.world_commands.proofs.Handled.{deletion_back, deletion_texts, deletion_whole}
 use Rattle.blk_world.proofs.world.World.carry_deletion.Goals as goal
@@ -12,7 +12,7 @@ delete-requires-clause-belong g c =
 
 pub returns-clause-carried : goal.returns-clause-carried
 returns-clause-carried g c =
-    let w : Face = record {
+    let w : WorldSeen = record {
       files = c.self.inside.store.files;
       earlier = c.self.inside.store.earlier;
       opened = c.self.inside.store.opened;
@@ -32,7 +32,7 @@ returns-clause-carried g c =
 
 pub returns-clause-back : goal.returns-clause-back
 returns-clause-back g c =
-    let w : Face = record {
+    let w : WorldSeen = record {
       files = c.self.inside.store.files;
       earlier = c.self.inside.store.earlier;
       opened = c.self.inside.store.opened;
@@ -51,7 +51,7 @@ returns-clause-back g c =
 
 pub invariant_of-self : goal.invariant_of-self
 invariant_of-self g c =
-    let w : Face = record {
+    let w : WorldSeen = record {
       files = c.self.inside.store.files;
       earlier = c.self.inside.store.earlier;
       opened = c.self.inside.store.opened;

@@ -1,6 +1,6 @@
 use Rattle.qmp_codec.specs.Commands.{seen_command}
 use Rattle.world_commands.specs.Detaching.{scene}
-use Rattle.world_parts.specs.Face.{Face}
+use Rattle.world_parts.specs.Face.{WorldSeen}
 use Rattle.blk_world.proofs.CoverHandled.{snapshot_carried, snapshot_whole, snapshot_back}
 use Rattle.blk_world.proofs.CoverTold.{may_be_told}
 use Rattle.blk_world.proofs.DetachedCarried.{few_drives}
@@ -8,7 +8,7 @@ use Rattle.blk_world.proofs.world.World.carry_snapshot.Goals as goal
 
 pub returns-clause-carried : goal.returns-clause-carried
 returns-clause-carried g c =
-    let w : Face = record {
+    let w : WorldSeen = record {
       files = c.self.inside.store.files;
       earlier = c.self.inside.store.earlier;
       opened = c.self.inside.store.opened;
@@ -29,7 +29,7 @@ returns-clause-carried g c =
 
 pub returns-clause-back : goal.returns-clause-back
 returns-clause-back g c =
-    let w : Face = record {
+    let w : WorldSeen = record {
       files = c.self.inside.store.files;
       earlier = c.self.inside.store.earlier;
       opened = c.self.inside.store.opened;
@@ -51,7 +51,7 @@ returns-clause-back g c =
 
 pub invariant_of-self : goal.invariant_of-self
 invariant_of-self g c =
-    let w : Face = record {
+    let w : WorldSeen = record {
       files = c.self.inside.store.files;
       earlier = c.self.inside.store.earlier;
       opened = c.self.inside.store.opened;

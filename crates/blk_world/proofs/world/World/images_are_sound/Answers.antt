@@ -1,12 +1,12 @@
 use Rattle.std.proofs.Common.{subst}
 use Rattle.blk_nodes.specs.Joined.{IsJoined}
 use Rattle.world_parts.specs.Coherent.{IsWholeWorld}
-use Rattle.world_parts.specs.Face.{Face}
+use Rattle.world_parts.specs.Face.{WorldSeen}
 use Rattle.blk_world.proofs.SoundImages.{images-sound}
 use Rattle.blk_world.proofs.world.World.images_are_sound.Goals as goal
 
 pub returns : goal.returns
 returns g c = λ told.
-    let joined : IsJoined c.args.self.now.nodes = subst (λ (w : Face). IsJoined w.nodes) c.self.view_is c.edges.ensures.joined in
+    let joined : IsJoined c.args.self.now.nodes = subst (λ (w : WorldSeen). IsJoined w.nodes) c.self.view_is c.edges.ensures.joined in
     let whole : IsWholeWorld c.args.self.now = subst IsWholeWorld c.self.view_is c.self.invariant in
     images-sound c.args.self.now joined whole.coherent (whole.tell told)

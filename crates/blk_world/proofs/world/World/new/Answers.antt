@@ -1,6 +1,6 @@
 use Rattle.std.proofs.Common.{◌≡◌}
 use Rattle.flat_machine.specs.declared.opening.Opening.{Opening}
-use Rattle.world_parts.specs.Face.{Face}
+use Rattle.world_parts.specs.Face.{WorldSeen}
 use Rattle.world_commands.specs.Comes.{Comes}
 use Rattle.world_parts.specs.Steps.{StoreSeen, new_world, IsOpeningOf}
 use Rattle.world_commands.proofs.Beginning.{comes-start, ok-map}
@@ -14,6 +14,6 @@ returns-clause-comes g c =
       room = g.S.Store.room c.args.store;
       faults = g.S.Store.faults c.args.store;
     } in
-    ok-map c.put_world.result (λ (world : Face). world ≡ new_world store c.args.guests c.args.room)
-    (λ (world : Face). (o : Opening) → IsOpeningOf store c.args.guests o → Comes o world)
+    ok-map c.put_world.result (λ (world : WorldSeen). world ≡ new_world store c.args.guests c.args.room)
+    (λ (world : WorldSeen). (o : Opening) → IsOpeningOf store c.args.guests o → Comes o world)
     (λ world is o opening. rw is (comes-start store c.args.guests c.args.room o opening)) c.put_world.ensures.ok

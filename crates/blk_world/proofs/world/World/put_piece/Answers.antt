@@ -1,7 +1,7 @@
 use Rattle.std.proofs.Common.{◌≡◌, Some, None, sym, ◌∙◌, ap}
 use Rattle.blk_history.specs.Machine.{Flight}
 use Rattle.flat_machine.specs.State.{drive_of}
-use Rattle.world_parts.specs.Face.{Face}
+use Rattle.world_parts.specs.Face.{WorldSeen}
 use Rattle.world_commands.specs.Piecing.{IsPieceMade}
 use Rattle.world_commands.specs.Recorded.{noted_after}
 use Rattle.world_parts.specs.Progress.{flight_at}
@@ -25,7 +25,7 @@ make_next-outcome-requires-clause-can g c =
 
 pub returns-clause-made : goal.returns-clause-made
 returns-clause-made g c =
-    let w : Face = record {
+    let w : WorldSeen = record {
       files = c.self.inside.store.files;
       earlier = c.self.inside.store.earlier;
       opened = c.self.inside.store.opened;
@@ -48,7 +48,7 @@ returns-clause-made g c =
 
 pub invariant_of-self : goal.invariant_of-self
 invariant_of-self g c =
-    let w : Face = record {
+    let w : WorldSeen = record {
       files = c.self.inside.store.files;
       earlier = c.self.inside.store.earlier;
       opened = c.self.inside.store.opened;
@@ -61,7 +61,7 @@ invariant_of-self g c =
       drains = c.self.inside.drained;
       bitmaps = c.self.inside.bitmaps;
     } in
-    let v : Face = record w {
+    let v : WorldSeen = record w {
       nodes = c.make_next-outcome.new.nodes;
       table = c.note_write.new.names.table;
       progress = c.make_next-outcome.new.progress;

@@ -1,7 +1,7 @@
 use Rattle.std.proofs.Common.{◌≡◌, sym, subst, None}
 use Rattle.qmp_codec.specs.declared.command.Command.TheVariants.{BlockdevAdd as AddCommand}
-use Rattle.qmp_rules.specs.Answers.{refusal_of}
-use Rattle.qmp_rules.specs.Table.{Table}
+use Rattle.qmp_rules.specs.Answers.{refusal_to}
+use Rattle.qmp_rules.specs.Table.{RunTable}
 use Rattle.world_parts.specs.Joining.{CanAdd}
 use Rattle.qmp_codec.specs.Nodes.{seen_blockdev_add}
 use Rattle.world_parts.specs.Looking.{site}
@@ -33,6 +33,6 @@ end-requires-clause-ready g c =
     let alike = looked-alike t (seen_blockdev_add c.args.c.now) x.seen.told old now x.out x.seen.image c.in_ok-out.ensures.looked c.requires.can.alike in
     let said = seen_blockdev_add c.args.c.now in
     λ none.
-    subst (λ (now_t : Table). CanAdd now_t said x.out x.seen.image c.look.new.nodes) (sym c.stage.ensures.table)
-    (ready t x.seen.told said (subst (λ (now_t : Table). refusal_of now_t x.seen.told (AddCommand said) ≡ None) c.stage.ensures.table none) old now alike
+    subst (λ (now_t : RunTable). CanAdd now_t said x.out x.seen.image c.look.new.nodes) (sym c.stage.ensures.table)
+    (ready t x.seen.told said (subst (λ (now_t : RunTable). refusal_to now_t x.seen.told (AddCommand said) ≡ None) c.stage.ensures.table none) old now alike
     c.edges.ensures.joined c.requires.can.rests x.out x.seen.image c.in_ok-out.ensures.looked)
