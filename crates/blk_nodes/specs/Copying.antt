@@ -36,7 +36,8 @@ is_unallocated entries.Reserved = false
 abbrev pub shows_below_at : ℕ → Driver → Bool
 shows_below_at place drivers.File = false
 shows_below_at place (drivers.Raw part) = false
-shows_below_at place (drivers.Qcow2 image) = is_unallocated (entry_in image (place / cluster_size_in image))
+shows_below_at place (drivers.Qcow2 image) =
+    is_unallocated (entry_in image (place / cluster_size_in image))
 shows_below_at place drivers.CopyOnRead = false
 
 abbrev pub is_copy_on_read : Driver → Bool

@@ -46,7 +46,8 @@ fn write(start: u32, len: u32) -> Asked {
 }
 
 fn piece(k: u32, outcome: Outcome) -> Entry
-    ensures named { (names : RowNames) → 1 < length names.guests → IsActorNamed names (event_of [] result) }
+    ensures named { (names : RowNames) → 1 < length names.guests
+        → IsActorNamed names (event_of [] result) }
     ensures within { PointsWithin 0 result }
 {
     Entry::Piece {

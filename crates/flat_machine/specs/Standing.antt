@@ -97,7 +97,8 @@ pub record IsUsedUp (s : State) (left : Left) : Type 0 where
 -- a device has a drive; where it may write its disk, or its reads do, that may be written
 abbrev pub MayGuestWrite : State → Device → ℕ → Type 0
 MayGuestWrite s device drive =
-    writes_through s.table device.read_only drive ≡ true → IsGuestWritable s (disk_node s.table drive)
+    writes_through s.table device.read_only drive ≡ true
+    → IsGuestWritable s (disk_node s.table drive)
 
 abbrev pub WritersStand : State → Type 0
 WritersStand s =

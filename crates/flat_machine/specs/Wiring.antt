@@ -138,7 +138,8 @@ IsNumberBy count number None = count ≤ number
 IsNumberBy count number (Some guest) = number ≡ guest
 
 abbrev pub HasDeviceNumber : List (List ℕ) → Device → Type 0
-HasDeviceNumber guests device = IsNumberBy (length guests) device.number (place_from 0 device.id guests)
+HasDeviceNumber guests device =
+    IsNumberBy (length guests) device.number (place_from 0 device.id guests)
 
 abbrev pub AreNumbered : RunTable → Type 0
 AreNumbered t = (device : Device) → Contains t.devices device → HasDeviceNumber t.guests device

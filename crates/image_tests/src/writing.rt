@@ -94,7 +94,8 @@ impl Opened {
     }
 
     fn mapping(&self, cluster: u64) -> Option<Mapping>
-        ensures { IfSome result (λ mapping. (cluster < clusters_in self.now.image) × (entry_of mapping ≡ entry_in self.now.image cluster)) }
+        ensures { IfSome result (λ mapping. (cluster < clusters_in self.now.image)
+            × (entry_of mapping ≡ entry_in self.now.image cluster)) }
     {
         if self.has(cluster) {
             Some(self.image.mapping(cluster))

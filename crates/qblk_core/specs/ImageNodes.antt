@@ -51,8 +51,8 @@ with_raw nodes = with_below
 -- that is known which its file says.
 abbrev pub IsImageNodeOver : Format → Nodes → Nodes → Type 0
 IsImageNodeOver Raw old new = (node_size old 0 ≤ 274877906944) × (new ≡ with_raw old)
-IsImageNodeOver Qcow2 old new = (image : Known) × IsOpened old.devices 0 image × (image.header.name ≡ None)
-    × (new ≡ with_qcow2 old asked_image 1 image)
+IsImageNodeOver Qcow2 old new = (image : Known) × IsOpened old.devices 0 image
+    × (image.header.name ≡ None) × (new ≡ with_qcow2 old asked_image 1 image)
 
 pub record AreMadeOf (format : Format) (device : DeviceSeen) (nodes : Nodes) : Type 0 where
   pub node : device.node ≡ 0

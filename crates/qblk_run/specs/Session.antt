@@ -42,7 +42,8 @@ pub record IsPlayed (w : WorldSeen) (before : Tasks) (store : StoreSeen) (log : 
   pub comes : ComesOn w now before.script.orders after.script.orders
   pub log_is : log ≡ now.progress.log
   pub end : IsEnd now store fault
-  pub named : MatchOption waiting (AreDone after) (λ r. IsFirstUndone now after r.0 (seen_waits r.1))
+  pub named : MatchOption waiting (AreDone after)
+      (λ r. IsFirstUndone now after r.0 (seen_waits r.1))
 
 -- Memory wasn't had for a line: the world was closed as that left it.
 pub record IsGivenUp (w : WorldSeen) (before : Tasks) (store : StoreSeen) : Type 0 where

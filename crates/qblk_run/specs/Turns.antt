@@ -56,7 +56,8 @@ abbrev pub IsOwnMove : List ℕ → ℕ → Task → Task → Event → Type 0
 IsOwnMove answered g before after (Admit n r op) = (n ≡ g) × Asks answered (Ask op) before after
 IsOwnMove answered g before after (Refuse n r op why) =
     (n ≡ g) × Asks answered (Ask op) before after
-IsOwnMove answered g before after (Piece n r k outcome got) = (n ≡ g) × StaysInFlight answered before after
+IsOwnMove answered g before after (Piece n r k outcome got) =
+    (n ≡ g) × StaysInFlight answered before after
 IsOwnMove answered g before after (Retire n r) = (n ≡ g) × StaysInFlight answered before after
 IsOwnMove answered g before after (Done actor) = (actor ≡ g + 1) × Ends answered before after
 IsOwnMove answered g before after e = ⊥

@@ -158,7 +158,8 @@ fn cover_or_wait<D: Device>(
 ) -> Result<Carried, NoMemory>
     requires snapshot { is_snapshot (seen_command command.now) ≡ true }
     requires few { (g : ℕ) → IsSome (drive_of names.old.table g) → g < 80 }
-    requires tells { TellsMappedAlone names.old.table nodes.old (seen_command command.now) told.now }
+    requires tells { TellsMappedAlone names.old.table nodes.old (seen_command command.now)
+        told.now }
     requires accepted { refusal_to names.old.table told.now (seen_command command.now) ≡ None }
     requires edits { edits ≡ command_edits names.old.table told.now (seen_command command.now) }
     requires room { HasRoomForChanges (length edits) names.old }
@@ -202,7 +203,8 @@ fn cover_told<D: Device>(
     requires joined { IsJoined nodes.old }
     requires stands { TableStands names.old.table }
     requires few { (g : ℕ) → IsSome (drive_of names.old.table g) → g < 80 }
-    requires tells { TellsMappedAlone names.old.table nodes.old (seen_command command.now) told.now }
+    requires tells { TellsMappedAlone names.old.table nodes.old (seen_command command.now)
+        told.now }
     ensures ok { IfOk result
         (λ carried. (s : State) → s.table ≡ names.old.table → s.guests ≡ progress.now.guests
         → IsSnapshot s given.now (seen_command command.now)

@@ -186,7 +186,8 @@ pub fn make<S: Store>(
 ) -> Result<String, NoMemory>
     requires belong { Belong names.old.table (ground_in store.old nodes.old) }
     requires creation { is_creation (seen_command command.now) ≡ true }
-    ensures made { IfOk result (λ text. IsAnswerMade given.now names.old.table (seen_command command.now)
+    ensures made { IfOk result
+        (λ text. IsAnswerMade given.now names.old.table (seen_command command.now)
         (ground_in store.old nodes.old) (ground_in store.new nodes.new) names.new.table
         (string_bytes text)) }
     ensures back { OnErr result (IsUntouched names.old.table names.new.table

@@ -106,7 +106,8 @@ HasCreated t (created.Qcow2 c) old now =
 HasCreated t created.Unknown old now = ⊥
 
 -- a call of it failed, for this
-pub record HasFormatFailed (node : ℕ) (old now : Ground) (image : Creation) (cause : Refusal) : Type 0
+pub record HasFormatFailed (node : ℕ) (old now : Ground) (image : Creation)
+    (cause : Refusal) : Type 0
   where
     pub why : FormatStop
     pub formatted : HasFormatted node old now image (Err why)

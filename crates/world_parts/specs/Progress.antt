@@ -103,7 +103,8 @@ IsPlacedIn events done (Some f) = IsPlaced events done f
 
 abbrev pub HaveTheirPlaces : List Event → List GuestProgress → Type 0
 HaveTheirPlaces events [] = Unit {0}
-HaveTheirPlaces events (row ∷ rows) = IsPlacedIn events row.done row.flight × HaveTheirPlaces events rows
+HaveTheirPlaces events (row ∷ rows) =
+    IsPlacedIn events row.done row.flight × HaveTheirPlaces events rows
 
 -- rows say whether their guests are done; the first of them has this number as an actor
 abbrev pub AreMarked : List ℕ → ℕ → List GuestProgress → Type 0

@@ -140,8 +140,8 @@ fn look_at<D: Device>(
     filename: &str,
     out: &mut Out<D>,
 ) -> Result<Seen, NoMemory>
-    ensures ok { IfOk result (λ seen. TellsAddition names.now.table (seen_blockdev_add c.now).node_name
-        filename.now
+    ensures ok { IfOk result
+        (λ seen. TellsAddition names.now.table (seen_blockdev_add c.now).node_name filename.now
         (seen_blockdev_add c.now).driver out.old out.new seen.image seen.told) }
     ensures err { OnErr result (out.new ≡ out.old) }
 {

@@ -140,8 +140,8 @@ fn end<S: Store>(
         → CanAdd names.old.table (seen_blockdev_add c.now) out image nodes.old }
     requires staged { IsStaged names.old given.now told.now (AddCommand (seen_blockdev_add c.now))
         staged }
-    ensures ok { IfOk result (λ text. HasAdditionEnded names.old.table given.now (seen_blockdev_add c.now)
-        told.now out image
+    ensures ok { IfOk result
+        (λ text. HasAdditionEnded names.old.table given.now (seen_blockdev_add c.now) told.now out image
         (site store.old nodes.old) (site store.new nodes.new) names.new.table (string_bytes text)) }
     ensures back { OnErr result (site store.new nodes.new
         ≡ site (back_if (seen_blockdev_add c.now).driver out store.old) nodes.old) }
