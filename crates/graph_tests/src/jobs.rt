@@ -1,10 +1,10 @@
 //! Edges of jobs, and nodes that may be written while a job runs.
-ghost use Rattle.std.specs.Prelude.{◌↔◌, All, IsTrue};
-ghost use Rattle.graph_tests.specs.Used.{IsAmong};
+ghost use Rattle.std.specs.Prelude.{◌<◌, IfSome};
+ghost use Rattle.blk_graph.specs.Graph.{HasNode};
 
 use blk_base::{DevNo, Span, Text};
 use blk_fakes::MemDevice;
-use blk_graph::{JobUse, MOST_JOBS, NodeId};
+use blk_graph::{JobUse, MOST_JOBS};
 use blk_nodes::{NodeUse, Nodes};
 use std::alloc::Global;
 use std::test::Fail;
@@ -118,25 +118,26 @@ fn five_nodes(alloc: Global) -> Result<Nodes<MemDevice>, Fail> {
     Ok(nodes)
 }
 
-fn is_among(nodes: &[NodeId], used: &NodeUse) -> bool
-    ensures { IsTrue result ↔ IsAmong nodes.now used.now }
+/// Whether a job is given two uses.
+fn is_given(nodes: &mut Nodes<MemDevice>, job: u32, first: NodeUse, second: NodeUse) -> bool
+    requires job { job < 16 }
+    requires first { HasNode nodes.old.graph first.node }
+    requires second { HasNode nodes.old.graph second.node }
 {
-    nodes.contains(&used.node)
+    let uses = [first, second];
+    nodes.use_nodes(job, &uses).is_ok()
 }
 
-/// Whether all that is used is there.
-fn are_among(nodes: &[NodeId], uses: &[NodeUse]) -> bool
-    ensures { IsTrue result → All (IsAmong nodes.now) uses.now }
+/// A node by its place, and what it is used for.
+fn use_of(nodes: &Nodes<MemDevice>, used: (JobUse, usize)) -> Option<NodeUse>
+    ensures { IfSome result (λ used. HasNode nodes.now.graph used.node) }
 {
-    uses.iter().all(|used| is_among(nodes, used))
-}
-
-/// Whether a job is given these uses.
-fn is_given(nodes: &mut Nodes<MemDevice>, job: u32, uses: &[NodeUse]) -> bool {
-    if job as usize >= MOST_JOBS || !are_among(nodes.nodes(), uses) {
-        return false;
+    let (what, place) = used;
+    let node = nodes.nodes().get(place).copied()?;
+    if !nodes.nodes().contains(&node) {
+        return None;
     }
-    nodes.use_nodes(job, uses).is_ok()
+    Some(NodeUse { what, node })
 }
 
 fn uses_both(
@@ -145,24 +146,13 @@ fn uses_both(
     first: (JobUse, usize),
     second: (JobUse, usize),
 ) -> bool {
-    let places = (
-        nodes.nodes().get(first.1).copied(),
-        nodes.nodes().get(second.1).copied(),
-    );
-    let (Some(one), Some(other)) = places else {
+    let (Some(first), Some(second)) = (use_of(nodes, first), use_of(nodes, second)) else {
         return false;
     };
-    let uses = [
-        NodeUse {
-            what: first.0,
-            node: one,
-        },
-        NodeUse {
-            what: second.0,
-            node: other,
-        },
-    ];
-    is_given(nodes, job, &uses)
+    if job as usize >= MOST_JOBS {
+        return false;
+    }
+    is_given(nodes, job, first, second)
 }
 
 fn set_writes(nodes: &mut Nodes<MemDevice>, place: usize, writes: bool) -> bool {
