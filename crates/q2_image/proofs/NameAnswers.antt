@@ -240,7 +240,8 @@ module _ {D : Type 0} (g : Ghosts D) where
   same_fields : (image : Known) (format name : Option (List ℕ)) (ws : List Write) (stop : Option DevStop) (b c : D)
       → EndsWithFields g (with_format (autocleared image) format).header ws name stop b c → EndsWithFields g image.header ws name stop b c
   same_fields image format name ws stop b c (inl last) = inl (record { between = last.between; whole = last.whole; told = last.told; writes = last.writes })
-  same_fields image format name ws stop b c (inr fails) = inr fails
+  same_fields image format name ws stop b c (inr fails) =
+      inr (record { needed = fails.needed; count = fails.count; is = fails.is; wrote = fails.wrote; cause = fails.cause })
 
   -- What the call leaves of image and device, by where it stops.
   module _ (image : Known) (name format : Option (List ℕ)) (n : ℕ) (a b c : D) (ready : IsOpen image) (new_name : ForSome name IsNewName)
@@ -315,6 +316,7 @@ module _ {D : Type 0} (g : Ghosts D) where
           let W : List Write → Type 0 = λ xs. Wrote g xs a c in
           inr (
             record {
+              needed = fails.needed;
               count = fails.count;
               is = fails.is;
               wrote = subst W (append-nil ws) (wrote-then g ws [] a b c wrote_early fails.wrote);
@@ -367,7 +369,7 @@ module _ {D : Type 0} (g : Ghosts D) where
       by_last : EndsWithFields g image.header (early_writes image renames.1.n name format) name None a b → g.faults b ≡ g.faults a
       by_last (inl last) = last.writes.cause.1
       by_last (inr fails) = absurd (let is = fails.is in cc)
-  renames_cause image left name format (Err (Io count)) a b (inl (same, reads)) = reads.cause
+  renames_cause image left name format (Err (Io count)) a b (inl reads) = let left = reads.2 in left.cause
   renames_cause image left name format (Err (Io count)) a b (inr stops) = by_last stops.makes
     where
       by_last : StopsWithFields g image name format (early_writes image stops.n name format) count left a b → CountsFault (Some count) (g.faults a) (g.faults b)

@@ -84,6 +84,7 @@ module _ {D : Type 0} (g : Ghosts D) where
       let quiet = first.cause.1 in
       let W : List Write → Type 0 = λ ws. Wrote g ws a c in
       inr (record {
+        needed = fails.needed;
         count = fails.count;
         is = fails.is;
         wrote = subst W (append-nil early) (wrote-then g early [] a b c wrote fails.wrote);
@@ -390,13 +391,13 @@ module _ {D : Type 0} (g : Ghosts D) (image : Known) (name : Option (List ℕ)) 
           bytes_from_places file between 20 (λ k below. ap (λ (b : List ℕ). get_or b k 0) read ∙ get_or-bytes_at file 20 n k (omega (arith, below, whole)))
           ∙ ap (λ (m : ℕ). bytes_at file 20 m) (whole ∙ is)
 
-  pub read_failed : {A : Type 0} (early : List Write) (r : Result A DevStop) (stop : DevStop) (a b : D) → r ≡ Err stop → Reads g (count_of r) a b → IfErr r TellsFault
+  pub read_failed : {A : Type 0} (early : List Write) (needed : needs_ending lh ≡ true) (r : Result A DevStop) (stop : DevStop) (a b : D) → r ≡ Err stop → Reads g (count_of r) a b → IfErr r TellsFault
       → EndsWithFields g lh [] name (Some stop) a b
-  read_failed early r (Io count) a b is reads cause =
+  read_failed early needed r (Io count) a b is reads cause =
       let R : Option ℕ → Type 0 = λ o. Reads g o a b in
       let here : Reads g (Some count) a b = subst R (ap count_of is) reads in
-      inr (record { count = count; is = refl; wrote = only_reads-wrote g a b here.reads; cause = here.cause })
-  read_failed {A} early r NoSpace a b is reads cause =
+      inr (record { needed = needed; count = count; is = refl; wrote = only_reads-wrote g a b here.reads; cause = here.cause })
+  read_failed {A} early needed r NoSpace a b is reads cause =
       let P : Result A DevStop → Type 0 = λ x. IfErr x TellsFault in
       absurd (subst P is cause)
 

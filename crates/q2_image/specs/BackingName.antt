@@ -1,5 +1,5 @@
 -- Another backing name for an image: which writes it takes, and what they leave.
-use Rattle.std.specs.Prelude.{◌≡◌, ◌⊎◌, ℕ, ◌+◌, ◌-◌, ◌<◌, ◌≤◌, max, ◌&&◌, nat_lt, if◌then◌else◌, List, [], ◌∷◌, ◌++◌, length, slice_index, take, drop, replicate, Option, Some, None, Result, Ok, Err}
+use Rattle.std.specs.Prelude.{◌≡◌, ◌⊎◌, ℕ, ◌+◌, ◌-◌, ◌<◌, ◌≤◌, max, Bool, true, is_some, ◌&&◌, nat_lt, if◌then◌else◌, List, [], ◌∷◌, ◌++◌, length, slice_index, take, drop, replicate, Option, Some, None, Result, Ok, Err}
 use Rattle.std.specs.Option.{option_map_or}
 use Rattle.blk_base.specs.Content.{Write, after_writes}
 use Rattle.blk_base.specs.Content as content
@@ -159,9 +159,10 @@ pub record MakesLast {D : Type 0} (g : Ghosts D) (h : Header) (early : List Writ
       → between ≡ between_in (after_writes file early) h
   pub writes : Writes g (early ++ last_writes h between name) stop before now
 
--- or that read failed
-pub record FailsBefore {D : Type 0} (g : Ghosts D) (early : List Write) (stop : Option DevStop)
-    (before now : D) : Type 0 where
+-- or that read failed, of a list that needs an ending extension
+pub record FailsBefore {D : Type 0} (g : Ghosts D) (h : Header) (early : List Write)
+    (stop : Option DevStop) (before now : D) : Type 0 where
+  pub needed : needs_ending h ≡ true
   pub count : ℕ
   pub is : stop ≡ Some (Io count)
   pub wrote : Wrote g early before now
@@ -170,7 +171,7 @@ pub record FailsBefore {D : Type 0} (g : Ghosts D) (early : List Write) (stop : 
 abbrev pub EndsWithFields : {D : Type 0} → Ghosts D → Header → List Write → Option (List ℕ)
     → Option DevStop → D → D → Type 0
 EndsWithFields g h early name stop before now =
-    MakesLast g h early name stop before now ⊎ FailsBefore g early stop before now
+    MakesLast g h early name stop before now ⊎ FailsBefore g h early stop before now
 
 -- where a failed call stops them, and what is known then: by those that were made, or behind all
 -- but the last
@@ -179,7 +180,7 @@ abbrev pub StopsWithFields : {D : Type 0} → Ghosts D → Known → Option (Lis
 StopsWithFields g image name format early count left before now =
     ((last : MakesLast g image.header early name (Some (Io count)) before now)
     × (left ≡ known_at image name format last.writes.made))
-    ⊎ (FailsBefore g early (Some (Io count)) before now
+    ⊎ (FailsBefore g image.header early (Some (Io count)) before now
     × (left ≡ with_format (autocleared image) format))
 
 -- All the writes. The length of the ending extension was read before them, where it has a say.
@@ -201,6 +202,10 @@ pub record StopsRenaming {D : Type 0} (g : Ghosts D) (image : Known) (name forma
   pub makes : StopsWithFields g image name format (early_writes image n name format) count left
       before now
 
+-- The length of the ending extension is read where a new name may come before the end of its data.
+abbrev pub reads_length : Header → Option (List ℕ) → Bool
+reads_length h name = h.ended && is_some name
+
 -- what a call leaves of an image and of its device that gives it another backing name
 abbrev pub RenamesImage : {A D : Type 0} → Ghosts D → Known → Option (List ℕ) → Option (List ℕ)
     → Result A DevStop → Known → D → D → Type 0
@@ -208,7 +213,7 @@ RenamesImage g image name format (Ok done) left before now =
     (left ≡ with_name (autocleared image) name format)
     × MakesRenaming g image name format None before now
 RenamesImage g image name format (Err (Io count)) left before now =
-    ((left ≡ image) × Reads g (Some count) before now)
+    ((reads_length image.header name ≡ true) × (left ≡ image) × Reads g (Some count) before now)
     ⊎ StopsRenaming g image name format count left before now
 RenamesImage g image name format (Err NoSpace) left before now =
     (left ≡ image) × Untouched g before now

@@ -10,7 +10,7 @@ ghost use Rattle.blk_base.specs.declared.fault.DevStop.TheVariants.{NoSpace};
 ghost use Rattle.q2_format.specs.Bytes.{bytes_at};
 ghost use Rattle.q2_format.specs.Created.{IsNewName, IsNewFormat};
 ghost use Rattle.q2_format.specs.Renamed.{format_room, name_fields, needs_ending, next_extension, new_name_offset};
-ghost use Rattle.q2_image.specs.BackingName.{EndsWithFields, IsPutBetween, MakesEarly, MakesFormat, HasSameName, IsOldOrRenamed, RenamesImage, ending_length, ending_writes, fields_end, format_writes, last_bytes, name_in, rename_end, rename_writes, stop_by, text_writes, with_format, with_format_at, with_name};
+ghost use Rattle.q2_image.specs.BackingName.{EndsWithFields, IsPutBetween, MakesEarly, MakesFormat, HasSameName, IsOldOrRenamed, RenamesImage, ending_length, ending_writes, fields_end, format_writes, last_bytes, name_in, reads_length, rename_end, rename_writes, stop_by, text_writes, with_format, with_format_at, with_name};
 ghost use Rattle.q2_image.specs.Image.{IsImageOf, IsOpen};
 ghost use Rattle.q2_image.specs.Writing.{TellsFault, IsSameDisk, autoclear_end, autocleared, count_of};
 
@@ -157,6 +157,8 @@ impl Image {
             ≡ ending_writes self.now.header (option_copied name.entry)
             (ending_length file self.now.header)) }
         ensures small { IfOk result (λ n. n < 4294967296) }
+        ensures needed { OnErr result
+            (reads_length self.now.header (option_copied name.entry) ≡ true) }
         ensures reads { Reads D.Device (count_of result) dev.old dev.new }
         ensures cause { IfErr result TellsFault }
     {

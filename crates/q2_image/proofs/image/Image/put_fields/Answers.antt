@@ -18,8 +18,9 @@ pub returns-in_err-read_between : goal.returns-in_err-read_between
 returns-in_err-read_between g c = λ name is.
     let p = err_from_is_err_and c.from_residual.result c.from_residual.ensures.1 in
     let stop : DevStop = c.in_err-read_between.field-0.0 in
+    let some : needs_ending c.args.self.now.header ≡ true = ap (λ (k : Known). needs_ending k.header) (sym c.self.view_is) ∙ sym c.needs_ending.ensures ∙ c.if-not-needs_ending.false in
     let Q : DevStop → Type 0 = λ x. EndsWithFields g.D.Device c.args.self.now.header [] name (Some x) c.args.dev.now c.read_between.new.dev in
-    rw p.1 (subst Q (sym p.2) (read_failed g.D.Device c.args.self.now name c.args.fields.now is [] c.read_between.result stop c.args.dev.now c.read_between.new.dev
+    rw p.1 (subst Q (sym p.2) (read_failed g.D.Device c.args.self.now name c.args.fields.now is [] some c.read_between.result stop c.args.dev.now c.read_between.new.dev
     c.in_err-read_between.was c.read_between.ensures.reads c.read_between.ensures.cause))
 
 pub returns : goal.returns
