@@ -93,8 +93,8 @@ impl Image {
             → D.content dev.new ≡ Some new → IsSameDisk old new }
 
         // why each answer comes
-        ensures no_space { (result ≡ Err NoSpace)
-            ↔ (D.capacity dev.old < rename_end self.old (option_copied name.entry) (option_copied format.entry)) }
+        ensures no_space { (result ≡ Err NoSpace) ↔ (D.capacity dev.old
+            < rename_end self.old (option_copied name.entry) (option_copied format.entry)) }
         ensures cause { CountsFault (count_of result) (D.faults dev.old) (D.faults dev.new) }
 
         // the device

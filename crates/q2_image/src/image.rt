@@ -27,7 +27,8 @@ impl Model for Image {
 
     ghost view = { λ a. record { header = a.header; tables = a.tables; refs = a.refs } };
 
-    ghost invariant = { λ a. IsOpen (record { header = a.header; tables = a.tables; refs = a.refs }) };
+    ghost invariant = { λ a.
+        IsOpen (record { header = a.header; tables = a.tables; refs = a.refs }) };
 }
 
 impl Image {

@@ -356,7 +356,8 @@ impl Progress {
     /// Whether the script and all guests are done.
     pub fn all_done(&self) -> bool
         ensures { IsTrue result
-            ↔ ((actor : ℕ) → actor ≤ length self.now.guests → Contains (ended_in self.now.log.events) actor) }
+            ↔ ((actor : ℕ) → actor ≤ length self.now.guests
+            → Contains (ended_in self.now.log.events) actor) }
     {
         self.script_is_done && all_marked(self.rows.as_slice())
     }

@@ -141,8 +141,8 @@ fn end<S: Store>(
     requires staged { IsStaged names.old given.now told.now (AddCommand (seen_blockdev_add c.now))
         staged }
     ensures ok { IfOk result
-        (λ text. HasAdditionEnded names.old.table given.now (seen_blockdev_add c.now) told.now out image
-        (site store.old nodes.old) (site store.new nodes.new) names.new.table (string_bytes text)) }
+        (λ text. HasAdditionEnded names.old.table given.now (seen_blockdev_add c.now) told.now out
+        image (site store.old nodes.old) (site store.new nodes.new) names.new.table (string_bytes text)) }
     ensures back { OnErr result (site store.new nodes.new
         ≡ site (back_if (seen_blockdev_add c.now).driver out store.old) nodes.old) }
     ensures same { OnErr result (names.new.table ≡ names.old.table) }
