@@ -107,7 +107,8 @@ named-stop d e (stops.Compressed cluster) named short cause = (refused-as d (sto
 named-stop d e (stops.Overlap cluster) named short cause = (refused-as d (stops.Overlap cluster) named refl (length-for d.size (stops.Overlap cluster) short), cause)
 named-stop d e (stops.Refcount cluster) named short cause = (refused-as d (stops.Refcount cluster) named refl (length-for d.size (stops.Refcount cluster) short), cause)
 named-stop d e stops.HeaderFull named short cause = (refused-as d stops.HeaderFull named refl (length-for d.size stops.HeaderFull short), cause)
-named-stop d e (stops.Io count) named short cause = (refl, cause.0, cause.1)
+named-stop d e (stops.Io count) named short cause =
+    (refl, cause.0, cause.1, not-short d.size (λ less. let is = short less in let no : ⊥ = cc is in no))
 named-stop d e stops.NoMemory named short cause = cause
 
 pub unopened : (d : DeviceSeen) (old new : Nodes) (file : ℕ) (stop : ImageStop) → IsFileOver d old → IsUnopened old.devices new.devices file stop → HaveRisen old.devices new.devices

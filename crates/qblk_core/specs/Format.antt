@@ -17,7 +17,7 @@ abbrev pub IsGoodImage : Format → List ℕ → Type 0
 IsGoodImage Raw bytes = length bytes ≤ 274877906944
 IsGoodImage Qcow2 bytes = IsSound bytes × ((header_of bytes).name ≡ None)
 
--- how long a file may be that can be opened: a raw image isn't too large, and a qcow2 image has a header
+-- what the length of a file must be, that it can be opened: a raw image isn't too large, and a qcow2 image no shorter than a header
 abbrev pub HasGoodLength : Format → ℕ → Type 0
 HasGoodLength Raw size = size ≤ 274877906944
 HasGoodLength Qcow2 size = MIN_HEADER_LENGTH ≤ size

@@ -270,7 +270,7 @@ IsDone format image trace old new =
     × WasRun format image trace true old new ops h before now (length (transcript guest_names h))
 
 -- The device failed while a qcow2 image was opened. It was opened so, and is given back as the opening left it, which only read:
--- its count rose, and all else stayed.
+-- its count rose, and all else stayed. One that is too short for a header isn't read.
 pub record FailsToOpen (format : Format) (image : List ℕ) (old new : Outside) (count : ℕ) : Type 0
   where
     pub reads : format ≡ Qcow2
@@ -280,6 +280,7 @@ pub record FailsToOpen (format : Format) (image : List ℕ) (old new : Outside) 
     pub opened : new.opened ≡ old.opened ++ closed_opening image device behind.faults ∷ []
     pub stopped : StoppedBy device behind only_device count
     pub kept : HasRisen device behind
+    pub long : MIN_HEADER_LENGTH ≤ device.size
     pub told : IfTold old.files (λ files. HasFile image (IsOverFile device) files)
     pub sink : new.sink_faults ≡ old.sink_faults
 

@@ -10,6 +10,7 @@ use Rattle.trace_codec.specs.Trace.{ops_of}
 use Rattle.blk_history.specs.Owned.{asked_by}
 use Rattle.blk_base.specs.declared.fault.Outcome.{Outcome}
 use Rattle.blk_base.specs.declared.fault.Outcome.TheVariants.{Io}
+use Rattle.q2_format.specs.declared.header.TheConstants.{MIN_HEADER_LENGTH}
 use Rattle.blk_nodes.specs.Contents.{Unfolds}
 use Rattle.blk_nodes.specs.Joined.{IsJoined}
 use Rattle.blk_nodes.specs.Nodes.{Nodes, DeviceSeen}
@@ -135,7 +136,7 @@ IsRunStop format image trace read before now (Input name line why) =
     ⊎ (IsGoodDevice format before × (name.bytes ≡ trace) × IsRefusedRead read why line))
 IsRunStop format image trace read before now (Fault from count) =
     (format ≡ Qcow2) × (from ≡ Dev (record { 0 = 0 })) × Rose before.faults count
-    × (count ≡ now.faults)
+    × (count ≡ now.faults) × (MIN_HEADER_LENGTH ≤ before.size)
 IsRunStop format image trace read before now (Stuck actor waits) = ⊥
 IsRunStop format image trace read before now NoMemory = now.faults ≡ before.faults
 

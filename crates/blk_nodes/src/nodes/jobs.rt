@@ -65,10 +65,9 @@ fn set_read_only(row: &mut Option<Row>, is_read_only: bool)
 }
 
 impl<D: Device> Nodes<D> {
-    /// Gives a job an edge for each of its uses of nodes, in the place of the one of that role that it has, as the source and
-    /// the target; nodes between it may have many. All are judged as one list: where that would break the permission rule the
-    /// first broken pair is answered, the job has no edge more, and all is as it was. No device is called, and each node reads
-    /// as before.
+    /// Gives a job an edge to each node that it uses: to its source, target or base in the place of the one that it had, and one
+    /// to each node between. All are judged as one list. Where that would break the permission rule the first broken pair is
+    /// answered, and all is as it was, so the job has none of them. No device is called, and each node reads as before.
     pub fn use_nodes(&mut self, job: u32, uses: &[NodeUse]) -> Result<(), Conflict>
         requires job { job < 16 }
         requires nodes { All (λ used. HasNode self.old.graph used.node) uses.now }
@@ -96,10 +95,10 @@ impl<D: Device> Nodes<D> {
         self.graph.clear_edges(Parent::Job(job));
     }
 
-    /// Lets a node be written, as the base of a commit, and then the `file` node under it. It asks to write its file from then
-    /// on. Where that would break the permission rule the first broken pair is answered, and all is as it was. A `file` node asks
-    /// nothing of others and isn't refused, so where the base is made writable before its file, both are or neither. Guests that
-    /// are on the node read and write as before, and each node reads as before.
+    /// Lets a node be written, as the base of a commit. It asks to write its file from then on. Where that would break the
+    /// permission rule the first broken pair is answered, and all is as it was. A `file` node asks nothing and isn't refused, so of a
+    /// base and then its file both may be written or neither. Guests that are on the node may do what they did, and each node
+    /// reads as before.
     pub fn make_writable(&mut self, node: NodeId) -> Result<(), Conflict>
         requires { HasNode self.old.graph node }
         ensures denied { (pair : Pair) → (result ≡ Err pair)
@@ -119,8 +118,9 @@ impl<D: Device> Nodes<D> {
         Ok(())
     }
 
-    /// Lets a node be written no more, as a base and its file that were read-only before their commit. It asks less of its file
-    /// then, so this can't be refused. Guests that are on the node write on, and each node reads as before.
+    /// Lets a node be written no more, as a base, and then its file, that were read-only before their commit. It asks less of its
+    /// file then, so this isn't refused. Each node reads as before. No edge goes: whoever writes the node is to be ended before, for a
+    /// piece can't be written to it any more.
     pub fn make_read_only(&mut self, node: NodeId)
         requires { HasNode self.old.graph node }
         ensures nodes { self.new ≡ with_node_writes node false self.old }

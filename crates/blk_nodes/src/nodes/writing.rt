@@ -105,7 +105,7 @@ impl<D: Device> Nodes<D> {
 
     /// Writes a piece of a node's disk, which lies in one block of 65,536 bytes. It is Good; or Torn, where a fault stopped it
     /// behind the first `done` bytes of a write in place; or Io, where a fault stopped it before; or NoSpace, where there is no
-    /// room for it, and then nothing was tried. Of a cluster that a qcow2 node doesn't map the rest is read down the chain, and
+    /// room for it, and then no byte was written. Of a cluster that a qcow2 node doesn't map the rest is read down the chain, and
     /// the whole cluster is written. Of the image's entries only that of the cluster may change, and only where the write is Good.
     /// Takes no memory.
     pub fn write_piece(&mut self, node: NodeId, span: Span, bytes: &[u8]) -> Outcome
