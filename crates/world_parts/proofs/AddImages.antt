@@ -1,10 +1,11 @@
 -- An image that nothing refuses fits its new node.
-use Rattle.std.proofs.Common.{◌≡◌, ◌≢◌, ◌⊎◌, ℕ, ◌==◌, Bool, true, false, List, [], ◌∷◌, inl, inr, refl, sym, ◌∙◌, ap, subst, Option, Some, None}
+use Rattle.std.proofs.Common.{◌≡◌, ◌≢◌, ◌⊎◌, ℕ, ◌≤◌, ◌==◌, Bool, true, false, List, [], ◌∷◌, inl, inr, refl, sym, ◌∙◌, ap, subst, Option, Some, None}
 use Rattle.std.specs.Prelude.{bytes_eq, is_none, is_some, if◌then◌else◌, not, ◌&&◌, option_and_then}
 use Rattle.std.proofs.lemmas.Bool.{not-false}
 use Rattle.blk_graph.proofs.Members.{find-Some}
 use Rattle.q2_format.specs.References.{reach_of}
 use Rattle.q2_format.specs.declared.header.Header.{Header}
+use Rattle.q2_format.specs.declared.header.TheConstants.{MIN_HEADER_LENGTH}
 use Rattle.q2_image.specs.Image.{Known}
 use Rattle.blk_nodes.specs.Nodes.{DeviceSeen, Nodes, device_in}
 use Rattle.blk_nodes.specs.Overlays.{IsOpened, backing_size, backing_stop}
@@ -70,6 +71,7 @@ image-stays old new file image risen opened =
         opened = opened.on.opened;
         known = λ bytes told. opened.on.known bytes (sym (ap (λ (d : DeviceSeen). d.content) now.2.same) ∙ told);
         reach = opened.on.reach ∙ ap (λ (n : ℕ). reach_of image.header n) (sym (ap (λ (d : DeviceSeen). d.size) now.2.same));
+        long = subst (λ (n : ℕ). MIN_HEADER_LENGTH ≤ n) (sym (ap (λ (d : DeviceSeen). d.size) now.2.same)) opened.on.long;
       };
     }
 
