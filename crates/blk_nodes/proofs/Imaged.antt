@@ -11,7 +11,8 @@ use Rattle.blk_base.specs.declared.fault.Outcome.TheVariants.{Good, Torn, Io, No
 use Rattle.q2_format.specs.Contents.{image_disk}
 use Rattle.q2_format.specs.declared.entries.L2Entry.{L2Entry}
 use Rattle.q2_format.specs.declared.entries.L2Entry.TheVariants as entries
-use Rattle.q2_image.specs.Image.{Known, IsOpen}
+use Rattle.q2_image.specs.Image.{Known, IsOpen, cluster_size_in, entry_in}
+use Rattle.q2_image.specs.Reading.{IsHost}
 use Rattle.q2_image.specs.Room.{WriteFits, PartZerosFit, ZerosFit, ZerosFitBy, entry_for, is_whole}
 use Rattle.blk_nodes.specs.Contents.{IsToldDisk, told, disk_under, disk_by, disk_of, bytes_of}
 use Rattle.blk_nodes.specs.Changing.{ImageChange, IsImageWritten, IsZeroed, ChangesPart, ZeroesPart, ZeroesBy, LeavesRow}
@@ -19,7 +20,7 @@ use Rattle.blk_nodes.specs.Found.{found_bytes, IsReadOfSource}
 use Rattle.blk_nodes.specs.Joined.{IsOverlay, IsJoined}
 use Rattle.blk_nodes.specs.Nodes.{Nodes, DeviceSeen, AreTold, row_at, device_in, size_by, node_size, file_of, backing_of}
 use Rattle.blk_nodes.specs.Parts.{HasPiece, IsPieceOf, IsDiskFound, RefusesPiece, StopsReading, CallsPiece, WritesPart, row_in}
-use Rattle.blk_nodes.specs.Reading.{HasRisen, HaveRisen, LeadsTo}
+use Rattle.blk_nodes.specs.Reading.{HaveRisen, LeadsTo}
 use Rattle.blk_nodes.specs.Sources.{source_at}
 use Rattle.blk_nodes.specs.Walk.{IsKnownAt}
 use Rattle.blk_nodes.specs.Writing.{taken_by, IsDeviceAfter, HasImageCause, HasPieceCause, IsRestRead, WritesImage, WritesBy, WritesPiece, ZerosBy, ZerosPiece, own_place_by, rest_place, zeros_place, IsDriverAfter, AreRowsAfter, LeavesNodes, OwnsFile, own_file, IsOverApart, CanBeWritten, MayWriteThrough, IsApartFrom}
@@ -36,6 +37,7 @@ use Rattle.blk_nodes.proofs.HeldDevices.{told_is, told_held, held_after, before_
 use Rattle.blk_nodes.proofs.Joints.{joined_after}
 use Rattle.blk_nodes.proofs.PartFits.{rest_begins}
 use Rattle.blk_nodes.proofs.PartsWritten.{same_row}
+use Rattle.blk_nodes.proofs.RestBeside.{read_beside, rest_beside}
 use Rattle.blk_nodes.proofs.Rows.{row_below, image_found}
 use Rattle.blk_nodes.proofs.Unfolding.{unfolds}
 use Rattle.blk_nodes.proofs.Written.{disk_apart}
@@ -44,7 +46,8 @@ module _ (nodes : Nodes) (joined : IsJoined nodes) (part : Part) (may : MayWrite
     (source_is : source_at nodes part.node part.whole.start ≡ part.source)
     (piece : HasPiece nodes.rows nodes.devices part) (rows : List (Option Row)) (devices : List DeviceSeen) (fits : Known → ℕ → Type 0) (own : Known → Option ℕ)
     (change : ImageChange) (bytes : List ℕ) (outcome : Outcome) (w : WritesPart fits own change nodes.rows rows nodes.devices devices part bytes outcome)
-    (refuses : (device : DeviceSeen) (dev : DevNo) → (fits w.image device.capacity → ⊥) → change w.image w.image device device (NoSpace dev)) where
+    (refuses : (device : DeviceSeen) (dev : DevNo) → (fits w.image device.capacity → ⊥) → change w.image w.image device device (NoSpace dev))
+    (bare : own w.image ≡ None → part.span.len < part.whole.len → IsHost (entry_in w.image (part.whole.start / cluster_size_in w.image)) → ⊥) where
   abbrev new : Nodes
   new = record nodes { rows = rows; devices = devices }
 
@@ -148,14 +151,24 @@ module _ (nodes : Nodes) (joined : IsJoined nodes) (part : Part) (may : MayWrite
     read_is : new ≡ read
     read_is = let with_rows : List (Option Row) → Nodes = λ rs. record nodes { rows = rs; devices = devices } in ap with_rows s.rows_same
 
+    at_place : IsReadOfSource (source_at nodes node part.whole.start) nodes.devices devices (Io s.dev s.count)
+    at_place =
+        let at_source : IsReadOfSource part.source nodes.devices devices (Io s.dev s.count) = subst (IsReadOfSource part.source nodes.devices devices) s.is s.read in
+        subst (λ (source : Source). IsReadOfSource source nodes.devices devices (Io s.dev s.count)) (sym source_is) at_source
+
+    -- the image's own file isn't read
+    own_stays : device_in devices part.file ≡ device_in nodes.devices part.file
+    own_stays =
+        read_beside part.file nodes.devices devices s.dev s.count (source_at nodes node part.whole.start)
+        (rest_beside nodes node part.whole.start w.row w.image w.there w.driver (bare s.nowhere s.less) part.file (λ over is. over_apart over part.file is edge)) at_place
+
     stopped_row : Changed w.image
     stopped_row file before after is held left =
         let here = its_file file is in
         let same : s.device ≡ before = cc (sym s.held ∙ ap (device_in nodes.devices) here ∙ held) in
-        let was = before_rise file nodes.devices devices after s.risen left in
-        let its : was.0 ≡ before = cc (sym was.1 ∙ held) in
-        let risen : HasRisen s.device after = subst (λ (d : DeviceSeen). HasRisen d after) (its ∙ sym same) was.2 in
-        subst (λ (d : DeviceSeen). change w.image w.image d after outcome) same (s.changed after risen)
+        let stays : before ≡ after = cc (sym held ∙ ap (device_in nodes.devices) (sym here) ∙ sym own_stays ∙ ap (device_in devices) here ∙ left) in
+        subst (λ (d : DeviceSeen). change w.image w.image before d outcome) stays
+        (subst (λ (d : DeviceSeen). change w.image w.image d d outcome) same s.changed)
 
     joined_stopped : IsJoined new
     joined_stopped = subst IsJoined (sym read_is) (joined_after nodes devices s.risen joined)
@@ -168,10 +181,7 @@ module _ (nodes : Nodes) (joined : IsJoined nodes) (part : Part) (may : MayWrite
         let now = some_device (device_in devices part.file) (held_after part.file nodes.devices devices s.risen (rw s.held refl)) in
         let was = before_rise part.file nodes.devices devices now.0 s.risen now.1 in
         let same_device : was.0 ≡ s.device = cc (sym was.1 ∙ s.held) in
-        let at_source : IsReadOfSource part.source nodes.devices devices (Io s.dev s.count) = subst (IsReadOfSource part.source nodes.devices devices) s.is s.read in
-        let at_place : IsReadOfSource (source_at nodes node part.whole.start) nodes.devices devices (Io s.dev s.count)
-        = subst (λ (source : Source). IsReadOfSource source nodes.devices devices (Io s.dev s.count)) (sym source_is) at_source in
-        let begins : rest ≡ Some part.whole.start = rest_begins nodes.rows nodes.devices part w.image is_piece (own w.image) s.nowhere s.less in
+        let begins : rest ≡ Some part.whole.start = rest_begins nodes.rows nodes.devices part w.image is_piece s.less (own w.image) s.nowhere in
         let is_read : IsRestRead rest nodes new node (Io s.dev s.count)
         = subst (λ (r : Option ℕ). IsRestRead r nodes new node (Io s.dev s.count)) (sym begins) at_place in
         record {

@@ -102,7 +102,7 @@ step_of_leads nodes node place = by (row_at nodes node)
     by None = tt
     by (Some row) = step_leads nodes.graph.edges node place row.driver
 
-source_in_leads : (nodes : Nodes) (turns node place : ℕ) → LeadsToSource nodes.graph.edges node (source_in turns nodes node place)
+pub source_in_leads : (nodes : Nodes) (turns node place : ℕ) → LeadsToSource nodes.graph.edges node (source_in turns nodes node place)
 source_in_leads nodes zero node place = tt
 source_in_leads nodes (suc turns) node place =
     by (step_of nodes node place) (step_of_leads nodes node place) (λ next. source_in_leads nodes turns next place)

@@ -18,6 +18,7 @@ pub mod Changed
 pub mod Alike
 mod PartsWritten
 mod PartFits
+mod RestBeside
 mod ToldDisks
 mod Imaged
 mod Pieces

@@ -10,7 +10,7 @@ use Rattle.q2_tables.specs.declared.mapping.Mapping.{Mapping}
 use Rattle.q2_tables.specs.declared.mapping.Mapping.TheVariants as mappings
 use Rattle.q2_format.specs.declared.entries.L2Entry.{L2Entry}
 use Rattle.q2_format.specs.declared.entries.L2Entry.TheVariants as entries
-use Rattle.q2_image.specs.Image.{Known, entry_in}
+use Rattle.q2_image.specs.Image.{Known, cluster_size_in, entry_in}
 use Rattle.q2_image.specs.Reading.{IsHost}
 use Rattle.q2_image.specs.Room.{WriteFits, ZerosFit, PartZerosFit, WriteFitsBy, ZerosFitBy, cluster_of, entry_for, is_whole}
 use Rattle.q2_image.specs.Writing.{PutFits, ZeroFits, own_end, own_place}
@@ -46,6 +46,13 @@ no_place image span (entries.Host host) none = absurd (none tt)
 no_place image span entries.Compressed none = refl
 no_place image span entries.Reserved none = refl
 
+no_host : (image : Known) (span : Extent) (e : L2Entry) → own_place_by e image span ≡ None → IsHost e → ⊥
+no_host image span (entries.Host host) none is = absurd (cc none)
+no_host image span entries.Unallocated none is = is
+no_host image span (entries.Zero host) none is = is
+no_host image span entries.Compressed none is = is
+no_host image span entries.Reserved none is = is
+
 around_part : (IsDisk : List ℕ → Type 0) (e : L2Entry) → (IsHost e → ⊥) → (span : Extent) (bytes : List ℕ) (image now : Known) (before after : DeviceSeen) (o : Outcome)
     → ChangesAround IsDisk span bytes image now before after o → ChangesPart IsDisk e span bytes image now before after o
 around_part IsDisk entries.Unallocated none span bytes image now before after o is = is
@@ -80,16 +87,33 @@ module _ (span : Extent) (size : ℕ) (some : 0 < span.len) (block : span.start 
     | inr in_it ↦ let first = ne_eqb (span.start % 65536) 0 in_it in rw first refl
   ]
 
--- the read of the rest of a piece's cluster begins with the cluster
-pub rest_begins : (rows : List (Option Row)) (devices : List DeviceSeen) (part : Part) (image : Known) → IsPieceOf rows devices part image → (own : Option ℕ) → own ≡ None
-    → part.span.len < part.whole.len → rest_place own (is_whole image part.span) image part.span ≡ Some part.whole.start
-rest_begins rows devices part image piece own none less =
-    let bits = size_bits rows devices part image piece in
-    let len = len_is rows devices part image piece in
-    let test : is_whole image part.span ≡ false
-    = rw bits (whole_false part.span image.header.size piece.some piece.block piece.inside (λ same. absurd (omega (arith, less, len, same)))) in
-    ap (λ (o : Option ℕ). rest_place o (is_whole image part.span) image part.span) none ∙ ap (λ (b : Bool). rest_place None b image part.span) test
-    ∙ ap (λ (start : ℕ). Some start) (base_is rows devices part image piece ∙ sym (start_is rows devices part image piece))
+-- Of a piece that isn't all that the disk has of its cluster.
+module _ (rows : List (Option Row)) (devices : List DeviceSeen) (part : Part) (image : Known) (piece : IsPieceOf rows devices part image) (less : part.span.len < part.whole.len) where
+  no_whole : is_whole image part.span ≡ false
+  no_whole =
+      let bits = size_bits rows devices part image piece in
+      let len = len_is rows devices part image piece in
+      rw bits (whole_false part.span image.header.size piece.some piece.block piece.inside (λ same. absurd (omega (arith, less, len, same))))
+
+  -- the read of the rest of its cluster begins with the cluster
+  pub rest_begins : (own : Option ℕ) → own ≡ None → rest_place own (is_whole image part.span) image part.span ≡ Some part.whole.start
+  rest_begins own none =
+      ap (λ (o : Option ℕ). rest_place o (is_whole image part.span) image part.span) none ∙ ap (λ (b : Bool). rest_place None b image part.span) no_whole
+      ∙ ap (λ (start : ℕ). Some start) (base_is rows devices part image piece ∙ sym (start_is rows devices part image piece))
+
+  in_cluster : part.whole.start / cluster_size_in image ≡ cluster_of image part.span
+  in_cluster =
+      let start = start_is rows devices part image piece in
+      let same : part.whole.start / 65536 ≡ part.span.start / 65536 = omega (arith, start) in
+      ap (λ (c : ℕ). part.whole.start / c) (size_bits rows devices part image piece) ∙ same ∙ sym (cluster_is rows devices part image piece)
+
+  -- and it is read only where the cluster isn't mapped
+  pub bare_written : own_place_by (entry_for image part.span) image part.span ≡ None → IsHost (entry_in image (part.whole.start / cluster_size_in image)) → ⊥
+  bare_written none host =
+      no_host image part.span (entry_for image part.span) none (subst (λ (n : ℕ). IsHost (entry_in image n)) in_cluster host)
+
+  pub bare_zeroed : zeros_place (is_whole image part.span) image part.span ≡ None → IsHost (entry_in image (part.whole.start / cluster_size_in image)) → ⊥
+  bare_zeroed none = bare_written (sym (ap (λ (b : Bool). zeros_place b image part.span) no_whole) ∙ none)
 
 module _ (rows left : List (Option Row)) (old new : List DeviceSeen) (part : Part) (bytes : List ℕ) (outcome : Outcome) (has : HasPiece rows old part) where
   -- what is known of the disk's bytes

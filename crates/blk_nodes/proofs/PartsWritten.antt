@@ -638,7 +638,7 @@ read_stopped rows old mid part bytes room read has index first same below is_fir
         read = subst (IsReadOfSource part.source old mid) (sym is) at.1;
         risen = risen;
         rows_same = refl;
-        changed = λ after rose. subst (λ (o : Outcome). ChangesAround (IsDiskFound old part) part.span bytes row.1 row.1 device.0 after o) (sym is) (inr (refl, rose));
+        changed = subst (λ (o : Outcome). ChangesAround (IsDiskFound old part) part.span bytes row.1 row.1 device.0 device.0 o) (sym is) (inr (refl, refl));
       });
     }
 

@@ -18,7 +18,6 @@ use Rattle.q2_image.specs.Reading.{IsHost}
 use Rattle.q2_image.specs.Writing.{ClearsFirst}
 use Rattle.q2_image.specs.Room.{cluster_of, entry_for, is_whole}
 use Rattle.blk_nodes.specs.Nodes.{Nodes, DeviceSeen, row_at, device_in, file_of}
-use Rattle.blk_nodes.specs.Reading.{HasRisen}
 use Rattle.blk_nodes.specs.declared.row.Driver.{Driver}
 use Rattle.blk_nodes.specs.declared.row.Driver.TheVariants as drivers
 use Rattle.blk_nodes.specs.declared.row.Row.{Row}
@@ -120,7 +119,7 @@ pub record PutsAround (IsDisk : List ℕ → Type 0) (part : Extent) (bytes : Li
   pub puts : MakesChange (put_steps image (cluster_of image part) cluster)
       (cluster_start image part) cluster stop image now before after
 
--- the rest of the cluster is read before; where that stops it, nothing is written
+-- the rest of the cluster is read before, from other files; where that stops it, nothing is tried
 abbrev pub ChangesAround : (List ℕ → Type 0) → Extent → List ℕ → ImageChange
 ChangesAround IsDisk part bytes image now before after Good =
     PutsAround IsDisk part bytes None image now before after
@@ -128,7 +127,7 @@ ChangesAround IsDisk part bytes image now before after Good =
 ChangesAround IsDisk part bytes image now before after (Torn done dev count) = ⊥
 ChangesAround IsDisk part bytes image now before after (Io dev count) =
     PutsAround IsDisk part bytes (Some (stops.Io count)) image now before after
-    ⊎ ((now ≡ image) × HasRisen before after)
+    ⊎ IsUnchanged image now before after
 ChangesAround IsDisk part bytes image now before after (NoSpace dev) =
     IsUnchanged image now before after
 

@@ -12,7 +12,7 @@ use Rattle.q2_image.specs.Writing.{HasHeaderOf, StaysTaken}
 use Rattle.blk_nodes.specs.Changing.{ImageChange}
 use Rattle.blk_nodes.specs.Found.{found_bytes, IsReadOfSource}
 use Rattle.blk_nodes.specs.Nodes.{Nodes, DeviceSeen, AreTold, device_in, row_at}
-use Rattle.blk_nodes.specs.Reading.{HasRisen, HaveRisen, OnlyAt}
+use Rattle.blk_nodes.specs.Reading.{HaveRisen, OnlyAt}
 use Rattle.blk_nodes.specs.Walk.{IsKnownAt, CanSourceBeRead}
 use Rattle.blk_nodes.specs.Writing.{taken_by, StaysMapped, IsDeviceAfter, IsImageCallAt, HasImageCause}
 use Rattle.blk_nodes.specs.declared.part.Part.{Part}
@@ -121,8 +121,7 @@ pub record StopsReading (part : Part) (fits : ℕ → Type 0) (own : Option ℕ)
   pub read : IsReadOfSource part.source old new outcome
   pub risen : HaveRisen old new
   pub rows_same : left ≡ rows
-  pub changed : (after : DeviceSeen) → HasRisen device after
-      → change image image device after outcome
+  pub changed : change image image device device outcome
 
 -- it is read only where the piece isn't all that the disk has of the cluster
 abbrev pub ReadsRest : Part → List DeviceSeen → List DeviceSeen → Outcome → Type 0

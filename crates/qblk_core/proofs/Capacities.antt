@@ -43,7 +43,7 @@ module _ (IsDisk : List ℕ → Type 0) (image now : Known) (before after : Devi
   around part bytes Good is = put-around part bytes _ is.0
   around part bytes (Torn done dev count) is = absurd is
   around part bytes (Io dev count) (inl puts) = put-around part bytes _ puts
-  around part bytes (Io dev count) (inr read) = ap (λ (d : DeviceSeen). d.capacity) read.1.same
+  around part bytes (Io dev count) (inr is) = unchanged is
   around part bytes (NoSpace dev) is = unchanged is
 
   of-part : (entry : L2Entry) (part : Extent) (bytes : List ℕ) (o : Outcome) → ChangesPart IsDisk entry part bytes image now before after o → HasCapacity

@@ -1,19 +1,22 @@
-use Rattle.std.proofs.Common.{◌≡◌, ℕ, List, ◌++◌, length, take, drop, Option, Some, sym, ◌∙◌, ap, subst, arith}
+use Rattle.std.proofs.Common.{◌≡◌, ℕ, ◌/◌, ◌<◌, List, ◌++◌, length, take, drop, Option, Some, None, sym, ◌∙◌, ap, subst, arith}
 use Rattle.blk_base.specs.Content.{with_bytes}
 use Rattle.blk_base.specs.Pieces.{Extent}
 use Rattle.blk_base.specs.declared.fault.DevNo.{DevNo}
 use Rattle.blk_base.specs.declared.fault.Outcome.TheVariants.{NoSpace}
-use Rattle.q2_image.specs.Image.{Known}
+use Rattle.q2_image.specs.Image.{Known, cluster_size_in, entry_in}
+use Rattle.q2_image.specs.Reading.{IsHost}
 use Rattle.q2_image.specs.Room.{WriteFits, entry_for}
 use Rattle.blk_nodes.specs.Contents.{IsToldDisk, disk_of}
 use Rattle.blk_nodes.specs.Changing.{ImageChange, IsImageWritten}
-use Rattle.blk_nodes.specs.Nodes.{Nodes, DeviceSeen, file_of}
-use Rattle.blk_nodes.specs.Parts.{IsDiskFound, WritesPart}
+use Rattle.blk_nodes.specs.Nodes.{Nodes, DeviceSeen, file_of, row_at}
+use Rattle.blk_nodes.specs.Parts.{IsDiskFound, IsPieceOf, WritesPart}
 use Rattle.blk_nodes.specs.Sources.{source_at}
 use Rattle.blk_nodes.specs.Writing.{MayWriteThrough, IsApartFrom, LeavesNodes, WritesPiece, own_place_by, taken_by}
 use Rattle.blk_nodes.specs.declared.part.Part.{Part}
 use Rattle.blk_nodes.specs.declared.row.Row.{Row}
 use Rattle.blk_nodes.proofs.Imaged.{disk_found, refuses_written, joined_piece, disk_piece, others_piece, leaves_piece, left_piece, wrote_piece, piece_image, sliced}
+use Rattle.blk_nodes.proofs.PartFits.{bare_written}
+use Rattle.blk_nodes.proofs.Rows.{image_found}
 use Rattle.blk_nodes.proofs.ToldDisks.{row_written}
 use Rattle.blk_nodes.proofs.nodes.Nodes.write_in_image.Goals as goal
 
@@ -37,10 +40,12 @@ invariant_of-self g c =
     = subst (λ (rs : List (Option Row)). WritesPart fits own change rs rows nodes.devices devices part bytes outcome) c.deref_mut.ensures.value c.write_part.ensures in
     let refuses : (device : DeviceSeen) (dev : DevNo) → (fits w.image device.capacity → ⊥) → change w.image w.image device device (NoSpace dev)
     = λ device dev full. refuses_written (IsDiskFound nodes.devices part) part.span bytes w.image device dev in
+    let bare : own w.image ≡ None → part.span.len < part.whole.len → IsHost (entry_in w.image (part.whole.start / cluster_size_in w.image)) → ⊥
+    = λ none less. bare_written nodes.rows nodes.devices part w.image (image_found (row_at nodes part.node) w.row w.image (IsPieceOf nodes.rows nodes.devices part) w.there w.driver piece) less none in
     let whole : take c.self.inside.rows.len (rows ++ drop (length rows) nodes.rows) ≡ rows
     = sliced rows nodes.rows c.self.inside.rows.len (c.write_part.auto.rows ∙ ap length c.deref_mut.ensures.value) (omega (arith, c.self.inside.rows.ok.0)) in
     let new : Nodes = record nodes { rows = rows; devices = devices } in
-    rw whole (joined_piece nodes c.self.invariant part may edge source piece rows devices fits own change bytes outcome w refuses)
+    rw whole (joined_piece nodes c.self.invariant part may edge source piece rows devices fits own change bytes outcome w refuses bare)
 
 pub returns-clause-wrote : goal.returns-clause-wrote
 returns-clause-wrote g c =
@@ -62,12 +67,14 @@ returns-clause-wrote g c =
     = subst (λ (rs : List (Option Row)). WritesPart fits own change rs rows nodes.devices devices part bytes outcome) c.deref_mut.ensures.value c.write_part.ensures in
     let refuses : (device : DeviceSeen) (dev : DevNo) → (fits w.image device.capacity → ⊥) → change w.image w.image device device (NoSpace dev)
     = λ device dev full. refuses_written (IsDiskFound nodes.devices part) part.span bytes w.image device dev in
+    let bare : own w.image ≡ None → part.span.len < part.whole.len → IsHost (entry_in w.image (part.whole.start / cluster_size_in w.image)) → ⊥
+    = λ none less. bare_written nodes.rows nodes.devices part w.image (image_found (row_at nodes part.node) w.row w.image (IsPieceOf nodes.rows nodes.devices part) w.there w.driver piece) less none in
     let whole : take c.self.inside.rows.len (rows ++ drop (length rows) nodes.rows) ≡ rows
     = sliced rows nodes.rows c.self.inside.rows.len (c.write_part.auto.rows ∙ ap length c.deref_mut.ensures.value) (omega (arith, c.self.inside.rows.ok.0)) in
     let new : Nodes = record nodes { rows = rows; devices = devices } in
-    rw (sym c.self.view_is) (rw whole (subst (λ (n : ℕ). WritesPiece nodes new n c.args.span bytes outcome) e.node (subst (λ (s : Extent). WritesPiece nodes new part.node s bytes outcome) e.span (piece_image nodes new part.node part.span bytes outcome w.row w.image w.there w.driver (wrote_piece nodes c.self.invariant part may edge source piece rows devices fits own change bytes outcome w refuses) (row_written nodes new part.node w.row w.image outcome (IsDiskFound nodes.devices part) (IsToldDisk nodes part.node)
-    (disk_found nodes c.self.invariant part may edge source piece rows devices fits own change bytes outcome w refuses) part.span bytes
-    (left_piece nodes c.self.invariant part may edge source piece rows devices fits own change bytes outcome w refuses))))))
+    rw (sym c.self.view_is) (rw whole (subst (λ (n : ℕ). WritesPiece nodes new n c.args.span bytes outcome) e.node (subst (λ (s : Extent). WritesPiece nodes new part.node s bytes outcome) e.span (piece_image nodes new part.node part.span bytes outcome w.row w.image w.there w.driver (wrote_piece nodes c.self.invariant part may edge source piece rows devices fits own change bytes outcome w refuses bare) (row_written nodes new part.node w.row w.image outcome (IsDiskFound nodes.devices part) (IsToldDisk nodes part.node)
+    (disk_found nodes c.self.invariant part may edge source piece rows devices fits own change bytes outcome w refuses bare) part.span bytes
+    (left_piece nodes c.self.invariant part may edge source piece rows devices fits own change bytes outcome w refuses bare))))))
 
 pub returns-clause-disk : goal.returns-clause-disk
 returns-clause-disk g c =
@@ -89,10 +96,12 @@ returns-clause-disk g c =
     = subst (λ (rs : List (Option Row)). WritesPart fits own change rs rows nodes.devices devices part bytes outcome) c.deref_mut.ensures.value c.write_part.ensures in
     let refuses : (device : DeviceSeen) (dev : DevNo) → (fits w.image device.capacity → ⊥) → change w.image w.image device device (NoSpace dev)
     = λ device dev full. refuses_written (IsDiskFound nodes.devices part) part.span bytes w.image device dev in
+    let bare : own w.image ≡ None → part.span.len < part.whole.len → IsHost (entry_in w.image (part.whole.start / cluster_size_in w.image)) → ⊥
+    = λ none less. bare_written nodes.rows nodes.devices part w.image (image_found (row_at nodes part.node) w.row w.image (IsPieceOf nodes.rows nodes.devices part) w.there w.driver piece) less none in
     let whole : take c.self.inside.rows.len (rows ++ drop (length rows) nodes.rows) ≡ rows
     = sliced rows nodes.rows c.self.inside.rows.len (c.write_part.auto.rows ∙ ap length c.deref_mut.ensures.value) (omega (arith, c.self.inside.rows.ok.0)) in
     let new : Nodes = record nodes { rows = rows; devices = devices } in
-    rw (sym c.self.view_is) (rw whole (λ all. subst (λ (n : ℕ). disk_of new n ≡ with_bytes (disk_of nodes n) c.args.span.start (taken_by outcome bytes)) e.node (subst (λ (s : Extent). disk_of new part.node ≡ with_bytes (disk_of nodes part.node) s.start (taken_by outcome bytes)) e.span (disk_piece nodes c.self.invariant part may edge source piece rows devices fits own change bytes outcome w refuses all))))
+    rw (sym c.self.view_is) (rw whole (λ all. subst (λ (n : ℕ). disk_of new n ≡ with_bytes (disk_of nodes n) c.args.span.start (taken_by outcome bytes)) e.node (subst (λ (s : Extent). disk_of new part.node ≡ with_bytes (disk_of nodes part.node) s.start (taken_by outcome bytes)) e.span (disk_piece nodes c.self.invariant part may edge source piece rows devices fits own change bytes outcome w refuses bare all))))
 
 pub returns-clause-others : goal.returns-clause-others
 returns-clause-others g c =
@@ -114,10 +123,12 @@ returns-clause-others g c =
     = subst (λ (rs : List (Option Row)). WritesPart fits own change rs rows nodes.devices devices part bytes outcome) c.deref_mut.ensures.value c.write_part.ensures in
     let refuses : (device : DeviceSeen) (dev : DevNo) → (fits w.image device.capacity → ⊥) → change w.image w.image device device (NoSpace dev)
     = λ device dev full. refuses_written (IsDiskFound nodes.devices part) part.span bytes w.image device dev in
+    let bare : own w.image ≡ None → part.span.len < part.whole.len → IsHost (entry_in w.image (part.whole.start / cluster_size_in w.image)) → ⊥
+    = λ none less. bare_written nodes.rows nodes.devices part w.image (image_found (row_at nodes part.node) w.row w.image (IsPieceOf nodes.rows nodes.devices part) w.there w.driver piece) less none in
     let whole : take c.self.inside.rows.len (rows ++ drop (length rows) nodes.rows) ≡ rows
     = sliced rows nodes.rows c.self.inside.rows.len (c.write_part.auto.rows ∙ ap length c.deref_mut.ensures.value) (omega (arith, c.self.inside.rows.ok.0)) in
     let new : Nodes = record nodes { rows = rows; devices = devices } in
-    rw (sym c.self.view_is) (rw whole (λ other apart. others_piece nodes c.self.invariant part may edge source piece rows devices fits own change bytes outcome w refuses other (subst (IsApartFrom nodes other) (sym e.node) apart)))
+    rw (sym c.self.view_is) (rw whole (λ other apart. others_piece nodes c.self.invariant part may edge source piece rows devices fits own change bytes outcome w refuses bare other (subst (IsApartFrom nodes other) (sym e.node) apart)))
 
 pub returns-clause-kept : goal.returns-clause-kept
 returns-clause-kept g c =
@@ -139,10 +150,12 @@ returns-clause-kept g c =
     = subst (λ (rs : List (Option Row)). WritesPart fits own change rs rows nodes.devices devices part bytes outcome) c.deref_mut.ensures.value c.write_part.ensures in
     let refuses : (device : DeviceSeen) (dev : DevNo) → (fits w.image device.capacity → ⊥) → change w.image w.image device device (NoSpace dev)
     = λ device dev full. refuses_written (IsDiskFound nodes.devices part) part.span bytes w.image device dev in
+    let bare : own w.image ≡ None → part.span.len < part.whole.len → IsHost (entry_in w.image (part.whole.start / cluster_size_in w.image)) → ⊥
+    = λ none less. bare_written nodes.rows nodes.devices part w.image (image_found (row_at nodes part.node) w.row w.image (IsPieceOf nodes.rows nodes.devices part) w.there w.driver piece) less none in
     let whole : take c.self.inside.rows.len (rows ++ drop (length rows) nodes.rows) ≡ rows
     = sliced rows nodes.rows c.self.inside.rows.len (c.write_part.auto.rows ∙ ap length c.deref_mut.ensures.value) (omega (arith, c.self.inside.rows.ok.0)) in
     let new : Nodes = record nodes { rows = rows; devices = devices } in
-    rw (sym c.self.view_is) (rw whole (subst (LeavesNodes nodes new) e.node (leaves_piece nodes c.self.invariant part may edge source piece rows devices fits own change bytes outcome w refuses)))
+    rw (sym c.self.view_is) (rw whole (subst (LeavesNodes nodes new) e.node (leaves_piece nodes c.self.invariant part may edge source piece rows devices fits own change bytes outcome w refuses bare)))
 
 pub returns-clause-joined : goal.returns-clause-joined
 returns-clause-joined g c =
@@ -164,7 +177,9 @@ returns-clause-joined g c =
     = subst (λ (rs : List (Option Row)). WritesPart fits own change rs rows nodes.devices devices part bytes outcome) c.deref_mut.ensures.value c.write_part.ensures in
     let refuses : (device : DeviceSeen) (dev : DevNo) → (fits w.image device.capacity → ⊥) → change w.image w.image device device (NoSpace dev)
     = λ device dev full. refuses_written (IsDiskFound nodes.devices part) part.span bytes w.image device dev in
+    let bare : own w.image ≡ None → part.span.len < part.whole.len → IsHost (entry_in w.image (part.whole.start / cluster_size_in w.image)) → ⊥
+    = λ none less. bare_written nodes.rows nodes.devices part w.image (image_found (row_at nodes part.node) w.row w.image (IsPieceOf nodes.rows nodes.devices part) w.there w.driver piece) less none in
     let whole : take c.self.inside.rows.len (rows ++ drop (length rows) nodes.rows) ≡ rows
     = sliced rows nodes.rows c.self.inside.rows.len (c.write_part.auto.rows ∙ ap length c.deref_mut.ensures.value) (omega (arith, c.self.inside.rows.ok.0)) in
     let new : Nodes = record nodes { rows = rows; devices = devices } in
-    rw whole (joined_piece nodes c.self.invariant part may edge source piece rows devices fits own change bytes outcome w refuses)
+    rw whole (joined_piece nodes c.self.invariant part may edge source piece rows devices fits own change bytes outcome w refuses bare)
