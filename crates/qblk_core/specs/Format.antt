@@ -3,7 +3,7 @@ use Rattle.std.specs.Prelude.{◌≡◌, ℕ, ◌≤◌, ⊤, List, [], length, 
 use Rattle.q2_format.specs.Header.{header_of}
 use Rattle.q2_format.specs.Contents.{image_disk}
 use Rattle.q2_format.specs.Sound.{IsSound}
-use Rattle.q2_format.specs.declared.header.TheConstants.{MIN_HEADER_LENGTH}
+use Rattle.q2_format.specs.declared.header.TheConstants.{MAX_DISK_SIZE, MIN_HEADER_LENGTH}
 use Rattle.qblk_core.specs.declared.words.Format.{Format}
 use Rattle.qblk_core.specs.declared.words.Format.TheVariants.{Raw, Qcow2}
 
@@ -14,12 +14,12 @@ disk_by_format Qcow2 bytes = image_disk bytes []
 
 -- a file that can be opened: not too large, or a sound image that names no backing file
 abbrev pub IsGoodImage : Format → List ℕ → Type 0
-IsGoodImage Raw bytes = length bytes ≤ 274877906944
+IsGoodImage Raw bytes = length bytes ≤ MAX_DISK_SIZE
 IsGoodImage Qcow2 bytes = IsSound bytes × ((header_of bytes).name ≡ None)
 
 -- what the length of a file must be, that it can be opened: a raw image isn't too large, and a qcow2 image no shorter than a header
 abbrev pub HasGoodLength : Format → ℕ → Type 0
-HasGoodLength Raw size = size ≤ 274877906944
+HasGoodLength Raw size = size ≤ MAX_DISK_SIZE
 HasGoodLength Qcow2 size = MIN_HEADER_LENGTH ≤ size
 
 -- what is left of it after a run: a sound image stays sound, and names no backing file

@@ -50,7 +50,7 @@ with_raw nodes = with_below
 -- The image's node over the `file` node. A raw image has at most 256 GiB; of a qcow2 image, which names no backing file, just
 -- that is known which its file says.
 abbrev pub IsImageNodeOver : Format → Nodes → Nodes → Type 0
-IsImageNodeOver Raw old new = (node_size old 0 ≤ 274877906944) × (new ≡ with_raw old)
+IsImageNodeOver Raw old new = (node_size old 0 ≤ MAX_DISK_SIZE) × (new ≡ with_raw old)
 IsImageNodeOver Qcow2 old new = (image : Known) × IsOpened old.devices 0 image
     × (image.header.name ≡ None) × (new ≡ with_qcow2 old asked_image 1 image)
 

@@ -22,7 +22,7 @@ use Rattle.blk_history.specs.declared.event.Event.{Event}
 use Rattle.q2_format.specs.Header.{header_of}
 use Rattle.q2_format.specs.Sound.{IsSound, image_refusal}
 use Rattle.q2_format.specs.declared.header.HeaderStop.TheVariants as headers
-use Rattle.q2_format.specs.declared.header.TheConstants.{MIN_HEADER_LENGTH}
+use Rattle.q2_format.specs.declared.header.TheConstants.{MAX_DISK_SIZE, MIN_HEADER_LENGTH}
 use Rattle.q2_image.specs.Opening.{refusal_of}
 use Rattle.q2_image.specs.declared.stop.ImageStop.TheVariants as images
 use Rattle.qblk_core.specs.Format.{disk_by_format, HasGoodLength, IsGoodImage, IsSoundAs}
@@ -32,7 +32,7 @@ use Rattle.blk_base.specs.declared.fault.Outcome.{Outcome}
 use Rattle.blk_base.specs.Outcomes.{is_good}
 use Rattle.blk_nodes.specs.Nodes.{Nodes, DeviceSeen}
 use Rattle.blk_nodes.specs.Reading.{HasRisen, StoppedBy}
-use Rattle.qblk_inputs.specs.Inputs.{IsTraceFlaw}
+use Rattle.qblk_inputs.specs.Inputs.{IsTraceFlaw, most_text}
 use Rattle.qblk_inputs.specs.declared.stop.InputFlaw.{InputFlaw}
 use Rattle.qblk_inputs.specs.declared.stop.InputFlaw.TheVariants as flaws
 use Rattle.qblk_core.specs.Along.{CountsOutcome, HaveNodes, GoesInTurn}
@@ -155,7 +155,7 @@ HasImage format image files = HasFile image (λ f. IsGoodImage format f.bytes) f
 abbrev pub HasTrace : List ℕ → List Op → List File → Type 0
 HasTrace trace ops files =
     HasFile trace
-    (λ f. (length f.bytes ≤ 67108864) × IsUtf8 f.bytes × (ops_of f.bytes ≡ Ok ops)) files
+    (λ f. (length f.bytes ≤ most_text) × IsUtf8 f.bytes × (ops_of f.bytes ≡ Ok ops)) files
 
 -- why a trace's bytes are refused, and at which line
 abbrev pub IsFlawInTrace : InputWhy → ℕ → List ℕ → Type 0
@@ -163,16 +163,16 @@ IsFlawInTrace Absent line bytes = ⊥
 IsFlawInTrace TooLarge line bytes = ⊥
 IsFlawInTrace NeedsBacking line bytes = ⊥
 IsFlawInTrace (Image stop) line bytes = ⊥
-IsFlawInTrace TooLong line bytes = (line ≡ 0) × (67108864 < length bytes)
-IsFlawInTrace NotUtf8 line bytes = (line ≡ 0) × (length bytes ≤ 67108864) × (IsUtf8 bytes → ⊥)
+IsFlawInTrace TooLong line bytes = (line ≡ 0) × (most_text < length bytes)
+IsFlawInTrace NotUtf8 line bytes = (line ≡ 0) × (length bytes ≤ most_text) × (IsUtf8 bytes → ⊥)
 IsFlawInTrace BadLine line bytes =
-    (length bytes ≤ 67108864) × IsUtf8 bytes × (ops_of bytes ≡ Err (stops.BadLine line))
+    (length bytes ≤ most_text) × IsUtf8 bytes × (ops_of bytes ≡ Err (stops.BadLine line))
 IsFlawInTrace TooMany line bytes =
-    (length bytes ≤ 67108864) × IsUtf8 bytes × (ops_of bytes ≡ Err (stops.TooMany line))
+    (length bytes ≤ most_text) × IsUtf8 bytes × (ops_of bytes ≡ Err (stops.TooMany line))
 
 -- why an image's bytes are refused: a qcow2 image by its first refusal, and then for its backing name
 abbrev pub IsBadBytes : Format → InputWhy → List ℕ → Type 0
-IsBadBytes Raw TooLarge bytes = 274877906944 < length bytes
+IsBadBytes Raw TooLarge bytes = MAX_DISK_SIZE < length bytes
 IsBadBytes Qcow2 NeedsBacking bytes = IsSound bytes × IsSome (header_of bytes).name
 IsBadBytes Qcow2 (Image stop) bytes =
     With (refusal_of stop) (λ refusal. image_refusal bytes ≡ Some refusal)
@@ -215,7 +215,7 @@ IsTraceCause why line = (flaw : InputFlaw) × (why ≡ why_of flaw) × IsTraceFl
 -- How long an image is that is refused so: too large, or long enough for a header. One that is refused as short for a header may
 -- also have a header that is longer than it.
 abbrev pub HasLengthFor : InputWhy → ℕ → Type 0
-HasLengthFor TooLarge size = 274877906944 < size
+HasLengthFor TooLarge size = MAX_DISK_SIZE < size
 HasLengthFor NeedsBacking size = MIN_HEADER_LENGTH ≤ size
 HasLengthFor (Image (images.Header headers.Short)) size = ⊤
 HasLengthFor (Image stop) size = MIN_HEADER_LENGTH ≤ size

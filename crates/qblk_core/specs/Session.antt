@@ -11,6 +11,7 @@ use Rattle.blk_history.specs.Owned.{asked_by}
 use Rattle.blk_base.specs.declared.fault.Outcome.{Outcome}
 use Rattle.blk_base.specs.declared.fault.Outcome.TheVariants.{Io}
 use Rattle.q2_format.specs.declared.header.TheConstants.{MIN_HEADER_LENGTH}
+use Rattle.qblk_inputs.specs.Inputs.{most_text}
 use Rattle.blk_nodes.specs.Contents.{Unfolds}
 use Rattle.blk_nodes.specs.Joined.{IsJoined}
 use Rattle.blk_nodes.specs.Nodes.{Nodes, DeviceSeen}
@@ -33,9 +34,9 @@ use Rattle.qblk_core.specs.declared.status.Status.TheVariants.{Done, Usage, Inpu
 -- what reading the trace's file gave
 abbrev pub IsTraceRead : List ℕ → TraceRead → List File → Type 0
 IsTraceRead trace (reads.Whole bytes) files =
-    HasFile trace (λ f. (length f.bytes ≤ 67108864) × (bytes ≡ f.bytes)) files
+    HasFile trace (λ f. (length f.bytes ≤ most_text) × (bytes ≡ f.bytes)) files
 IsTraceRead trace reads.Absent files = LacksFile trace files
-IsTraceRead trace reads.TooLong files = HasFile trace (λ f. 67108864 < length f.bytes) files
+IsTraceRead trace reads.TooLong files = HasFile trace (λ f. most_text < length f.bytes) files
 
 -- a call of the store failed, or memory wasn't had
 abbrev pub IsStoreStop : ℕ → ℕ → Status → Type 0

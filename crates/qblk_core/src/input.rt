@@ -2,6 +2,7 @@
 ghost use Rattle.std.specs.Prelude.{◌≡◌, ◌≤◌, List, ℕ, length, IfOk, IfErr, IfSome, IsUtf8, Ok};
 ghost use Rattle.trace_codec.specs.Trace.{ops_of};
 ghost use Rattle.qblk_core.specs.Run.{IsFlawInTrace, guest_names};
+ghost use Rattle.qblk_inputs.specs.Inputs.{most_text};
 ghost use Rattle.qblk_core.specs.Inputs.{IsRefusal};
 ghost use Rattle.qblk_core.specs.Ready.{IsSetUpFor};
 ghost use Rattle.qblk_core.specs.Session.{IsTraceStop};
@@ -50,7 +51,7 @@ pub(crate) fn refused(alloc: Global, name: &str, line: u32, why: InputWhy) -> St
 
 /// The requests of a trace's bytes, or the line at which it is refused and why; no line and cause for want of memory.
 fn requests_in(alloc: Global, bytes: &[u8]) -> Result<Vec<Op>, Option<(u32, InputWhy)>>
-    requires { length bytes.now ≤ 67108864 }
+    requires { length bytes.now ≤ most_text }
     ensures ok { IfOk result (λ ops. IsUtf8 bytes.now × (ops_of bytes.now ≡ Ok ops.items)) }
     ensures err { IfErr result (λ stop. IfSome stop (λ at. IsFlawInTrace at.1 at.0 bytes.now)) }
 {

@@ -12,14 +12,12 @@ use crate::words::Format;
 use blk_base::{DevNo, Device, NoMemory, Span, Text};
 use blk_graph::NodeId;
 use blk_nodes::{Backing, Nodes};
+use q2_format::MAX_DISK_SIZE;
 use q2_image::{Image, ImageStop};
 use std::alloc::Global;
 
 /// The only device of this run.
 pub(crate) const DEVICE: DevNo = DevNo(0);
-
-/// How many bytes a raw image may have: 256 GiB.
-const MAX_DISK: u64 = 256 << 30;
 
 /// Why an image isn't opened.
 pub(crate) enum OpenStop {
@@ -66,7 +64,7 @@ fn add_raw<D: Device>(alloc: Global, nodes: &mut Nodes<D>, file: NodeId) -> Resu
     ensures err { IfErr result (StopsImageNode Format.Raw nodes.old nodes.new) }
 {
     let len = nodes.size(file);
-    if len > MAX_DISK {
+    if len > MAX_DISK_SIZE {
         return Err(OpenStop::Refused(InputWhy::TooLarge));
     }
     let Ok(name) = name_of_image(alloc) else {

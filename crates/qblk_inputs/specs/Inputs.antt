@@ -17,9 +17,13 @@ pub record Work : Type 0 where
   pub script : List Order
   pub traces : List (List Wish)
 
+-- the most bytes of a script or a trace: 64 MiB
+abbrev pub most_text : ℕ
+most_text = 67108864
+
 -- a file of a text that is not too long
 pub record IsText (bytes : List ℕ) : Type 0 where
-  pub short : length bytes ≤ 67108864
+  pub short : length bytes ≤ most_text
   pub text : IsUtf8 bytes
 
 -- ---- inputs that are read
@@ -53,8 +57,8 @@ pub record HasWork (cast : Cast) (work : Work) (files : List File) : Type 0 wher
 
 -- why a file's bytes are no text, or not read: a line is none that a trace may have, or passes a count
 abbrev pub IsBadText : InputFlaw → ℕ → List ℕ → Type 0
-IsBadText TooLong line bytes = (line ≡ 0) × (67108864 < length bytes)
-IsBadText NotUtf8 line bytes = (line ≡ 0) × (length bytes ≤ 67108864) × (IsUtf8 bytes → ⊥)
+IsBadText TooLong line bytes = (line ≡ 0) × (most_text < length bytes)
+IsBadText NotUtf8 line bytes = (line ≡ 0) × (length bytes ≤ most_text) × (IsUtf8 bytes → ⊥)
 IsBadText why line bytes = ⊥
 
 abbrev pub IsBadScript : InputFlaw → ℕ → List ℕ → Type 0

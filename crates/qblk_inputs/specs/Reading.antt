@@ -6,7 +6,7 @@ use Rattle.blk_base.specs.Files.{IfTold, is_out}
 use Rattle.blk_base.specs.declared.file.File.{File}
 use Rattle.blk_base.specs.declared.file.Opened.{Opened}
 use Rattle.trace_codec.specs.Amounts.{nothing}
-use Rattle.qblk_inputs.specs.Inputs.{IsFirstRefused, IsRefusedInput, SpeaksOfTrace, SpeaksOfCast}
+use Rattle.qblk_inputs.specs.Inputs.{IsFirstRefused, IsRefusedInput, SpeaksOfTrace, SpeaksOfCast, most_text}
 use Rattle.qblk_inputs.specs.Words.{Player, Cast}
 use Rattle.qblk_inputs.specs.declared.stop.InputFlaw.{InputFlaw}
 use Rattle.qblk_inputs.specs.declared.stop.InputFlaw.TheVariants.{Absent, TooLong}
@@ -20,7 +20,7 @@ NoneOut opened = (name : List ℕ) → is_out name opened ≡ true → ⊥
 -- the bytes of a file that is not too long
 abbrev pub IsReadOfFile : List ℕ → List ℕ → List File → Type 0
 IsReadOfFile name bytes files =
-    HasFile name (λ f. (bytes ≡ f.bytes) × (length bytes ≤ 67108864)) files
+    HasFile name (λ f. (bytes ≡ f.bytes) × (length bytes ≤ most_text)) files
 
 -- the stop is the refusal of that file, or tells of want of memory
 abbrev pub IsInputRefusal : List ℕ → ℕ → InputFlaw → InputStop → Type 0
@@ -37,7 +37,7 @@ StopsFor P before now NoMemory = now ≡ before
 -- a file isn't read as a whole
 abbrev pub IsUnread : InputFlaw → ℕ → List ℕ → List File → Type 0
 IsUnread Absent line name files = (line ≡ 0) × LacksFile name files
-IsUnread TooLong line name files = (line ≡ 0) × HasFile name (λ f. 67108864 < length f.bytes) files
+IsUnread TooLong line name files = (line ≡ 0) × HasFile name (λ f. most_text < length f.bytes) files
 IsUnread why line name files = ⊥
 
 -- what is said of it, whatever files hold
