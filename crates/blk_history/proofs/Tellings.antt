@@ -17,7 +17,7 @@ use Rattle.qmp_codec.specs.declared.event.JobKind.{JobKind}
 use Rattle.qmp_codec.specs.declared.event.JobKind.TheVariants.{Stream, Commit, Mirror, Backup}
 use Rattle.qmp_codec.specs.Events.{event_text as event_word, kind_text}
 use Rattle.blk_history.specs.Names.{JobLine}
-use Rattle.blk_history.specs.Transcript.{fault_words, fault_text, event_text}
+use Rattle.blk_history.specs.Transcript.{fault_words, fault_text, event_line}
 use Rattle.blk_history.specs.Line.{blanked, IsPlain, IsPlainFault, error_part, progress_part, name_part, event_parts, Appends}
 
 -- what stands in JSON for a text that is plain
@@ -105,7 +105,7 @@ quoted_name name =
 
 -- as its parts stand in one another
 nested : (job : JobLine) (name : EventName) (fault : Option Fault) (offset : ℕ) → IsPlain job.id → IsPlainFault fault
-    → 32 ∷ event_text job name fault offset
+    → 32 ∷ event_line job name fault offset
     ≡ codes " {\"data\":{\"device\":\"" ++ (((job.id ++ codes "\"") ++ (error_part fault ++ progress_part job offset)) ++ quoted_name name)
 unfolding escape_byte
 nested job name None offset plain ok =
@@ -125,7 +125,7 @@ nested job name (Some fault) offset plain ok =
     rw (id, error, kind, word, zero, one) refl
 
 pub event_text_parts : (job : JobLine) (name : EventName) (fault : Option Fault) (offset : ℕ) → IsPlain job.id → IsPlainFault fault
-    → 32 ∷ event_text job name fault offset ≡ event_parts job name fault offset
+    → 32 ∷ event_line job name fault offset ≡ event_parts job name fault offset
 event_text_parts job name fault offset plain ok =
     nested job name fault offset plain ok
     ∙ ap (λ bytes. codes " {\"data\":{\"device\":\"" ++ (((job.id ++ codes "\"") ++ (error_part fault ++ progress_part job offset)) ++ bytes))

@@ -2,7 +2,7 @@
 use Rattle.std.proofs.Common.{◌≡◌, ℕ, List, [], ◌++◌, refl}
 use Rattle.std.specs.Prelude.{◌==◌, if◌then◌else◌, get_or}
 use Rattle.blk_history.specs.Names.{RowNames}
-use Rattle.blk_history.specs.Transcript.{line_of}
+use Rattle.blk_history.specs.Transcript.{entry_line}
 use Rattle.blk_history.specs.declared.event.Event.{Event}
 use Rattle.blk_history.specs.declared.event.Event.TheVariants.{Admit, Refuse, Piece, Retire, Reply, Reached, Start, Ready, End, Done}
 
@@ -47,7 +47,7 @@ by_letters a c =
 pub verb_in : List ℕ → Verb
 verb_in line = by_letters (get_or line 0 0) (get_or line 2 0)
 
-pub verb-told : (names : RowNames) (e : Event) (r : List ℕ) → IsOfNoJob e → verb_in (line_of names e ++ r) ≡ verb_of e
+pub verb-told : (names : RowNames) (e : Event) (r : List ℕ) → IsOfNoJob e → verb_in (entry_line names e ++ r) ≡ verb_of e
 unfolding verb_in by_letters verb_of
 verb-told names (Admit g n op) r plain = refl
 verb-told names (Refuse g n op why) r plain = refl
@@ -61,7 +61,7 @@ verb-told names (Ready job) r plain = absurd plain
 verb-told names (End job outcome offset) r plain = absurd plain
 
 -- a line is not empty
-pub line-there : (names : RowNames) (e : Event) (r : List ℕ) → [] ≡ line_of names e ++ r → ⊥
+pub line-there : (names : RowNames) (e : Event) (r : List ℕ) → [] ≡ entry_line names e ++ r → ⊥
 line-there names (Admit g n op) r e = cc
 line-there names (Refuse g n op why) r e = cc
 line-there names (Piece g n k outcome got) r e = cc

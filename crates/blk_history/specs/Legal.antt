@@ -7,33 +7,33 @@ use Rattle.trace_codec.specs.declared.op.Op.{Op}
 use Rattle.trace_codec.specs.Request.{pieces_of}
 use Rattle.blk_history.specs.Fold.{Each, With}
 use Rattle.blk_history.specs.Disk.{span_of, is_write, piece, shown_in}
-use Rattle.blk_history.specs.Machine.{Node, Flight, Guest, State, guest_at, node_at, disk_in, after}
+use Rattle.blk_history.specs.Machine.{Node, Flight, IoGuest, IoState, io_guest_at, node_at, disk_in, io_after}
 use Rattle.blk_history.specs.declared.entry.Refused.{Refused}
 use Rattle.blk_history.specs.declared.entry.Refused.TheVariants.{Range, ReadOnly}
 use Rattle.blk_history.specs.declared.event.Event.{Event}
 use Rattle.blk_history.specs.declared.event.Event.TheVariants.{Admit, Refuse, Piece, Retire}
 
 -- the span ends within the disk
-abbrev pub IsInside : Op → Node → Type 0
-IsInside op node = end_of (span_of op) ≤ node.size
+abbrev pub IsInsideIo : Op → Node → Type 0
+IsInsideIo op node = end_of (span_of op) ≤ node.size
 
 -- a guest that may only read asks for what needs one that may write
-abbrev pub IsForbidden : Op → Guest → Type 0
-IsForbidden op row = IsTrue (row.is_read_only && is_write op)
+abbrev pub IsForbiddenIo : Op → IoGuest → Type 0
+IsForbiddenIo op row = IsTrue (row.is_read_only && is_write op)
 
 -- why a request is refused: its span first; a flush, which speaks of no bytes and writes none, never is
-abbrev pub IsRefusedFor : Op → Guest → Node → Refused → Type 0
-IsRefusedFor op row node Range = node.size < end_of (span_of op)
-IsRefusedFor op row node ReadOnly = IsInside op node × IsForbidden op row
+abbrev pub IsRefusedIo : Op → IoGuest → Node → Refused → Type 0
+IsRefusedIo op row node Range = node.size < end_of (span_of op)
+IsRefusedIo op row node ReadOnly = IsInsideIo op node × IsForbiddenIo op row
 
 -- the guest has no request in flight, and this is the number of its next
-pub record IsNext (row : Guest) (r : ℕ) : Type 0 where
+pub record IsNextIo (row : IoGuest) (r : ℕ) : Type 0 where
   pub idle : row.flight ≡ None
   pub number : r ≡ row.done
 
-pub record CanAdmit (op : Op) (row : Guest) (node : Node) : Type 0 where
-  pub inside : IsInside op node
-  pub allowed : IsForbidden op row → ⊥
+pub record CanAdmitIo (op : Op) (row : IoGuest) (node : Node) : Type 0 where
+  pub inside : IsInsideIo op node
+  pub allowed : IsForbiddenIo op row → ⊥
 
 -- what an outcome says: of a read that is good the disk's bytes, of a torn write its first bytes
 abbrev pub Tells : Outcome → Op → Extent → Option (List ℕ) → List ℕ → Type 0
@@ -56,20 +56,21 @@ abbrev pub IsOver : Flight → Type 0
 IsOver f = (f.next ≡ pieces_of f.op) ⊎ (f.is_stopped ≡ true)
 
 -- the entry fits the state before it
-abbrev pub Fits : State → Event → Type 0
-Fits s (Admit g r op) =
-    With (guest_at s g)
-    (λ row. With (node_at s row.node) (λ node. IsNext row r × CanAdmit op row node))
-Fits s (Refuse g r op why) =
-    With (guest_at s g)
-    (λ row. With (node_at s row.node) (λ node. IsNext row r × IsRefusedFor op row node why))
-Fits s (Piece g r k outcome got) =
-    With (guest_at s g)
+abbrev pub FitsIo : IoState → Event → Type 0
+FitsIo s (Admit g r op) =
+    With (io_guest_at s g)
+    (λ row. With (node_at s row.node) (λ node. IsNextIo row r × CanAdmitIo op row node))
+FitsIo s (Refuse g r op why) =
+    With (io_guest_at s g)
+    (λ row. With (node_at s row.node) (λ node. IsNextIo row r × IsRefusedIo op row node why))
+FitsIo s (Piece g r k outcome got) =
+    With (io_guest_at s g)
     (λ row. With row.flight
     (λ f. (r ≡ row.done) × IsNextPiece f k outcome (disk_in s.disks row.node) got))
-Fits s (Retire g r) = With (guest_at s g) (λ row. With row.flight (λ f. (r ≡ row.done) × IsOver f))
-Fits s e = ⊥
+FitsIo s (Retire g r) =
+    With (io_guest_at s g) (λ row. With row.flight (λ f. (r ≡ row.done) × IsOver f))
+FitsIo s e = ⊥
 
 -- a history is legal where each of its entries fits
-abbrev pub Legal : State → List Event → Type 0
-Legal = Each after Fits
+abbrev pub LegalIo : IoState → List Event → Type 0
+LegalIo = Each io_after FitsIo

@@ -12,15 +12,15 @@ pub record Named : Type 0 where
   pub dev : ℕ
   pub count : ℕ
 
-abbrev pub named_by : Outcome → Option Named
-named_by Good = None
-named_by (Torn done dev count) = Some (record { dev = dev.0; count = count })
-named_by (Io dev count) = Some (record { dev = dev.0; count = count })
-named_by (NoSpace dev) = None
+abbrev pub device_fault_by : Outcome → Option Named
+device_fault_by Good = None
+device_fault_by (Torn done dev count) = Some (record { dev = dev.0; count = count })
+device_fault_by (Io dev count) = Some (record { dev = dev.0; count = count })
+device_fault_by (NoSpace dev) = None
 
-abbrev pub named_in : Event → Option Named
-named_in (Piece g r k outcome got) = named_by outcome
-named_in e = None
+abbrev pub device_fault_in : Event → Option Named
+device_fault_in (Piece g r k outcome got) = device_fault_by outcome
+device_fault_in e = None
 
 -- for each device the count that was named last, at first that of its opening
 abbrev pub last_named : List ℕ → Option Named → List ℕ
@@ -34,13 +34,14 @@ RoseSince counts (Some n) = (n.dev < length counts) × HasFailedSince (get_or co
 
 -- each fault's count lies above the one named before it, so no two name the same
 abbrev pub counted : List ℕ → List Event → List ℕ
-counted = run (λ counts e. last_named counts (named_in e))
+counted = run (λ counts e. last_named counts (device_fault_in e))
 
 abbrev pub NameRises : List ℕ → List Event → Type 0
 NameRises =
-    Each (λ counts e. last_named counts (named_in e)) (λ counts e. RoseSince counts (named_in e))
+    Each (λ counts e. last_named counts (device_fault_in e))
+    (λ counts e. RoseSince counts (device_fault_in e))
 
 -- no entry names a fault
 abbrev pub NameNone : List Event → Type 0
 NameNone [] = Unit {0}
-NameNone (e ∷ es) = (named_in e ≡ None) × NameNone es
+NameNone (e ∷ es) = (device_fault_in e ≡ None) × NameNone es

@@ -1,5 +1,5 @@
 -- What a line of a transcript needs.
-use Rattle.std.specs.Prelude.{◌≡◌, ℕ, zero, suc, ◌+◌, ◌*◌, ◌<◌, ◌≤◌, List, [], ◌∷◌, ◌++◌, length, get_or, flat_map, slice_get, codes, decimal, Option, Some, None}
+use Rattle.std.specs.Prelude.{◌≡◌, ℕ, zero, suc, ◌+◌, ◌*◌, ◌<◌, ◌≤◌, List, [], ◌∷◌, ◌++◌, length, get_or, flat_map, slice_get, codes, decimal, Option, Some, None, option_and_then}
 use Rattle.serde_json.specs.Data.{string}
 use Rattle.serde_json.specs.Written.{compact_text}
 use Rattle.blk_base.specs.Written.{Written, memory_of}
@@ -86,6 +86,10 @@ shown_by e = []
 abbrev pub admitted_by : Event → Option Op
 admitted_by (Admit g r op) = Some op
 admitted_by e = None
+
+-- the request that the entry at a place admits
+abbrev pub request_at : List Event → ℕ → Option Op
+request_at events place = option_and_then admitted_by (slice_get events place)
 
 -- the text of a reply
 abbrev pub reply_by : Event → Option (List ℕ)

@@ -1,5 +1,5 @@
 -- What contracts see of a history: its events, the bytes that its reads gave, and the room that is left.
-use Rattle.std.specs.Prelude.{ℕ, ◌≤◌, List, [], ◌∷◌, slice_range}
+use Rattle.std.specs.Prelude.{ℕ, ◌-◌, ◌≤◌, List, [], ◌∷◌, ◌++◌, length, slice_range}
 use Rattle.blk_base.specs.Pieces.{end_of}
 use Rattle.blk_history.specs.declared.entry.Entry.{Entry}
 use Rattle.blk_history.specs.declared.entry.Entry.TheVariants as entries
@@ -12,6 +12,19 @@ pub record Recorded : Type 0 where
   -- so many more entries and bytes go in without taking memory
   pub room : ℕ
   pub byte_room : ℕ
+
+-- the history with one more entry, and with bytes that it shows
+abbrev pub log_with_shown : Recorded → Event → List ℕ → Recorded
+log_with_shown log e got = record {
+  events = log.events ++ e ∷ [];
+  bytes = log.bytes ++ got;
+  room = log.room - 1;
+  byte_room = log.byte_room - length got;
+}
+
+-- the history with an entry that shows nothing
+abbrev pub log_with_entry : Recorded → Event → Recorded
+log_with_entry log e = record log { events = log.events ++ e ∷ []; room = log.room - 1 }
 
 -- an entry with the bytes that it points to
 abbrev pub event_of : List ℕ → Entry → Event

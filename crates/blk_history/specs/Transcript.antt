@@ -31,15 +31,15 @@ abbrev pub sentence : List ℕ → List (List ℕ) → List ℕ
 sentence verb words = verb ++ flat_map (λ word. 32 ∷ word) words ++ 10 ∷ []
 
 -- a request's name, and its span where it has one
-abbrev pub span_words : List ℕ → Extent → List (List ℕ)
-span_words name span = name ∷ decimal span.start ∷ decimal span.len ∷ []
+abbrev pub named_span_words : List ℕ → Extent → List (List ℕ)
+named_span_words name span = name ∷ decimal span.start ∷ decimal span.len ∷ []
 
 abbrev pub op_words : Op → List (List ℕ)
-op_words (Read span) = span_words (codes "read") span
-op_words (Write span payload) = span_words (codes "write") span
-op_words (Zero span) = span_words (codes "zero") span
+op_words (Read span) = named_span_words (codes "read") span
+op_words (Write span payload) = named_span_words (codes "write") span
+op_words (Zero span) = named_span_words (codes "zero") span
 op_words Flush = codes "flush" ∷ []
-op_words (Discard span) = span_words (codes "discard") span
+op_words (Discard span) = named_span_words (codes "discard") span
 
 abbrev pub refused_word : Refused → List ℕ
 refused_word Range = codes "range"
@@ -86,16 +86,16 @@ event_name outcome = event.Completed
 abbrev pub plain_text : List ℕ → Written
 plain_text bytes = record { bytes = bytes; spare = 0 }
 
-abbrev pub fault_of : JobEnd → Option Fault
-fault_of (Failed fault) = Some fault
-fault_of outcome = None
+abbrev pub fault_of_end : JobEnd → Option Fault
+fault_of_end (Failed fault) = Some fault
+fault_of_end outcome = None
 
 abbrev pub fault_text : Fault → List ℕ
 fault_text fault = join_with_byte 32 (fault_words fault)
 
 -- what a job tells
-abbrev pub told_by : JobLine → EventName → Option Fault → ℕ → Told
-told_by job name fault offset = record {
+abbrev pub told_by_job : JobLine → EventName → Option Fault → ℕ → Told
+told_by_job job name fault offset = record {
   name = name;
   device = plain_text job.id;
   error = option_map (λ f. plain_text (fault_text f)) fault;
@@ -104,8 +104,8 @@ told_by job name fault offset = record {
   kind = job.kind;
 }
 
-abbrev pub event_text : JobLine → EventName → Option Fault → ℕ → List ℕ
-event_text job name fault offset = compact_text (event_data (told_by job name fault offset))
+abbrev pub event_line : JobLine → EventName → Option Fault → ℕ → List ℕ
+event_line job name fault offset = compact_text (event_data (told_by_job job name fault offset))
 
 -- ---- lines
 
@@ -125,31 +125,32 @@ start_words job = job.id ∷ kind_text job.kind ∷ []
 
 -- once it is ready it has copied all
 abbrev pub ready_words : JobLine → List (List ℕ)
-ready_words job = job.id ∷ event_text job event.Ready None job.size ∷ []
+ready_words job = job.id ∷ event_line job event.Ready None job.size ∷ []
 
 abbrev pub end_words : JobLine → JobEnd → ℕ → List (List ℕ)
 end_words job outcome offset =
-    (job.id ∷ result_words outcome) ++ event_text job (event_name outcome) (fault_of outcome) offset
-    ∷ []
+    (job.id ∷ result_words outcome)
+    ++ event_line job (event_name outcome) (fault_of_end outcome) offset ∷ []
 
-abbrev pub line_of : RowNames → Event → List ℕ
-line_of names (Admit g r op) =
+abbrev pub entry_line : RowNames → Event → List ℕ
+entry_line names (Admit g r op) =
     sentence (codes "admit") (guest_word names g ∷ decimal r ∷ op_words op)
-line_of names (Refuse g r op why) =
+entry_line names (Refuse g r op why) =
     sentence (codes "refuse")
     ((guest_word names g ∷ decimal r ∷ op_words op) ++ refused_word why ∷ [])
-line_of names (Piece g r k outcome got) =
+entry_line names (Piece g r k outcome got) =
     sentence (codes "piece")
     (guest_word names g ∷ decimal r ∷ decimal k ∷ outcome_words outcome got)
-line_of names (Retire g r) = sentence (codes "retire") (guest_word names g ∷ decimal r ∷ [])
-line_of names (Reply line given command text) = sentence (codes "reply") (decimal line ∷ text ∷ [])
-line_of names (Reached line what) = sentence (codes "reached") (decimal line ∷ [])
-line_of names (Start job) = sentence (codes "start") (start_words (job_line names job))
-line_of names (Ready job) = sentence (codes "ready") (ready_words (job_line names job))
-line_of names (End job outcome offset) =
+entry_line names (Retire g r) = sentence (codes "retire") (guest_word names g ∷ decimal r ∷ [])
+entry_line names (Reply line given command text) =
+    sentence (codes "reply") (decimal line ∷ text ∷ [])
+entry_line names (Reached line what) = sentence (codes "reached") (decimal line ∷ [])
+entry_line names (Start job) = sentence (codes "start") (start_words (job_line names job))
+entry_line names (Ready job) = sentence (codes "ready") (ready_words (job_line names job))
+entry_line names (End job outcome offset) =
     sentence (codes "end") (end_words (job_line names job) outcome offset)
-line_of names (Done actor) = sentence (codes "done") (actor_word names actor ∷ [])
+entry_line names (Done actor) = sentence (codes "done") (actor_word names actor ∷ [])
 
 -- all lines, in order
 unfoldable pub transcript : RowNames → List Event → List ℕ
-transcript names h = flat_map (line_of names) h
+transcript names h = flat_map (entry_line names) h

@@ -37,7 +37,7 @@ impl Model for History {
 impl History {
     ghost use Rattle.std.specs.Prelude.{◌≡◌, ◌+◌, ◌-◌, ◌<◌, ◌≤◌, max, [], ◌∷◌, ◌++◌, length, option_copied, option_map, IfOk, IsOk, OnOk, OnErr};
     ghost use Rattle.blk_history.specs.Recorded.{Recorded, event_of, PointsWithin};
-    ghost use Rattle.blk_history.specs.Transcript.{line_of};
+    ghost use Rattle.blk_history.specs.Transcript.{entry_line};
     ghost use Rattle.blk_history.specs.Line.{admitted_by, reply_by, At, IsActorNamed, line_room, Appends};
 
     /// No entry yet, and room for so many entries and bytes.
@@ -144,7 +144,7 @@ impl History {
         requires named { At self.now.events at (IsActorNamed names.now) }
         ensures ok { At self.now.events at
             (λ e. OnOk result
-            (Appends out.old out.new (line_of names.now e) (line_room names.now e))) }
+            (Appends out.old out.new (entry_line names.now e) (line_room names.now e))) }
         ensures err { OnErr result (out.new ≡ out.old) }
         ensures room { At self.now.events at
             (λ e. line_room names.now e ≤ out.old.spare → IsOk result) }

@@ -2,7 +2,7 @@
 ghost use Rattle.std.specs.Prelude.{◌≡◌, ◌+◌, ◌*◌, ◌^◌, ◌<◌, ◌≤◌, [], ◌∷◌, ◌++◌, length, codes, decimal, get_or, slice_range, SomeIff, IsOk, OnOk, OnErr};
 ghost use Rattle.blk_base.specs.Pieces.{end_of};
 ghost use Rattle.blk_history.specs.Names.{no_job};
-ghost use Rattle.blk_history.specs.Transcript.{span_words, op_words, refused_word, dev_word, good_words, outcome_words, actor_word, start_words, ready_words, end_words, line_of};
+ghost use Rattle.blk_history.specs.Transcript.{named_span_words, op_words, refused_word, dev_word, good_words, outcome_words, actor_word, start_words, ready_words, end_words, entry_line};
 ghost use Rattle.blk_history.specs.Recorded.{event_of, PointsWithin};
 ghost use Rattle.blk_history.specs.Line.{blanked, IsActorNamed, HasActor, actor_room, long_part, line_room, Appends};
 
@@ -44,7 +44,8 @@ pub(crate) fn push_dev(out: &mut Text, dev: DevNo)
 /// Puts a request's name and its span at the end.
 fn push_span(out: &mut Text, name: &str, span: Span)
     requires { length name.now + 43 ≤ out.old.spare }
-    ensures { Appends out.old out.new (blanked (span_words name.now span)) (length name.now + 43) }
+    ensures { Appends out.old out.new (blanked (named_span_words name.now span))
+        (length name.now + 43) }
 {
     push_word(out, name);
     push_count(out, span.start);
@@ -174,7 +175,7 @@ fn push_line(out: &mut Text, entry: &Entry, bytes: &[u8], names: &Rows)
     requires within { PointsWithin (length bytes.now) entry.now }
     requires named { IsActorNamed names.now (event_of bytes.now entry.now) }
     requires room { line_room names.now (event_of bytes.now entry.now) ≤ out.old.spare }
-    ensures { Appends out.old out.new (line_of names.now (event_of bytes.now entry.now))
+    ensures { Appends out.old out.new (entry_line names.now (event_of bytes.now entry.now))
         (line_room names.now (event_of bytes.now entry.now)) }
 {
     match entry {
@@ -259,7 +260,7 @@ pub(crate) fn write_line(
     requires within { PointsWithin (length bytes.now) entry.now }
     requires named { IsActorNamed names.now (event_of bytes.now entry.now) }
     ensures ok { OnOk result
-        (Appends out.old out.new (line_of names.now (event_of bytes.now entry.now))
+        (Appends out.old out.new (entry_line names.now (event_of bytes.now entry.now))
         (line_room names.now (event_of bytes.now entry.now))) }
     ensures err { OnErr result (out.new ≡ out.old) }
     ensures room { line_room names.now (event_of bytes.now entry.now) ≤ out.old.spare

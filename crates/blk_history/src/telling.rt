@@ -1,6 +1,6 @@
 //! What the transcript tells of a job.
 ghost use Rattle.std.specs.Prelude.{◌≡◌, ◌+◌, ◌*◌, ◌<◌, ◌≤◌, [], ◌∷◌, ◌++◌, length, codes, decimal, None};
-ghost use Rattle.blk_history.specs.Transcript.{cause_word, fault_text, result_words, event_name, fault_of, event_text, start_words, ready_words, end_words};
+ghost use Rattle.blk_history.specs.Transcript.{cause_word, fault_text, result_words, event_name, fault_of_end, event_line, start_words, ready_words, end_words};
 ghost use Rattle.blk_history.specs.Line.{blanked, IsPlain, IsPlainFault, device_part, error_part, length_part, offset_part, kind_part, progress_part, name_part, event_parts, Appends};
 
 use crate::entry::{Cause, JobEnd};
@@ -153,7 +153,7 @@ fn push_parts(out: &mut Text, job: &JobName, name: EventName, fault: Option<Faul
 fn push_event(out: &mut Text, job: &JobName, name: EventName, fault: Option<Fault>, offset: u64)
     requires plain { IsPlain job.now.id }
     requires room { 239 + length job.now.id ≤ out.old.spare }
-    ensures { Appends out.old out.new (32 ∷ event_text job.now name fault offset)
+    ensures { Appends out.old out.new (32 ∷ event_line job.now name fault offset)
         (239 + length job.now.id) }
 {
     push_parts(out, job, name, fault, offset);
@@ -191,7 +191,7 @@ fn end_name(outcome: JobEnd) -> EventName
 
 /// The fault of a job that failed.
 fn end_fault(outcome: JobEnd) -> Option<Fault>
-    ensures { result ≡ fault_of outcome }
+    ensures { result ≡ fault_of_end outcome }
 {
     match outcome {
         JobEnd::Failed(fault) => Some(fault),

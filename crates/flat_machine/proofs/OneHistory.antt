@@ -28,7 +28,7 @@ use Rattle.blk_history.specs.Disk.{piece, done_in}
 use Rattle.blk_history.specs.Machine.{Flight, done_by}
 use Rattle.blk_history.specs.Legal.{IsNextPiece, IsOver, Tells}
 use Rattle.blk_history.specs.Names.{RowNames}
-use Rattle.blk_history.specs.Transcript.{op_words, refused_word, outcome_words, actor_word, line_of, transcript}
+use Rattle.blk_history.specs.Transcript.{op_words, refused_word, outcome_words, actor_word, entry_line, transcript}
 use Rattle.blk_history.specs.declared.entry.Refused.{Refused}
 use Rattle.blk_history.specs.declared.entry.Refused.TheVariants.{Range, ReadOnly}
 use Rattle.blk_history.specs.declared.event.Event.{Event}
@@ -282,7 +282,7 @@ module _ (o : Opening) (guests : AreGuests o.guests) (s : State) (c : Course) (a
       ap suc (same-guest o guests g i [] [] r q (is-guest g (λ row. row.flight ≡ None) h.1) (is-guest i (λ row. row.flight ≡ None) k.1) e).0
 
   same-entry : (e f : Event) → verb_of e ≡ verb_of f → IsOfNoJob e → Fits s e → Fits s f → IsOwn c e → IsOwn c f → IsSmall e → IsSmall f
-      → (r q : List ℕ) → line_of names e ++ r ≡ line_of names f ++ q → e ≡ f
+      → (r q : List ℕ) → entry_line names e ++ r ≡ entry_line names f ++ q → e ≡ f
   unfolding verb_of actor-word
   same-entry (Start job) f verbs plain fe ff oe of se sf r q e = absurd plain
   same-entry (Ready job) f verbs plain fe ff oe of se sf r q e = absurd plain
@@ -378,22 +378,22 @@ module _ (o : Opening) (guests : AreGuests o.guests) (s : State) (c : Course) (a
 
 all-same : (o : Opening) → AreGuests o.guests → (h k : List Event) (s : State) (c : Course) → length s.guests ≡ length o.guests
     → Legal s h → Legal s k → KeepsOrder c h → KeepsOrder c k → All IsSmall h → All IsSmall k → Runs s
-    → flat_map (line_of (record { guests = o.guests; jobs = [] })) h ≡ flat_map (line_of (record { guests = o.guests; jobs = [] })) k → h ≡ k
+    → flat_map (entry_line (record { guests = o.guests; jobs = [] })) h ≡ flat_map (entry_line (record { guests = o.guests; jobs = [] })) k → h ≡ k
 all-same o guests [] [] s c as_many lh lk oh ok sh sk runs e = refl
 all-same o guests [] (f ∷ fs) s c as_many lh lk oh ok sh sk runs e =
-    absurd (line-there (record { guests = o.guests; jobs = [] }) f (flat_map (line_of (record { guests = o.guests; jobs = [] })) fs) e)
+    absurd (line-there (record { guests = o.guests; jobs = [] }) f (flat_map (entry_line (record { guests = o.guests; jobs = [] })) fs) e)
 all-same o guests (x ∷ es) [] s c as_many lh lk oh ok sh sk runs e =
-    absurd (line-there (record { guests = o.guests; jobs = [] }) x (flat_map (line_of (record { guests = o.guests; jobs = [] })) es) (sym e))
+    absurd (line-there (record { guests = o.guests; jobs = [] }) x (flat_map (entry_line (record { guests = o.guests; jobs = [] })) es) (sym e))
 all-same o guests (x ∷ es) (f ∷ fs) s c as_many lh lk oh ok sh sk runs e =
     let N : RowNames = record { guests = o.guests; jobs = [] } in
     let plain = of_no_job s x lh.0 runs in
     let plain_f = of_no_job s f lk.0 runs in
-    let r = flat_map (line_of N) es in
-    let q = flat_map (line_of N) fs in
+    let r = flat_map (entry_line N) es in
+    let q = flat_map (entry_line N) fs in
     let verbs : verb_of x ≡ verb_of f = sym (verb-told N x r plain) ∙ ap verb_in e ∙ verb-told N f q plain_f in
     let same : x ≡ f =
     same-entry o guests s c as_many x f verbs plain lh.0 lk.0 oh.0 ok.0 (All-head IsSmall x es sh) (All-head IsSmall f fs sk) r q e in
-    let rest : r ≡ q = append_cancel_left (line_of N x) r q (e ∙ ap (λ y. line_of N y ++ q) (sym same)) in
+    let rest : r ≡ q = append_cancel_left (entry_line N x) r q (e ∙ ap (λ y. entry_line N y ++ q) (sym same)) in
     let tails : es ≡ fs =
     all-same o guests es fs (after s x) (onward c x) (entry-guests s x plain ∙ as_many) lh.1
     (subst (λ y. Legal (after s y) fs) (sym same) lk.1) oh.1 (subst (λ y. KeepsOrder (onward c y) fs) (sym same) ok.1)
@@ -419,10 +419,10 @@ no-jobs-named (e ∷ es) s legal runs =
     no-job-named s e es (of_no_job s e legal.0 runs) ∙ no-jobs-named es (after s e) legal.1 (entry_runs s e legal.0 runs)
 
 transcript-is : (o : Opening) (h : List Event) → Legal (start o) h
-    → transcript_of o h ≡ flat_map (line_of (record { guests = o.guests; jobs = [] })) h
+    → transcript_of o h ≡ flat_map (entry_line (record { guests = o.guests; jobs = [] })) h
 unfolding transcript
 transcript-is o h legal =
-    ap (λ jobs. flat_map (line_of (record { guests = o.guests; jobs = jobs })) h) (no-jobs-named h (start o) legal (start_runs o))
+    ap (λ jobs. flat_map (entry_line (record { guests = o.guests; jobs = jobs })) h) (no-jobs-named h (start o) legal (start_runs o))
 
 pub one_history : (o : Opening) (script : List Order) (traces : List (List Wish)) → HaveOneHistory o script traces
 one_history o script traces = λ guests text h k ph pk.

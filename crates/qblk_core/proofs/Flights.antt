@@ -4,8 +4,8 @@ use Rattle.std.specs.Prelude.{slice_get, option_and_then}
 use Rattle.trace_codec.specs.declared.op.Op.{Op}
 use Rattle.blk_history.specs.declared.event.Event.{Event}
 use Rattle.blk_history.specs.declared.event.Event.TheVariants.{Admit}
-use Rattle.blk_history.specs.Line.{admitted_by}
-use Rattle.qblk_core.specs.Face.{request_at, guest_on_image, WasAdmitted}
+use Rattle.blk_history.specs.Line.{admitted_by, request_at}
+use Rattle.qblk_core.specs.Face.{guest_on_image, WasAdmitted}
 use Rattle.qblk_core.specs.declared.flight.InFlight.{InFlight}
 
 get-push : (es : List Event) (e : Event) (n : ℕ) → n ≡ length es → slice_get (es ++ e ∷ []) n ≡ Some e

@@ -12,10 +12,10 @@ use Rattle.blk_base.specs.Pieces.{Extent}
 use Rattle.blk_history.specs.Disk.{piece}
 use Rattle.blk_pieces.proofs.Told.{shown_none}
 use Rattle.qblk_core.specs.Pieces.{IsPieceOn}
-use Rattle.blk_history.specs.Machine.{State, Guest, Flight, after, replay}
-use Rattle.blk_history.specs.Legal.{Fits, IsOver}
+use Rattle.blk_history.specs.Machine.{IoState, IoGuest, Flight, io_after, io_replay}
+use Rattle.blk_history.specs.Legal.{FitsIo, IsOver}
 use Rattle.blk_history.specs.Fold.{With}
-use Rattle.blk_history.specs.Licence.{Named, named_in, named_by, last_named, RoseSince}
+use Rattle.blk_history.specs.Licence.{Named, device_fault_in, device_fault_by, last_named, RoseSince}
 use Rattle.blk_history.specs.declared.entry.Refused.{Refused}
 use Rattle.blk_history.specs.declared.event.Event.{Event}
 use Rattle.blk_history.specs.declared.event.Event.TheVariants.{Admit, Refuse, Piece, Retire}
@@ -49,10 +49,10 @@ rose-next counts before now (Some n) last licensed =
     rw (last, licensed.0) (omega arith, since)
 
 -- one entry more
-along-push : (s : State) (old mid new : Nodes) (es : List Event) (e : Event) → HaveNodes s old es mid → IsStepOf (replay s es) e mid new
+along-push : (s : IoState) (old mid new : Nodes) (es : List Event) (e : Event) → HaveNodes s old es mid → IsStepOf (io_replay s es) e mid new
     → HaveNodes s old (es ++ e ∷ []) new
 along-push s old mid new [] e is step = (new, subst (λ (m : Nodes). IsStepOf s e m new) is step, refl)
-along-push s old mid new (x ∷ es) e is step = (is.0, is.1, along-push (after s x) is.0 mid new es e is.2 step)
+along-push s old mid new (x ∷ es) e is step = (is.0, is.1, along-push (io_after s x) is.0 mid new es e is.2 step)
 
 shape-same : (nodes : Nodes) → HaveShapeOf nodes nodes
 shape-same nodes = record { file = refl; image = refl; kind = refl; capacity = refl }
@@ -77,20 +77,20 @@ record Adds (w v : SessionSeen) (e : Event) : Type 0 where
   on_image : v.guest.node ≡ w.guest.node
   access : v.guest.is_read_only ≡ w.guest.is_read_only
   faults : device_faults w.nodes ≤ device_faults v.nodes
-  licensed : IsLicensed (device_faults w.nodes) (device_faults v.nodes) (named_in e)
+  licensed : IsLicensed (device_faults w.nodes) (device_faults v.nodes) (device_fault_in e)
   step : IsStepOf (state_of w) e w.nodes v.nodes
-  state : after (state_of w) e ≡ state_of v
+  state : io_after (state_of w) e ≡ state_of v
   told : TellsStill w.nodes v.nodes
   turn : FitsUnread (state_of w) e
-  fits : (disk : List ℕ) → told_disk w.nodes ≡ Some disk → Fits (state_of w) e
+  fits : (disk : List ℕ) → told_disk w.nodes ≡ Some disk → FitsIo (state_of w) e
 
 licensed-push : (first : Nodes) (w v : SessionSeen) (e : Event) → ComesFrom first w → Adds w v e → NameAllRises first v
 licensed-push first w v e comes adds =
     let was = comes.licensed in
-    let step : List ℕ → Event → List ℕ = λ counts x. last_named counts (named_in x) in
+    let step : List ℕ → Event → List ℕ = λ counts x. last_named counts (device_fault_in x) in
     record {
-      risen = rw adds.events (each-push step (λ counts x. RoseSince counts (named_in x)) (device_faults first ∷ []) w.log.events e was.risen (rose-next _ (device_faults w.nodes) (device_faults v.nodes) (named_in e) was.last adds.licensed));
-      last = rw (adds.events, run-push step (device_faults first ∷ []) w.log.events e) (last-next _ (device_faults w.nodes) (device_faults v.nodes) (named_in e) was.last adds.licensed);
+      risen = rw adds.events (each-push step (λ counts x. RoseSince counts (device_fault_in x)) (device_faults first ∷ []) w.log.events e was.risen (rose-next _ (device_faults w.nodes) (device_faults v.nodes) (device_fault_in e) was.last adds.licensed));
+      last = rw (adds.events, run-push step (device_faults first ∷ []) w.log.events e) (last-next _ (device_faults w.nodes) (device_faults v.nodes) (device_fault_in e) was.last adds.licensed);
     }
 
 lines-push : (es : List Event) (e : Event) → HaveLines es → HasLine e → HaveLines (es ++ e ∷ [])
@@ -106,12 +106,12 @@ comes-push first w v e comes adds = record {
   licensed = licensed-push first w v e comes adds;
   along = rw adds.events (along-push (machine_on first) first w.nodes v.nodes w.log.events e comes.along (rw comes.replay adds.step));
   lines = rw adds.events (lines-push w.log.events e comes.lines adds.line);
-  replay = rw (adds.events, run-push after (machine_on first) w.log.events e, comes.replay) adds.state;
-  in_turn = rw adds.events (each-push after FitsUnread (machine_on first) w.log.events e comes.in_turn (rw comes.replay adds.turn));
+  replay = rw (adds.events, run-push io_after (machine_on first) w.log.events e, comes.replay) adds.state;
+  in_turn = rw adds.events (each-push io_after FitsUnread (machine_on first) w.log.events e comes.in_turn (rw comes.replay adds.turn));
   told = λ disk is. let now = comes.told disk is in adds.told now.0 now.1;
   legal = λ disk is.
       let now = comes.told disk is in
-      rw adds.events (each-push after Fits (machine_on first) w.log.events e (comes.legal disk is) (rw comes.replay (adds.fits now.0 now.1)));
+      rw adds.events (each-push io_after FitsIo (machine_on first) w.log.events e (comes.legal disk is) (rw comes.replay (adds.fits now.0 now.1)));
 }
 
 adds-admission : (first : Nodes) (w : SessionSeen) (op : Op) → ComesFrom first w → w.guest.flight ≡ None → IsRequestJudged w op None → Adds w (admitted_or_refused w op None) (Admit 0 w.guest.done op)
@@ -182,7 +182,7 @@ adds-retirement w is =
 pub retirement-kept : (w : SessionSeen) → With w.guest.flight IsOver → (first : Nodes) → ComesFrom first w → ComesFrom first (after_retirement w)
 retirement-kept w is first comes = comes-push first w _ _ comes (adds-retirement w is)
 
-licensed-piece : (before now : ℕ) (outcome : Outcome) → CountsOutcome before now outcome → IsLicensed before now (named_by outcome)
+licensed-piece : (before now : ℕ) (outcome : Outcome) → CountsOutcome before now outcome → IsLicensed before now (device_fault_by outcome)
 licensed-piece before now Good cause = cause
 licensed-piece before now (Torn done dev count) cause = cause
 licensed-piece before now (Io dev count) cause = cause
@@ -193,7 +193,7 @@ still-tells f old new is disk told = (f disk, is ∙ ap (option_map f) told)
 
 -- the state after a piece
 state-after : (w v : SessionSeen) (f : Flight) (outcome : Outcome) (got : List ℕ) → w.guest.node ≡ 1 → w.guest.flight ≡ Some f → PutsPiece w v f outcome got
-    → after (state_of w) (Piece 0 w.guest.done f.next outcome got) ≡ state_of v
+    → io_after (state_of w) (Piece 0 w.guest.done f.next outcome got) ≡ state_of v
 state-after w v f outcome got on_image is puts =
     let shape = puts.made.shape in
     rw (puts.guest, shape.file, shape.image, puts.made.disk, is, on_image) refl
@@ -214,8 +214,8 @@ adds-piece first w v f outcome got comes is can puts = record {
   events = ap (λ (l : Recorded). l.events) puts.made.log;
   line = record { whose = refl; shown = puts.made.small; small = puts.made.fits };
   shape = puts.made.shape;
-  on_image = ap (λ (g : Guest). g.node) puts.guest;
-  access = ap (λ (g : Guest). g.is_read_only) puts.guest;
+  on_image = ap (λ (g : IoGuest). g.node) puts.guest;
+  access = ap (λ (g : IoGuest). g.is_read_only) puts.guest;
   faults = puts.made.faults;
   licensed = licensed-piece (device_faults w.nodes) (device_faults v.nodes) outcome puts.made.cause;
   step = rw (is, comes.on_image) (record { made = puts.made.on; count = puts.made.cause });

@@ -19,11 +19,11 @@ use Rattle.trace_codec.specs.declared.op.Op.{Op}
 use Rattle.trace_codec.specs.declared.op.Op.TheVariants.{Read, Write, Zero, Flush, Discard}
 use Rattle.blk_history.specs.Fold.{With, change}
 use Rattle.blk_history.specs.Disk.{piece}
-use Rattle.blk_history.specs.Legal.{IsNext, CanAdmit, IsRefusedFor, IsOver}
-use Rattle.blk_history.specs.Machine.{State, Table, Guest, Flight, guest_at, node_at, with_piece, piece_done, admitted, finished, past_piece, after}
+use Rattle.blk_history.specs.Legal.{IsNextIo, CanAdmitIo, IsRefusedIo, IsOver}
+use Rattle.blk_history.specs.Machine.{IoState, IoTable, IoGuest, Flight, io_guest_at, node_at, with_io_piece, piece_done, io_admitted, io_finished, io_past_piece, io_after}
 use Rattle.blk_history.specs.Owned.{asked_by}
 use Rattle.blk_history.specs.Small.{IsSmall}
-use Rattle.blk_history.specs.Transcript.{sentence, guest_word, op_words, refused_word, good_words, outcome_words, line_of, transcript}
+use Rattle.blk_history.specs.Transcript.{sentence, guest_word, op_words, refused_word, good_words, outcome_words, entry_line, transcript}
 use Rattle.blk_history.specs.declared.entry.Refused.{Refused}
 use Rattle.blk_history.specs.declared.entry.Refused.TheVariants.{Range, ReadOnly}
 use Rattle.blk_history.specs.declared.event.Event.{Event}
@@ -176,42 +176,42 @@ shows-block (Discard span) k = omega arith
 
 -- ---- the one row
 
-the-row : (s : State) (row : Guest) (g : ℕ) (P : Guest → Type 0) → s.table.guests ≡ row ∷ [] → With (guest_at s g) P → (g ≡ 0) × P row
-the-row s row g P is h = at g (subst (λ (rows : List Guest). With (slice_get rows g) P) is h)
+the-row : (s : IoState) (row : IoGuest) (g : ℕ) (P : IoGuest → Type 0) → s.table.guests ≡ row ∷ [] → With (io_guest_at s g) P → (g ≡ 0) × P row
+the-row s row g P is h = at g (subst (λ (rows : List IoGuest). With (slice_get rows g) P) is h)
   where
     at : (n : ℕ) → With (slice_get (row ∷ []) n) P → (n ≡ 0) × P row
     at zero h = (refl, h)
     at (suc n) h = absurd h
 
-abbrev one-of : ℕ → (Guest → Guest) → Guest → Guest
+abbrev one-of : ℕ → (IoGuest → IoGuest) → IoGuest → IoGuest
 one-of zero f row = f row
 one-of (suc n) f row = row
 
-changed : (g : ℕ) (f : Guest → Guest) (rows : List Guest) (row : Guest) → rows ≡ row ∷ [] → change g f rows ≡ one-of g f row ∷ []
+changed : (g : ℕ) (f : IoGuest → IoGuest) (rows : List IoGuest) (row : IoGuest) → rows ≡ row ∷ [] → change g f rows ≡ one-of g f row ∷ []
 changed zero f rows row is = ap (change zero f) is
 changed (suc n) f rows row is = ap (change (suc n) f) is
 
-abbrev next-row : Event → Guest → Guest
-next-row (Admit g r op) row = one-of g (admitted op) row
-next-row (Refuse g r op why) row = one-of g finished row
-next-row (Piece g r k outcome got) row = one-of g (past_piece outcome) row
-next-row (Retire g r) row = one-of g finished row
+abbrev next-row : Event → IoGuest → IoGuest
+next-row (Admit g r op) row = one-of g (io_admitted op) row
+next-row (Refuse g r op why) row = one-of g io_finished row
+next-row (Piece g r k outcome got) row = one-of g (io_past_piece outcome) row
+next-row (Retire g r) row = one-of g io_finished row
 next-row e row = row
 
-piece-table : (s : State) (node : ℕ) (flight : Option Flight) (k : ℕ) (outcome : Outcome) → (with_piece node flight k outcome s).table ≡ s.table
+piece-table : (s : IoState) (node : ℕ) (flight : Option Flight) (k : ℕ) (outcome : Outcome) → (with_io_piece node flight k outcome s).table ≡ s.table
 piece-table s node None k outcome = refl
 piece-table s node (Some f) k outcome = refl
 
-done-table : (s : State) (row : Option Guest) (k : ℕ) (outcome : Outcome) → (piece_done row k outcome s).table ≡ s.table
+done-table : (s : IoState) (row : Option IoGuest) (k : ℕ) (outcome : Outcome) → (piece_done row k outcome s).table ≡ s.table
 done-table s None k outcome = refl
 done-table s (Some row) k outcome = piece-table s row.node row.flight k outcome
 
-after-row : (s : State) (row : Guest) (e : Event) → s.table.guests ≡ row ∷ [] → (after s e).table.guests ≡ next-row e row ∷ []
-after-row s row (Admit g r op) is = changed g (admitted op) s.table.guests row is
-after-row s row (Refuse g r op why) is = changed g finished s.table.guests row is
+after-row : (s : IoState) (row : IoGuest) (e : Event) → s.table.guests ≡ row ∷ [] → (io_after s e).table.guests ≡ next-row e row ∷ []
+after-row s row (Admit g r op) is = changed g (io_admitted op) s.table.guests row is
+after-row s row (Refuse g r op why) is = changed g io_finished s.table.guests row is
 after-row s row (Piece g r k outcome got) is =
-    changed g (past_piece outcome) (piece_done (guest_at s g) k outcome s).table.guests row (ap (λ (t : Table). t.guests) (done-table s (guest_at s g) k outcome) ∙ is)
-after-row s row (Retire g r) is = changed g finished s.table.guests row is
+    changed g (io_past_piece outcome) (piece_done (io_guest_at s g) k outcome s).table.guests row (ap (λ (t : IoTable). t.guests) (done-table s (io_guest_at s g) k outcome) ∙ is)
+after-row s row (Retire g r) is = changed g io_finished s.table.guests row is
 after-row s row (Reply line given command text) is = is
 after-row s row (Reached line what) is = is
 after-row s row (Start job) is = is
@@ -221,7 +221,7 @@ after-row s row (Done actor) is = is
 
 -- ---- one entry
 
-of-no-job : (s : State) (e : Event) → FitsUnread s e → IsOfNoJob e
+of-no-job : (s : IoState) (e : Event) → FitsUnread s e → IsOfNoJob e
 of-no-job s (Start job) fits = fits
 of-no-job s (Ready job) fits = fits
 of-no-job s (End job outcome offset) fits = fits
@@ -273,14 +273,14 @@ one-cause ReadOnly Range e = absurd (let letters : 101 ≡ 97 = ap (λ l. get_or
 both-at : {A : Type 0} (o : Option A) (P Q : A → Type 0) → With o P → With o Q → (a : A) × (P a × Q a)
 both-at o P Q h k = let a = with-some P o h in (a.0, (a.1.1, with-at Q o a.0 a.1.0 k))
 
-admit-number : (s : State) (row : Guest) (n : ℕ) (op : Op) → With (node_at s row.node) (λ node. IsNext row n × CanAdmit op row node) → n ≡ row.done
-admit-number s row n op h = (with-some (λ node. IsNext row n × CanAdmit op row node) (node_at s row.node) h).1.1.0.number
+admit-number : (s : IoState) (row : IoGuest) (n : ℕ) (op : Op) → With (node_at s row.node) (λ node. IsNextIo row n × CanAdmitIo op row node) → n ≡ row.done
+admit-number s row n op h = (with-some (λ node. IsNextIo row n × CanAdmitIo op row node) (node_at s row.node) h).1.1.0.number
 
-refuse-number : (s : State) (row : Guest) (n : ℕ) (op : Op) (why : Refused) → With (node_at s row.node) (λ node. IsNext row n × IsRefusedFor op row node why) → n ≡ row.done
-refuse-number s row n op why h = (with-some (λ node. IsNext row n × IsRefusedFor op row node why) (node_at s row.node) h).1.1.0.number
+refuse-number : (s : IoState) (row : IoGuest) (n : ℕ) (op : Op) (why : Refused) → With (node_at s row.node) (λ node. IsNextIo row n × IsRefusedIo op row node why) → n ≡ row.done
+refuse-number s row n op why h = (with-some (λ node. IsNextIo row n × IsRefusedIo op row node why) (node_at s row.node) h).1.1.0.number
 
-module _ (s t : State) (row : Guest) (left : s.table.guests ≡ row ∷ []) (right : t.table.guests ≡ row ∷ []) where
-  same-refusal : (n : ℕ) (op : Op) (a b : Refused) (r q : List ℕ) → line_of guest_names (Refuse 0 n op a) ++ r ≡ line_of guest_names (Refuse 0 n op b) ++ q → a ≡ b
+module _ (s t : IoState) (row : IoGuest) (left : s.table.guests ≡ row ∷ []) (right : t.table.guests ≡ row ∷ []) where
+  same-refusal : (n : ℕ) (op : Op) (a b : Refused) (r q : List ℕ) → entry_line guest_names (Refuse 0 n op a) ++ r ≡ entry_line guest_names (Refuse 0 n op b) ++ q → a ≡ b
   same-refusal n op a b r q e =
       let front = guest_word guest_names 0 ∷ decimal n ∷ op_words op in
       let words = after-verb (codes "refuse") (front ++ refused_word a ∷ []) (front ++ refused_word b ∷ []) r q e in
@@ -288,7 +288,7 @@ module _ (s t : State) (row : Guest) (left : s.table.guests ≡ row ∷ []) (rig
       one-cause a b (first-word (refused_word a) (refused_word b) [] [] r q (cause-word a) (cause-word b) last).0
 
   same-piece : (n k : ℕ) (outcome other : Outcome) (got shown : List ℕ) (f : Flight) → IsInTurn f k outcome got → IsInTurn f k other shown → IsSmall (Piece 0 n k outcome got) → IsSmall (Piece 0 n k other shown)
-      → (r q : List ℕ) → line_of guest_names (Piece 0 n k outcome got) ++ r ≡ line_of guest_names (Piece 0 n k other shown) ++ q → Piece 0 n k outcome got ≡ Piece 0 n k other shown
+      → (r q : List ℕ) → entry_line guest_names (Piece 0 n k outcome got) ++ r ≡ entry_line guest_names (Piece 0 n k other shown) ++ q → Piece 0 n k outcome got ≡ Piece 0 n k other shown
   same-piece n k outcome other got shown f fa fb sa sb r q e =
       let front = guest_word guest_names 0 ∷ decimal n ∷ decimal k ∷ [] in
       let all = after-verb (codes "piece") (guest_word guest_names 0 ∷ decimal n ∷ decimal k ∷ outcome_words outcome got)
@@ -303,28 +303,28 @@ module _ (s t : State) (row : Guest) (left : s.table.guests ≡ row ∷ []) (rig
       rw (outcomes, bytes) refl
 
   same-entry : (e f : Event) (es fs : List Event) → verb_of e ≡ verb_of f → FitsUnread s e → FitsUnread t f → asked_by 0 (e ∷ es) ≡ asked_by 0 (f ∷ fs) → IsSmall e → IsSmall f
-      → (r q : List ℕ) → line_of guest_names e ++ r ≡ line_of guest_names f ++ q → e ≡ f
+      → (r q : List ℕ) → entry_line guest_names e ++ r ≡ entry_line guest_names f ++ q → e ≡ f
   unfolding verb_of
   same-entry (Admit g n op) (Admit g2 n2 op2) es fs verbs fe ff asked se sf r q e =
-      let a = the-row s row g (λ row. With (node_at s row.node) (λ node. IsNext row n × CanAdmit op row node)) left fe in
-      let b = the-row t row g2 (λ row. With (node_at t row.node) (λ node. IsNext row n2 × CanAdmit op2 row node)) right ff in
+      let a = the-row s row g (λ row. With (node_at s row.node) (λ node. IsNextIo row n × CanAdmitIo op row node)) left fe in
+      let b = the-row t row g2 (λ row. With (node_at t row.node) (λ node. IsNextIo row n2 × CanAdmitIo op2 row node)) right ff in
       let number : n ≡ n2 = admit-number s row n op a.1 ∙ sym (admit-number t row n2 op2 b.1) in
       let ops : op ≡ op2 = asked-admit n n2 op op2 es fs
       (subst (λ (x : ℕ). asked_by 0 (Admit x n op ∷ es) ≡ asked_by 0 (Admit 0 n2 op2 ∷ fs)) a.0
       (subst (λ (x : ℕ). asked_by 0 (Admit g n op ∷ es) ≡ asked_by 0 (Admit x n2 op2 ∷ fs)) b.0 asked)) in
       rw (a.0, b.0, number, ops) refl
   same-entry (Refuse g n op why) (Refuse g2 n2 op2 why2) es fs verbs fe ff asked se sf r q e =
-      let a = the-row s row g (λ row. With (node_at s row.node) (λ node. IsNext row n × IsRefusedFor op row node why)) left fe in
-      let b = the-row t row g2 (λ row. With (node_at t row.node) (λ node. IsNext row n2 × IsRefusedFor op2 row node why2)) right ff in
+      let a = the-row s row g (λ row. With (node_at s row.node) (λ node. IsNextIo row n × IsRefusedIo op row node why)) left fe in
+      let b = the-row t row g2 (λ row. With (node_at t row.node) (λ node. IsNextIo row n2 × IsRefusedIo op2 row node why2)) right ff in
       let number : n2 ≡ n = refuse-number t row n2 op2 why2 b.1 ∙ sym (refuse-number s row n op why a.1) in
       let ops : op2 ≡ op = sym (asked-refuse n n2 op op2 why why2 es fs
       (subst (λ (x : ℕ). asked_by 0 (Refuse x n op why ∷ es) ≡ asked_by 0 (Refuse 0 n2 op2 why2 ∷ fs)) a.0
       (subst (λ (x : ℕ). asked_by 0 (Refuse g n op why ∷ es) ≡ asked_by 0 (Refuse x n2 op2 why2 ∷ fs)) b.0 asked))) in
-      let lines : line_of guest_names (Refuse 0 n op why) ++ r ≡ line_of guest_names (Refuse 0 n op why2) ++ q =
-      subst (λ (x : ℕ). line_of guest_names (Refuse x n op why) ++ r ≡ line_of guest_names (Refuse 0 n op why2) ++ q) a.0
-      (subst (λ (x : ℕ). line_of guest_names (Refuse g n op why) ++ r ≡ line_of guest_names (Refuse x n op why2) ++ q) b.0
-      (subst (λ (x : ℕ). line_of guest_names (Refuse g n op why) ++ r ≡ line_of guest_names (Refuse g2 x op why2) ++ q) number
-      (subst (λ (x : Op). line_of guest_names (Refuse g n op why) ++ r ≡ line_of guest_names (Refuse g2 n2 x why2) ++ q) ops e))) in
+      let lines : entry_line guest_names (Refuse 0 n op why) ++ r ≡ entry_line guest_names (Refuse 0 n op why2) ++ q =
+      subst (λ (x : ℕ). entry_line guest_names (Refuse x n op why) ++ r ≡ entry_line guest_names (Refuse 0 n op why2) ++ q) a.0
+      (subst (λ (x : ℕ). entry_line guest_names (Refuse g n op why) ++ r ≡ entry_line guest_names (Refuse x n op why2) ++ q) b.0
+      (subst (λ (x : ℕ). entry_line guest_names (Refuse g n op why) ++ r ≡ entry_line guest_names (Refuse g2 x op why2) ++ q) number
+      (subst (λ (x : Op). entry_line guest_names (Refuse g n op why) ++ r ≡ entry_line guest_names (Refuse g2 n2 x why2) ++ q) ops e))) in
       let cause : why ≡ why2 = same-refusal n op why why2 r q lines in
       rw (a.0, b.0, number, ops, cause) refl
   same-entry (Piece g n k outcome got) (Piece g2 n2 k2 outcome2 got2) es fs verbs fe ff asked se sf r q e =
@@ -335,11 +335,11 @@ module _ (s t : State) (row : Guest) (left : s.table.guests ≡ row ∷ []) (rig
       let fb = flight.1.1 in
       let number : n2 ≡ n = fb.0 ∙ sym fa.0 in
       let place : k2 ≡ k = fb.1.next ∙ sym fa.1.next in
-      let lines : line_of guest_names (Piece 0 n k outcome got) ++ r ≡ line_of guest_names (Piece 0 n k outcome2 got2) ++ q =
-      subst (λ (x : ℕ). line_of guest_names (Piece x n k outcome got) ++ r ≡ line_of guest_names (Piece 0 n k outcome2 got2) ++ q) a.0
-      (subst (λ (x : ℕ). line_of guest_names (Piece g n k outcome got) ++ r ≡ line_of guest_names (Piece x n k outcome2 got2) ++ q) b.0
-      (subst (λ (x : ℕ). line_of guest_names (Piece g n k outcome got) ++ r ≡ line_of guest_names (Piece g2 x k outcome2 got2) ++ q) number
-      (subst (λ (x : ℕ). line_of guest_names (Piece g n k outcome got) ++ r ≡ line_of guest_names (Piece g2 n2 x outcome2 got2) ++ q) place e))) in
+      let lines : entry_line guest_names (Piece 0 n k outcome got) ++ r ≡ entry_line guest_names (Piece 0 n k outcome2 got2) ++ q =
+      subst (λ (x : ℕ). entry_line guest_names (Piece x n k outcome got) ++ r ≡ entry_line guest_names (Piece 0 n k outcome2 got2) ++ q) a.0
+      (subst (λ (x : ℕ). entry_line guest_names (Piece g n k outcome got) ++ r ≡ entry_line guest_names (Piece x n k outcome2 got2) ++ q) b.0
+      (subst (λ (x : ℕ). entry_line guest_names (Piece g n k outcome got) ++ r ≡ entry_line guest_names (Piece g2 x k outcome2 got2) ++ q) number
+      (subst (λ (x : ℕ). entry_line guest_names (Piece g n k outcome got) ++ r ≡ entry_line guest_names (Piece g2 n2 x outcome2 got2) ++ q) place e))) in
       let same = same-piece n k outcome outcome2 got got2 flight.0 fa.1 (subst (λ (x : ℕ). IsInTurn flight.0 x outcome2 got2) place fb.1) se sf r q lines in
       ap (λ (x : ℕ). Piece x n k outcome got) a.0 ∙ same ∙ ap (λ (x : ℕ). Piece 0 x k outcome2 got2) (sym number) ∙ ap (λ (x : ℕ). Piece 0 n2 x outcome2 got2) (sym place)
       ∙ ap (λ (x : ℕ). Piece x n2 k2 outcome2 got2) (sym b.0)
@@ -359,24 +359,24 @@ module _ (s t : State) (row : Guest) (left : s.table.guests ≡ row ∷ []) (rig
 
 -- ---- histories
 
-all-same : (h k : List Event) (s t : State) (row : Guest) → s.table.guests ≡ row ∷ [] → t.table.guests ≡ row ∷ [] → GoesInTurn s h → GoesInTurn t k → asked_by 0 h ≡ asked_by 0 k
-    → All IsSmall h → All IsSmall k → flat_map (line_of guest_names) h ≡ flat_map (line_of guest_names) k → h ≡ k
+all-same : (h k : List Event) (s t : IoState) (row : IoGuest) → s.table.guests ≡ row ∷ [] → t.table.guests ≡ row ∷ [] → GoesInTurn s h → GoesInTurn t k → asked_by 0 h ≡ asked_by 0 k
+    → All IsSmall h → All IsSmall k → flat_map (entry_line guest_names) h ≡ flat_map (entry_line guest_names) k → h ≡ k
 all-same [] [] s t row left right lh lk asked sh sk e = refl
-all-same [] (f ∷ fs) s t row left right lh lk asked sh sk e = absurd (line-there guest_names f (flat_map (line_of guest_names) fs) e)
-all-same (x ∷ es) [] s t row left right lh lk asked sh sk e = absurd (line-there guest_names x (flat_map (line_of guest_names) es) (sym e))
+all-same [] (f ∷ fs) s t row left right lh lk asked sh sk e = absurd (line-there guest_names f (flat_map (entry_line guest_names) fs) e)
+all-same (x ∷ es) [] s t row left right lh lk asked sh sk e = absurd (line-there guest_names x (flat_map (entry_line guest_names) es) (sym e))
 all-same (x ∷ es) (f ∷ fs) s t row left right lh lk asked sh sk e =
-    let r = flat_map (line_of guest_names) es in
-    let q = flat_map (line_of guest_names) fs in
+    let r = flat_map (entry_line guest_names) es in
+    let q = flat_map (entry_line guest_names) fs in
     let verbs : verb_of x ≡ verb_of f = sym (verb-told guest_names x r (of-no-job s x lh.0)) ∙ ap verb_in e ∙ verb-told guest_names f q (of-no-job t f lk.0) in
     let same : x ≡ f = same-entry s t row left right x f es fs verbs lh.0 lk.0 asked (All-head IsSmall x es sh) (All-head IsSmall f fs sk) r q e in
-    let rest : r ≡ q = append_cancel_left (line_of guest_names x) r q (e ∙ ap (λ y. line_of guest_names y ++ q) (sym same)) in
+    let rest : r ≡ q = append_cancel_left (entry_line guest_names x) r q (e ∙ ap (λ y. entry_line guest_names y ++ q) (sym same)) in
     let asked-on : asked_by 0 es ≡ asked_by 0 fs = asked-rest x es fs (subst (λ y. asked_by 0 (x ∷ es) ≡ asked_by 0 (y ∷ fs)) (sym same) asked) in
     let tails : es ≡ fs =
-    all-same es fs (after s x) (after t x) (next-row x row) (after-row s row x left) (after-row t row x right) lh.1 (subst (λ y. GoesInTurn (after t y) fs) (sym same) lk.1) asked-on
+    all-same es fs (io_after s x) (io_after t x) (next-row x row) (after-row s row x left) (after-row t row x right) lh.1 (subst (λ y. GoesInTurn (io_after t y) fs) (sym same) lk.1) asked-on
     (All-tail IsSmall x es sh) (All-tail IsSmall f fs sk) rest in
     ap (λ y. y ∷ es) same ∙ ap (λ ys. f ∷ ys) tails
 
-pub one-in-turn : (a b : State) (row : Guest) (ops : List Op) (text : List ℕ) (h k : List Event) → a.table.guests ≡ row ∷ [] → b.table.guests ≡ row ∷ []
+pub one-in-turn : (a b : IoState) (row : IoGuest) (ops : List Op) (text : List ℕ) (h k : List Event) → a.table.guests ≡ row ∷ [] → b.table.guests ≡ row ∷ []
     → PrintsInTurn a ops text h → PrintsInTurn b ops text k → h ≡ k
 unfolding transcript
 one-in-turn a b row ops text h k left right ph pk =

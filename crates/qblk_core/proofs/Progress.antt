@@ -11,7 +11,7 @@ use Rattle.trace_codec.specs.declared.op.Op.TheVariants.{Read, Write, Zero, Flus
 use Rattle.trace_codec.specs.Request.{pieces_of}
 use Rattle.blk_history.specs.Disk.{piece}
 use Rattle.blk_history.specs.Fold.{With}
-use Rattle.blk_history.specs.Machine.{Flight, Guest, one_further, past_piece}
+use Rattle.blk_history.specs.Machine.{Flight, IoGuest, one_further, io_past_piece}
 use Rattle.blk_history.specs.Legal.{IsOver}
 use Rattle.blk_history.specs.Owned.{asked_by}
 use Rattle.blk_history.specs.Recorded.{Recorded}
@@ -67,8 +67,8 @@ over-with : (flight : Option Flight) (f : Flight) → flight ≡ Some f → IsOv
 over-with flight f is over = at-with flight f IsOver is over
 
 -- the flight after a piece
-flight-after : (outcome : Outcome) (now v : SessionSeen) (f : Flight) → now.guest.flight ≡ Some f → v.guest ≡ past_piece outcome now.guest → v.guest.flight ≡ Some (one_further outcome f)
-flight-after outcome now v f is guest = ap (λ (g : Guest). g.flight) guest ∙ ap (option_map (one_further outcome)) is
+flight-after : (outcome : Outcome) (now v : SessionSeen) (f : Flight) → now.guest.flight ≡ Some f → v.guest ≡ io_past_piece outcome now.guest → v.guest.flight ≡ Some (one_further outcome f)
+flight-after outcome now v f is guest = ap (λ (g : IoGuest). g.flight) guest ∙ ap (option_map (one_further outcome)) is
 
 pub next-piece : (old now v : SessionSeen) (k : ℕ) (f : Flight) (outcome : Outcome) (got : List ℕ) → f.is_stopped ≡ false → k < pieces_of f.op → AtPiece old now k f → PutsPiece now v (record f { next = k }) outcome got → is_good outcome ≡ true → ((o : Nodes) → ComesFrom o now → ComesFrom o v) → AtPiece old v (k + 1) f
 next-piece old now v k f outcome got running below at puts good comes =
@@ -81,7 +81,7 @@ next-piece old now v k f outcome got running below at puts good comes =
     let stays : not (is_good outcome) ≡ f.is_stopped = ap not good ∙ sym running in
     record {
       flight = after ∙ ap (λ b. Some (record { op = f.op; next = k + 1; is_stopped = b })) stays;
-      done = ap (λ (g : Guest). g.done) puts.guest ∙ at.done;
+      done = ap (λ (g : IoGuest). g.done) puts.guest ∙ at.done;
       asked = ap (λ (l : Recorded). asked_by 0 l.events) log ∙ asked-piece now.log.events now.guest.done k outcome got ∙ at.asked;
       room = omega arith;
       byte_room = omega arith;
@@ -99,7 +99,7 @@ last-piece old now v k f outcome got below at puts bad comes =
     let after = flight-after outcome now v (record f { next = k }) at.flight puts.guest in
     record {
       over = over-with v.guest.flight _ after (inr (ap not bad));
-      done = ap (λ (g : Guest). g.done) puts.guest ∙ at.done;
+      done = ap (λ (g : IoGuest). g.done) puts.guest ∙ at.done;
       asked = ap (λ (l : Recorded). asked_by 0 l.events) log ∙ asked-piece now.log.events now.guest.done k outcome got ∙ at.asked;
       room = omega arith;
       byte_room = omega arith;

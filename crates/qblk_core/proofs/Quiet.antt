@@ -2,7 +2,7 @@
 use Rattle.std.proofs.Common.{◌≡◌, ℕ, ◌<◌, ◌≤◌, List, [], ◌∷◌, refl, ap, subst, arith, Option, Some, None}
 use Rattle.std.specs.Prelude.{min, get_or}
 use Rattle.blk_base.specs.Counts.{HasFailedSince}
-use Rattle.blk_history.specs.Licence.{Named, named_in, last_named, RoseSince, counted, NameRises, NameNone}
+use Rattle.blk_history.specs.Licence.{Named, device_fault_in, last_named, RoseSince, counted, NameRises, NameNone}
 use Rattle.blk_history.specs.declared.event.Event.{Event}
 
 -- the count after an entry
@@ -33,21 +33,21 @@ first-of (c ∷ cs) = c
 pub grows : (c count : ℕ) (h : List Event) → NameRises (c ∷ []) h → counted (c ∷ []) h ≡ count ∷ [] → min c 18446744073709551615 ≤ count
 grows c count [] risen same = let is : c ≡ count = ap first-of same in omega arith
 grows c count (e ∷ es) risen same =
-    let s = step-of c (named_in e) risen.0 in
+    let s = step-of c (device_fault_in e) risen.0 in
     let R : List ℕ → Type 0 = λ cs. NameRises cs es in
     let C : List ℕ → Type 0 = λ cs. counted cs es ≡ count ∷ [] in
     let rest = grows s.0 count es (subst R s.1 risen.1) (subst C s.1 same) in
-    let more = step-grows c s.0 (named_in e) s.2 in
+    let more = step-grows c s.0 (device_fault_in e) s.2 in
     omega arith
 
 pub quiet : (c count : ℕ) (h : List Event) → NameRises (c ∷ []) h → counted (c ∷ []) h ≡ count ∷ [] → count ≤ c → c < 18446744073709551615 → NameNone h
 quiet c count [] risen same le below = tt
 quiet c count (e ∷ es) risen same le below =
-    let s = step-of c (named_in e) risen.0 in
+    let s = step-of c (device_fault_in e) risen.0 in
     let R : List ℕ → Type 0 = λ cs. NameRises cs es in
     let C : List ℕ → Type 0 = λ cs. counted cs es ≡ count ∷ [] in
     let risen-on : NameRises (s.0 ∷ []) es = subst R s.1 risen.1 in
     let same-on : counted (s.0 ∷ []) es ≡ count ∷ [] = subst C s.1 same in
     let rest = grows s.0 count es risen-on same-on in
-    let more = step-grows c s.0 (named_in e) s.2 in
-    (still c s.0 (named_in e) s.2 (omega arith) below, quiet s.0 count es risen-on same-on (omega arith) (omega arith))
+    let more = step-grows c s.0 (device_fault_in e) s.2 in
+    (still c s.0 (device_fault_in e) s.2 (omega arith) below, quiet s.0 count es risen-on same-on (omega arith) (omega arith))

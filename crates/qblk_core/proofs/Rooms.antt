@@ -10,8 +10,8 @@ use Rattle.trace_codec.specs.declared.op.Op.{Op}
 use Rattle.trace_codec.specs.declared.op.Op.TheVariants.{Read, Write, Zero, Flush, Discard}
 use Rattle.blk_history.specs.Disk.{piece, payload_in}
 use Rattle.blk_history.specs.Fold.{With, change}
-use Rattle.blk_history.specs.Licence.{NameNone, named_by, named_in}
-use Rattle.blk_history.specs.Machine.{State, Guest, Flight, guest_at, after, admitted, finished, past_piece, with_piece, piece_done}
+use Rattle.blk_history.specs.Licence.{NameNone, device_fault_by, device_fault_in}
+use Rattle.blk_history.specs.Machine.{IoState, IoGuest, Flight, io_guest_at, io_after, io_admitted, io_finished, io_past_piece, with_io_piece, piece_done}
 use Rattle.blk_history.specs.declared.event.Event.{Event}
 use Rattle.blk_history.specs.declared.event.Event.TheVariants.{Admit, Refuse, Piece, Retire, Reply, Reached, Start, Ready, End, Done}
 use Rattle.blk_history.proofs.Folds.{with-some}
@@ -36,36 +36,36 @@ use Rattle.qblk_core.proofs.OneImage.{StandsAlone, stands-alone, none-met-alone,
 
 -- ---- the guest is on the image's node
 
-abbrev AreOnImage : List Guest → Type 0
+abbrev AreOnImage : List IoGuest → Type 0
 AreOnImage [] = Unit {0}
 AreOnImage (row ∷ rows) = (row.node ≡ 1) × AreOnImage rows
 
-on-at : (rows : List Guest) (g : ℕ) (row : Guest) → slice_get rows g ≡ Some row → AreOnImage rows → row.node ≡ 1
+on-at : (rows : List IoGuest) (g : ℕ) (row : IoGuest) → slice_get rows g ≡ Some row → AreOnImage rows → row.node ≡ 1
 on-at [] g row is on = absurd (let bad : ⊥ = cc is in bad)
-on-at (x ∷ rows) zero row is on = let same : x ≡ row = cc is in ap (λ (r : Guest). r.node) (sym same) ∙ on.0
+on-at (x ∷ rows) zero row is on = let same : x ≡ row = cc is in ap (λ (r : IoGuest). r.node) (sym same) ∙ on.0
 on-at (x ∷ rows) (suc g) row is on = on-at rows g row is on.1
 
-on-change : (g : ℕ) (f : Guest → Guest) (rows : List Guest) → ((row : Guest) → (f row).node ≡ row.node) → AreOnImage rows → AreOnImage (change g f rows)
+on-change : (g : ℕ) (f : IoGuest → IoGuest) (rows : List IoGuest) → ((row : IoGuest) → (f row).node ≡ row.node) → AreOnImage rows → AreOnImage (change g f rows)
 on-change g f [] keeps on = tt
 on-change zero f (x ∷ rows) keeps on = (keeps x ∙ on.0, on.1)
 on-change (suc g) f (x ∷ rows) keeps on = (on.0, on-change g f rows keeps on.1)
 
 -- a piece changes no guest but in its flight
-guests-by : (node : ℕ) (flight : Option Flight) (k : ℕ) (outcome : Outcome) (s : State) → (with_piece node flight k outcome s).table.guests ≡ s.table.guests
+guests-by : (node : ℕ) (flight : Option Flight) (k : ℕ) (outcome : Outcome) (s : IoState) → (with_io_piece node flight k outcome s).table.guests ≡ s.table.guests
 guests-by node None k outcome s = refl
 guests-by node (Some f) k outcome s = refl
 
-guests-done : (found : Option Guest) (k : ℕ) (outcome : Outcome) (s : State) → (piece_done found k outcome s).table.guests ≡ s.table.guests
+guests-done : (found : Option IoGuest) (k : ℕ) (outcome : Outcome) (s : IoState) → (piece_done found k outcome s).table.guests ≡ s.table.guests
 guests-done None k outcome s = refl
 guests-done (Some row) k outcome s = guests-by row.node row.flight k outcome s
 
-on-after : (s : State) (e : Event) → AreOnImage s.table.guests → AreOnImage (after s e).table.guests
-on-after s (Admit g r op) on = on-change g (admitted op) s.table.guests (λ row. refl) on
-on-after s (Refuse g r op why) on = on-change g finished s.table.guests (λ row. refl) on
+on-after : (s : IoState) (e : Event) → AreOnImage s.table.guests → AreOnImage (io_after s e).table.guests
+on-after s (Admit g r op) on = on-change g (io_admitted op) s.table.guests (λ row. refl) on
+on-after s (Refuse g r op why) on = on-change g io_finished s.table.guests (λ row. refl) on
 on-after s (Piece g r k outcome got) on =
-    on-change g (past_piece outcome) (piece_done (guest_at s g) k outcome s).table.guests (λ row. refl)
-    (subst AreOnImage (sym (guests-done (guest_at s g) k outcome s)) on)
-on-after s (Retire g r) on = on-change g finished s.table.guests (λ row. refl) on
+    on-change g (io_past_piece outcome) (piece_done (io_guest_at s g) k outcome s).table.guests (λ row. refl)
+    (subst AreOnImage (sym (guests-done (io_guest_at s g) k outcome s)) on)
+on-after s (Retire g r) on = on-change g io_finished s.table.guests (λ row. refl) on
 on-after s (Reply line given command text) on = on
 on-after s (Reached line what) on = on
 on-after s (Start job) on = on
@@ -131,7 +131,7 @@ module _ (old new : Nodes) (was now : ℕ) (alone : StandsAlone was now old) (pa
 
 -- it is good where it names no fault
 piece-good : (old new : Nodes) (was now : ℕ) → StandsAlone was now old → (op : Op) (part : Extent) (outcome : Outcome) (buffer : List ℕ)
-    → Transfers op old new 1 1 part outcome buffer → HasRoomOn old 1 op part → named_by outcome ≡ None → outcome ≡ Good
+    → Transfers op old new 1 1 part outcome buffer → HasRoomOn old 1 op part → device_fault_by outcome ≡ None → outcome ≡ Good
 piece-good old new was now alone op part Good buffer did room none = refl
 piece-good old new was now alone op part (Torn done dev count) buffer did room none = absurd (let bad : ⊥ = cc none in bad)
 piece-good old new was now alone op part (Io dev count) buffer did room none = absurd (let bad : ⊥ = cc none in bad)
@@ -139,10 +139,10 @@ piece-good old new was now alone op part (NoSpace dev) buffer did room none = ab
 
 -- ---- each entry
 
-step-good : (s : State) (e : Event) (old next : Nodes) (was now : ℕ) → AreOnImage s.table.guests → StandsAlone was now old → IsStepOf s e old next → HasRoomForEntry s old e
-    → named_in e ≡ None → RowsAfter old next × IsGoodIfPiece e
+step-good : (s : IoState) (e : Event) (old next : Nodes) (was now : ℕ) → AreOnImage s.table.guests → StandsAlone was now old → IsStepOf s e old next → HasRoomForEntry s old e
+    → device_fault_in e ≡ None → RowsAfter old next × IsGoodIfPiece e
 step-good s (Piece g r k outcome got) old next was now on alone step room none =
-    let row = with-some (λ (row : Guest). With row.flight (λ (f : Flight). IsPieceStep f.op old next row.node (piece f.op k) outcome got)) (guest_at s g) step in
+    let row = with-some (λ (row : IoGuest). With row.flight (λ (f : Flight). IsPieceStep f.op old next row.node (piece f.op k) outcome got)) (io_guest_at s g) step in
     let f = with-some (λ (f : Flight). IsPieceStep f.op old next row.0.node (piece f.op k) outcome got) row.0.flight row.1.1 in
     let node : row.0.node ≡ 1 = on-at s.table.guests g row.0 row.1.0 on in
     let made = f.1.1.made in
@@ -162,13 +162,13 @@ step-good s (Ready job) old next was now on alone step room none = (rows_same ol
 step-good s (End job outcome offset) old next was now on alone step room none = (rows_same old next step, tt)
 step-good s (Done actor) old next was now on alone step room none = (rows_same old next step, tt)
 
-all-good : (s : State) (old new : Nodes) (was now : ℕ) (h : List Event) (along : HaveNodes s old h new) → AreOnImage s.table.guests → StandsAlone was now old
+all-good : (s : IoState) (old new : Nodes) (was now : ℕ) (h : List Event) (along : HaveNodes s old h new) → AreOnImage s.table.guests → StandsAlone was now old
     → HaveRoomAlong s old h new along → NameNone h → ArePiecesGood h
 all-good s old new was now [] along on alone room none = tt
 all-good s old new was now (e ∷ es) along on alone room none =
     let step = step-good s e old along.0 was now on alone along.1 room.0 none.0 in (
       step.1,
-      all-good (after s e) along.0 new was now es along.2 (on-after s e on) (alone-after old along.0 was now alone step.0) room.1 none.1,
+      all-good (io_after s e) along.0 new was now es along.2 (on-after s e on) (alone-after old along.0 was now alone step.0) room.1 none.1,
     )
 
 pub pieces-good : (format : Format) (image : List ℕ) (ops : List Op) (flushed : Bool) (old new : Outside) (h : List Event) (before now : ℕ)

@@ -6,7 +6,7 @@ use Rattle.blk_base.specs.Counts.{Rose}
 use Rattle.blk_base.specs.Written.{Written, memory_of}
 use Rattle.blk_history.specs.Names.{RowNames}
 use Rattle.blk_history.specs.Line.{IsActorNamed, line_room, Appends}
-use Rattle.blk_history.specs.Transcript.{line_of, transcript}
+use Rattle.blk_history.specs.Transcript.{entry_line, transcript}
 use Rattle.blk_history.specs.declared.event.Event.{Event}
 use Rattle.blk_history.specs.declared.event.Event.TheVariants.{Admit, Refuse, Piece, Retire}
 use Rattle.qblk_core.specs.Comes.{HasLine, HaveLines}
@@ -100,20 +100,20 @@ at-ok (Ok y) x P is p = p
 at-ok (Err e) x P is p = let bad : ⊥ = cc is in absurd bad
 
 abbrev lines : RowNames → List Event → List ℕ
-lines names es = flat_map (line_of names) es
+lines names es = flat_map (entry_line names) es
 
 -- one line more
-pub lines-next : (names : RowNames) (es : List Event) (at : ℕ) (e : Event) → slice_get es at ≡ Some e → lines names (take (at + 1) es) ≡ lines names (take at es) ++ line_of names e
+pub lines-next : (names : RowNames) (es : List Event) (at : ℕ) (e : Event) → slice_get es at ≡ Some e → lines names (take (at + 1) es) ≡ lines names (take at es) ++ entry_line names e
 lines-next names [] at e is = let bad : ⊥ = cc is in absurd bad
-lines-next names (x ∷ es) zero e is = let same : x ≡ e = cc is in append-nil (line_of names x) ∙ ap (line_of names) same
-lines-next names (x ∷ es) (suc at) e is = let next : suc at + 1 ≡ suc (at + 1) = omega arith in rw next (ap (λ bs. line_of names x ++ bs) (lines-next names es at e is) ∙ sym (append_assoc (line_of names x) (lines names (take at es)) (line_of names e)))
+lines-next names (x ∷ es) zero e is = let same : x ≡ e = cc is in append-nil (entry_line names x) ∙ ap (entry_line names) same
+lines-next names (x ∷ es) (suc at) e is = let next : suc at + 1 ≡ suc (at + 1) = omega arith in rw next (ap (λ bs. entry_line names x ++ bs) (lines-next names es at e is) ∙ sym (append_assoc (entry_line names x) (lines names (take at es)) (entry_line names e)))
 
 -- all lines are the first, and the rest
 lines-all : (names : RowNames) (es : List Event) (n : ℕ) → lines names (take n es) ++ lines names (drop n es) ≡ lines names es
 lines-all names [] zero = refl
 lines-all names [] (suc n) = refl
 lines-all names (x ∷ es) zero = refl
-lines-all names (x ∷ es) (suc n) = append_assoc (line_of names x) (lines names (take n es)) (lines names (drop n es)) ∙ ap (λ bs. line_of names x ++ bs) (lines-all names es n)
+lines-all names (x ∷ es) (suc n) = append_assoc (entry_line names x) (lines names (take n es)) (lines names (drop n es)) ∙ ap (λ bs. entry_line names x ++ bs) (lines-all names es n)
 
 -- one part after another
 pub part-next : (memory : ℕ) (old mid new : Option (List ℕ)) (whole more : List ℕ) (before now : Written) → SendsPart memory old mid whole before → SendsPart (memory_of before) mid new (before.bytes ++ more) now → SendsPart memory old new (whole ++ more) now
@@ -146,11 +146,11 @@ front-more old new whole more a b front = record {
 
 -- at a line that failed, a front of the whole transcript is out
 pub line-failed : (names : RowNames) (memory : ℕ) (es : List Event) (at : ℕ) (e : Event) (old mid new : Option (List ℕ)) (before : Written) (a b c : ℕ) → slice_get es at ≡ Some e → SendsPart memory old mid (lines names (take at es)) before
-    → SendsFront mid new (before.bytes ++ line_of names e) b c → b ≡ a → SendsFront old new (transcript names es) a c
+    → SendsFront mid new (before.bytes ++ entry_line names e) b c → b ≡ a → SendsFront old new (transcript names es) a c
 unfolding transcript
 line-failed names memory es at e old mid new before a b c is part front same =
-    let here = part-front memory old mid new (lines names (take at es)) (line_of names e) before a b c part front same in
-    let whole : (lines names (take at es) ++ line_of names e) ++ lines names (drop (at + 1) es) ≡ lines names es = ap (λ bs. bs ++ lines names (drop (at + 1) es)) (sym (lines-next names es at e is)) ∙ lines-all names es (at + 1) in
+    let here = part-front memory old mid new (lines names (take at es)) (entry_line names e) before a b c part front same in
+    let whole : (lines names (take at es) ++ entry_line names e) ++ lines names (drop (at + 1) es) ≡ lines names es = ap (λ bs. bs ++ lines names (drop (at + 1) es)) (sym (lines-next names es at e is)) ∙ lines-all names es (at + 1) in
     let P : List ℕ → Type 0 = λ w. SendsFront old new w a c in
     subst P whole (front-more old new _ (lines names (drop (at + 1) es)) a c here)
 

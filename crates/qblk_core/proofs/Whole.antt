@@ -14,8 +14,8 @@ use Rattle.blk_base.specs.declared.fault.FaultFrom.{FaultFrom}
 use Rattle.blk_base.specs.declared.fault.FaultFrom.TheVariants.{Store, Dev, Sink}
 use Rattle.blk_base.proofs.Openings.{put-same}
 use Rattle.trace_codec.specs.Trace.{ops_of}
-use Rattle.blk_history.specs.Machine.{State, Guest, disk_in, replay}
-use Rattle.blk_history.specs.Legal.{Legal}
+use Rattle.blk_history.specs.Machine.{IoState, IoGuest, disk_in, io_replay}
+use Rattle.blk_history.specs.Legal.{LegalIo}
 use Rattle.blk_history.specs.Owned.{asked_by}
 use Rattle.blk_history.specs.Licence.{RoseSince}
 use Rattle.blk_history.specs.Small.{IsSmall}
@@ -80,7 +80,7 @@ untouched image d (Some files) sized is =
     returned-told image d.content d.capacity d.is_flushed files f.bytes f.capacity f.is_flushed told.1.content told.1.capacity told.1.flushed
     ∙ ap (λ (fs : List File). Some fs) (put-same image f files told.1.file)
 
-idle-all : (row : Guest) → row.flight ≡ None → (k : ℕ) (d : Guest) → k < 1 → (slice_index_or (row ∷ []) k d).flight ≡ None
+idle-all : (row : IoGuest) → row.flight ≡ None → (k : ℕ) (d : IoGuest) → k < 1 → (slice_index_or (row ∷ []) k d).flight ≡ None
 idle-all row is zero d below = is
 idle-all row is (suc k) d below = absurd (omega arith)
 
@@ -118,7 +118,7 @@ tells-disk : (format : Format) (image : List ℕ) (bytes : List ℕ) (d n : Devi
 tells-disk format image bytes d n w fault files new f told made returned =
     let machine : machine_on made.first ≡ machine_of format f.bytes = (made.good f.bytes told.content).1 in
     let facts = closed-of format bytes d n w fault made in
-    let opened : told_disk made.first ≡ Some (disk_by_format format f.bytes) = ap (λ (s : State). disk_in s.disks 1) machine in
+    let opened : told_disk made.first ≡ Some (disk_by_format format f.bytes) = ap (λ (s : IoState). disk_in s.disks 1) machine in
     let disk = made.comes.told (disk_by_format format f.bytes) opened in
     let held = told-is (content_of w.nodes) (disk_of w.nodes 1) disk.0 disk.1 in
     let content : n.content ≡ Some held.0 = sym facts.content ∙ held.1 in
@@ -135,9 +135,9 @@ tells-disk format image bytes d n w fault files new f told made returned =
     let room : Some n.capacity ≡ Some d.capacity =
     sym facts.capacity ∙ made.comes.shape.capacity ∙ capacity-is made.first first.device first.only first.node ∙ ap (λ (x : DeviceSeen). Some x.capacity) first_d in
     let capacity : n.capacity ≡ f.capacity = (let same : n.capacity ≡ d.capacity = cc room in same ∙ told.capacity) in
-    let L : State → Type 0 = λ s. Legal s w.log.events in
-    let R : State → Type 0 = λ s. replay s w.log.events ≡ state_of w in
-    let replayed : replay (machine_of format f.bytes) w.log.events ≡ state_of w = subst R machine made.comes.replay in
+    let L : IoState → Type 0 = λ s. LegalIo s w.log.events in
+    let R : IoState → Type 0 = λ s. io_replay s w.log.events ≡ state_of w in
+    let replayed : io_replay (machine_of format f.bytes) w.log.events ≡ state_of w = subst R machine made.comes.replay in
     record {
       file = told.file;
       opened = record { content = told.content; is_flushed = told.flushed; size = told.size; capacity = told.capacity };

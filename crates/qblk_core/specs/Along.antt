@@ -8,8 +8,8 @@ use Rattle.trace_codec.specs.declared.op.Op.{Op}
 use Rattle.trace_codec.specs.Request.{pieces_of}
 use Rattle.blk_history.specs.Disk.{is_write, piece}
 use Rattle.blk_history.specs.Fold.{Each, With}
-use Rattle.blk_history.specs.Legal.{Fits}
-use Rattle.blk_history.specs.Machine.{State, Flight, guest_at, after}
+use Rattle.blk_history.specs.Legal.{FitsIo}
+use Rattle.blk_history.specs.Machine.{IoState, Flight, io_guest_at, io_after}
 use Rattle.blk_history.specs.declared.event.Event.{Event}
 use Rattle.blk_history.specs.declared.event.Event.TheVariants.{Piece}
 use Rattle.blk_nodes.specs.Nodes.{Nodes}
@@ -33,16 +33,16 @@ pub record IsPieceStep (op : Op) (old new : Nodes) (node : ℕ) (part : Extent) 
   pub count : CountsOutcome (device_faults old) (device_faults new) outcome
 
 -- what an entry makes of the nodes: only a piece changes them, on its guest's node
-abbrev pub IsStepOf : State → Event → Nodes → Nodes → Type 0
-IsStepOf s (Piece g r k outcome got) old new = With (guest_at s g) (λ row.
+abbrev pub IsStepOf : IoState → Event → Nodes → Nodes → Type 0
+IsStepOf s (Piece g r k outcome got) old new = With (io_guest_at s g) (λ row.
     With row.flight (λ f. IsPieceStep f.op old new row.node (piece f.op k) outcome got))
 IsStepOf s e old new = new ≡ old
 
 -- so it went on, entry by entry, from the first to the last
-abbrev pub HaveNodes : State → Nodes → List Event → Nodes → Type 0
+abbrev pub HaveNodes : IoState → Nodes → List Event → Nodes → Type 0
 HaveNodes s old [] new = new ≡ old
 HaveNodes s old (e ∷ es) new =
-    (next : Nodes) × IsStepOf s e old next × HaveNodes (after s e) next es new
+    (next : Nodes) × IsStepOf s e old next × HaveNodes (io_after s e) next es new
 
 -- only a write is torn, behind some of its bytes and not all
 abbrev pub HasForm : Outcome → Op → Extent → Type 0
@@ -65,12 +65,12 @@ pub record IsInTurn (f : Flight) (k : ℕ) (outcome : Outcome) (got : List ℕ) 
   pub shown : ShowsOf outcome f.op (piece f.op k) got
 
 -- the entry fits the state before it, but for what the bytes are that are read
-abbrev pub FitsUnread : State → Event → Type 0
-FitsUnread s (Piece g r k outcome got) = With (guest_at s g) (λ row.
+abbrev pub FitsUnread : IoState → Event → Type 0
+FitsUnread s (Piece g r k outcome got) = With (io_guest_at s g) (λ row.
     With row.flight (λ f. (r ≡ row.done) × IsInTurn f k outcome got))
-FitsUnread s e = Fits s e
+FitsUnread s e = FitsIo s e
 
 -- Requests are admitted or refused for their cause in order, their pieces made in order up to the first that isn't good, and
 -- they are retired then and not sooner.
-abbrev pub GoesInTurn : State → List Event → Type 0
-GoesInTurn = Each after FitsUnread
+abbrev pub GoesInTurn : IoState → List Event → Type 0
+GoesInTurn = Each io_after FitsUnread

@@ -1,8 +1,8 @@
 -- What a run of a trace keeps, from its opening on.
 use Rattle.std.specs.Prelude.{◌≡◌, ℕ, ◌≤◌, false, length, List, [], ◌∷◌, Some}
 use Rattle.blk_history.specs.Line.{IsOfGuest, shown_by}
-use Rattle.blk_history.specs.Machine.{replay}
-use Rattle.blk_history.specs.Legal.{Legal}
+use Rattle.blk_history.specs.Machine.{io_replay}
+use Rattle.blk_history.specs.Legal.{LegalIo}
 use Rattle.blk_history.specs.Licence.{counted, NameRises}
 use Rattle.blk_history.specs.Small.{IsSmall}
 use Rattle.blk_history.specs.declared.event.Event.{Event}
@@ -36,10 +36,10 @@ pub record ComesFrom (first : Nodes) (w : SessionSeen) : Type 0 where
   pub licensed : NameAllRises first w
   pub along : HaveNodes (machine_on first) first w.log.events w.nodes
   pub lines : HaveLines w.log.events
-  pub replay : replay (machine_on first) w.log.events ≡ state_of w
+  pub replay : io_replay (machine_on first) w.log.events ≡ state_of w
   pub in_turn : GoesInTurn (machine_on first) w.log.events
   -- where the device tells its bytes
   pub told : (disk : List ℕ) → told_disk first ≡ Some disk
       → (now : List ℕ) × (told_disk w.nodes ≡ Some now)
   pub legal : (disk : List ℕ) → told_disk first ≡ Some disk
-      → Legal (machine_on first) w.log.events
+      → LegalIo (machine_on first) w.log.events

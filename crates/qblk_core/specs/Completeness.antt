@@ -6,7 +6,7 @@ use Rattle.trace_codec.specs.declared.op.Op.{Op}
 use Rattle.trace_codec.specs.declared.op.Op.TheVariants.{Write, Zero}
 use Rattle.blk_history.specs.Disk.{piece}
 use Rattle.blk_history.specs.Fold.{With}
-use Rattle.blk_history.specs.Machine.{State, Guest, Flight, guest_at, after}
+use Rattle.blk_history.specs.Machine.{IoState, IoGuest, Flight, io_guest_at, io_after}
 use Rattle.blk_history.specs.declared.event.Event.{Event}
 use Rattle.blk_history.specs.declared.event.Event.TheVariants.{Piece}
 use Rattle.q2_image.specs.Room.{WriteFits, ZerosFit}
@@ -59,18 +59,18 @@ HasRoomOn nodes node op part = (row : Row) (capacity : ℕ) → row_at nodes nod
     → capacity_of nodes ≡ Some capacity → PartHasRoom op row.driver part capacity
 
 -- a piece that is made on these nodes has it
-abbrev pub HasRoomForEntry : State → Nodes → Event → Type 0
-HasRoomForEntry s nodes (Piece g r k outcome got) = (row : Guest) (f : Flight)
-    → guest_at s g ≡ Some row → row.flight ≡ Some f
+abbrev pub HasRoomForEntry : IoState → Nodes → Event → Type 0
+HasRoomForEntry s nodes (Piece g r k outcome got) = (row : IoGuest) (f : Flight)
+    → io_guest_at s g ≡ Some row → row.flight ≡ Some f
     → HasRoomOn nodes row.node f.op (piece f.op k)
 HasRoomForEntry s nodes e = Unit {0}
 
 -- so it is with each entry, on the nodes before it
-abbrev pub HaveRoomAlong : (s : State) (old : Nodes) (h : List Event) (new : Nodes)
+abbrev pub HaveRoomAlong : (s : IoState) (old : Nodes) (h : List Event) (new : Nodes)
     → HaveNodes s old h new → Type 0
 HaveRoomAlong s old [] new along = Unit {0}
 HaveRoomAlong s old (e ∷ es) new along =
-    HasRoomForEntry s old e × HaveRoomAlong (after s e) along.0 es new along.2
+    HasRoomForEntry s old e × HaveRoomAlong (io_after s e) along.0 es new along.2
 
 abbrev pub IsGoodIfPiece : Event → Type 0
 IsGoodIfPiece (Piece g r k outcome got) = outcome ≡ Good

@@ -1,11 +1,11 @@
 -- What is seen of the nodes of one image and their guest while a trace is run on them.
-use Rattle.std.specs.Prelude.{◌≡◌, ℕ, ◌≤◌, Bool, false, List, [], ◌∷◌, slice_get, Option, Some, None, option_map, option_and_then}
+use Rattle.std.specs.Prelude.{◌≡◌, ℕ, ◌≤◌, Bool, false, List, [], ◌∷◌, Option, Some, None, option_map, option_and_then}
 use Rattle.trace_codec.specs.declared.op.Op.{Op}
 use Rattle.blk_base.specs.Pieces.{end_of}
 use Rattle.blk_history.specs.Disk.{span_of}
-use Rattle.blk_history.specs.Machine.{Node, Flight, Guest, State}
+use Rattle.blk_history.specs.Machine.{Node, Flight, IoGuest, IoState}
 use Rattle.blk_history.specs.Recorded.{Recorded}
-use Rattle.blk_history.specs.Line.{admitted_by}
+use Rattle.blk_history.specs.Line.{request_at}
 use Rattle.blk_history.specs.declared.event.Event.{Event}
 use Rattle.blk_nodes.specs.Nodes.{Nodes, node_size}
 use Rattle.qblk_core.specs.ImageNodes.{told_disk}
@@ -13,12 +13,8 @@ use Rattle.qblk_core.specs.declared.flight.InFlight.{InFlight}
 
 pub record SessionSeen : Type 0 where
   pub nodes : Nodes
-  pub guest : Guest
+  pub guest : IoGuest
   pub log : Recorded
-
--- the request that the entry at a place admits
-abbrev pub request_at : List Event → ℕ → Option Op
-request_at events place = option_and_then admitted_by (slice_get events place)
 
 abbrev pub flight_with : InFlight → Op → Flight
 flight_with f op = record { op = op; next = f.next; is_stopped = f.is_stopped }
@@ -28,7 +24,7 @@ abbrev pub flight_in_history : List Event → InFlight → Option Flight
 flight_in_history events f = option_map (flight_with f) (request_at events f.place)
 
 -- the guest's row: it is on the image's node
-abbrev pub guest_on_image : List Event → ℕ → Option InFlight → Guest
+abbrev pub guest_on_image : List Event → ℕ → Option InFlight → IoGuest
 guest_on_image events done flight = record {
   node = 1;
   is_read_only = false;
@@ -47,22 +43,22 @@ node_of size = record { size = size }
 
 -- The machine of one image: its `file` node, which is unsettled under the image's node and has the file's size; that node with
 -- the disk; and a guest.
-abbrev pub state_with : ℕ → ℕ → Guest → Option (List ℕ) → State
+abbrev pub state_with : ℕ → ℕ → IoGuest → Option (List ℕ) → IoState
 state_with file_size size guest disk = record {
   table = record { nodes = node_of file_size ∷ node_of size ∷ []; guests = guest ∷ [] };
   disks = record { node = 0; bytes = None } ∷ record { node = 1; bytes = disk } ∷ [];
 }
 
-abbrev pub state_on : Nodes → Guest → State
+abbrev pub state_on : Nodes → IoGuest → IoState
 state_on nodes guest = state_with (node_size nodes 0) (node_size nodes 1) guest (told_disk nodes)
 
-abbrev pub state_of : SessionSeen → State
+abbrev pub state_of : SessionSeen → IoState
 state_of w = state_on w.nodes w.guest
 
 -- before its first request
-abbrev pub new_guest : Guest
+abbrev pub new_guest : IoGuest
 new_guest = record { node = 1; is_read_only = false; done = 0; flight = None }
 
 -- the machine before the first request
-abbrev pub machine_on : Nodes → State
+abbrev pub machine_on : Nodes → IoState
 machine_on nodes = state_on nodes new_guest

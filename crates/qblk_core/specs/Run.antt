@@ -11,8 +11,8 @@ use Rattle.trace_codec.specs.Trace.{ops_of}
 use Rattle.trace_codec.specs.declared.op.Op.{Op}
 use Rattle.trace_codec.specs.declared.stop.TraceStop.TheVariants as stops
 use Rattle.blk_history.specs.Fold.{With}
-use Rattle.blk_history.specs.Machine.{State, disk_in, replay}
-use Rattle.blk_history.specs.Legal.{Legal}
+use Rattle.blk_history.specs.Machine.{IoState, disk_in, io_replay}
+use Rattle.blk_history.specs.Legal.{LegalIo}
 use Rattle.blk_history.specs.Owned.{asked_by, IsIdle}
 use Rattle.blk_history.specs.Licence.{counted, RoseSince, NameRises, NameNone}
 use Rattle.blk_history.specs.Small.{IsSmall}
@@ -53,7 +53,7 @@ pub record Outside : Type 0 where
   pub sink_faults : ℕ
 
 -- the machine of an image whose file holds these bytes, before the first request
-abbrev pub machine_of : Format → List ℕ → State
+abbrev pub machine_of : Format → List ℕ → IoState
 machine_of format bytes =
     let disk = disk_by_format format bytes
     in state_with (length bytes) (length disk) new_guest (Some disk)
@@ -67,7 +67,7 @@ pub record IsRunOn (format : Format) (h : List Event) (device : DeviceSeen)
     (first left last : Nodes) (flush : Outcome) : Type 0 where
   pub made : AreMadeOf format device first
   pub in_turn : GoesInTurn (machine_on first) h
-  pub retired : IsIdle (replay (machine_on first) h)
+  pub retired : IsIdle (io_replay (machine_on first) h)
   pub along : HaveNodes (machine_on first) first h left
   pub flushed : FlushesPart left last 1 flush
 
@@ -85,14 +85,14 @@ pub record TellsDisk (format : Format) (image : List ℕ) (h : List Event) (good
   pub file : file_at image old ≡ Some f
   pub opened : IsOverFile device f
   pub machine : machine_on first ≡ machine_of format f.bytes
-  pub legal : Legal (machine_of format f.bytes) h
+  pub legal : LegalIo (machine_of format f.bytes) h
   -- the file's bytes at the end, and whether they are flushed
   pub bytes : List ℕ
   pub is_flushed : Bool
   pub content : back.content ≡ Some bytes
   pub flushed : back.is_flushed ≡ Some is_flushed
   pub kept : good ≡ true → is_flushed ≡ true
-  pub disk : disk_in (replay (machine_of format f.bytes) h).disks 1
+  pub disk : disk_in (io_replay (machine_of format f.bytes) h).disks 1
       ≡ Some (disk_by_format format bytes)
   pub sound : IsSoundAs format bytes
   pub files : new ≡ Some (put_file (record {

@@ -4,12 +4,11 @@ use Rattle.blk_base.specs.declared.fault.Outcome.{Outcome}
 use Rattle.trace_codec.specs.declared.op.Op.{Op}
 use Rattle.trace_codec.specs.Request.{pieces_of}
 use Rattle.blk_history.specs.Disk.{piece, done_in}
-use Rattle.blk_history.specs.Machine.{Flight, done_by, admitted, finished, past_piece}
-use Rattle.blk_history.specs.Legal.{IsInside, IsForbidden, IsRefusedFor, Tells}
-use Rattle.blk_history.specs.Recorded.{Recorded}
+use Rattle.blk_history.specs.Machine.{Flight, done_by, io_admitted, io_finished, io_past_piece}
+use Rattle.blk_history.specs.Legal.{IsInsideIo, IsForbiddenIo, IsRefusedIo, Tells}
+use Rattle.blk_history.specs.Recorded.{Recorded, log_with_entry, log_with_shown}
 use Rattle.blk_history.specs.Small.{IsSmallOutcome}
 use Rattle.blk_history.specs.declared.entry.Refused.{Refused}
-use Rattle.blk_history.specs.declared.event.Event.{Event}
 use Rattle.blk_history.specs.declared.event.Event.TheVariants as events
 use Rattle.blk_nodes.specs.Nodes.{Nodes, node_size}
 use Rattle.blk_pieces.specs.Pieces.{shows_in}
@@ -18,39 +17,26 @@ use Rattle.qblk_core.specs.Face.{SessionSeen, node_of}
 use Rattle.qblk_core.specs.ImageNodes.{told_disk, device_faults, HaveShapeOf}
 use Rattle.qblk_core.specs.Pieces.{IsPieceOn}
 
--- the history with one more entry, and with bytes that it shows
-abbrev pub log_with_shown : Recorded → Event → List ℕ → Recorded
-log_with_shown log e got = record {
-  events = log.events ++ e ∷ [];
-  bytes = log.bytes ++ got;
-  room = log.room - 1;
-  byte_room = log.byte_room - length got;
-}
-
--- the history with an entry that shows nothing
-abbrev pub log_with_entry : Recorded → Event → Recorded
-log_with_entry log e = record log { events = log.events ++ e ∷ []; room = log.room - 1 }
-
 -- a request was admitted, or refused for its cause
 abbrev pub admitted_or_refused : SessionSeen → Op → Option Refused → SessionSeen
 admitted_or_refused w op None = record w {
-  guest = admitted op w.guest;
+  guest = io_admitted op w.guest;
   log = log_with_entry w.log (events.Admit 0 w.guest.done op);
 }
 admitted_or_refused w op (Some why) = record w {
-  guest = finished w.guest;
+  guest = io_finished w.guest;
   log = log_with_entry w.log (events.Refuse 0 w.guest.done op why);
 }
 
 abbrev pub IsRequestJudged : SessionSeen → Op → Option Refused → Type 0
 IsRequestJudged w op None =
-    IsInside op (node_of (node_size w.nodes 1)) × (IsForbidden op w.guest → ⊥)
-IsRequestJudged w op (Some why) = IsRefusedFor op w.guest (node_of (node_size w.nodes 1)) why
+    IsInsideIo op (node_of (node_size w.nodes 1)) × (IsForbiddenIo op w.guest → ⊥)
+IsRequestJudged w op (Some why) = IsRefusedIo op w.guest (node_of (node_size w.nodes 1)) why
 
 -- a request is over
 abbrev pub after_retirement : SessionSeen → SessionSeen
 after_retirement w = record w {
-  guest = finished w.guest;
+  guest = io_finished w.guest;
   log = log_with_entry w.log (events.Retire 0 w.guest.done);
 }
 
@@ -84,4 +70,4 @@ pub record MakesPiece (old new : Nodes) (before now : Recorded) (request : ℕ) 
 pub record PutsPiece (old new : SessionSeen) (f : Flight) (outcome : Outcome)
     (got : List ℕ) : Type 0 where
   pub made : MakesPiece old.nodes new.nodes old.log new.log old.guest.done f outcome got
-  pub guest : new.guest ≡ past_piece outcome old.guest
+  pub guest : new.guest ≡ io_past_piece outcome old.guest

@@ -1,7 +1,9 @@
 //! One guest on one image, on one thread: each call is one event.
 ghost use Rattle.std.specs.Prelude.{◌≡◌, ◌<◌, ◌≤◌, length, List, ℕ, Some};
-ghost use Rattle.qblk_core.specs.Steps.{log_with_entry, log_with_shown, CanPiece, MakesPiece};
-ghost use Rattle.qblk_core.specs.Face.{request_at, flight_in_history, WasAdmitted};
+ghost use Rattle.blk_history.specs.Recorded.{log_with_entry, log_with_shown};
+ghost use Rattle.blk_history.specs.Line.{request_at};
+ghost use Rattle.qblk_core.specs.Steps.{CanPiece, MakesPiece};
+ghost use Rattle.qblk_core.specs.Face.{flight_in_history, WasAdmitted};
 ghost use Rattle.qblk_core.specs.ImageNodes.{HaveOneImage};
 ghost use Rattle.blk_nodes.specs.Nodes.{node_size};
 ghost use Rattle.trace_codec.specs.declared.op.Op.{Op};

@@ -1,7 +1,7 @@
 //! The transcript goes out.
 ghost use Rattle.std.specs.Prelude.{◌≡◌, ◌<◌, ◌≤◌, ◌++◌, [], length, OnOk, OnErr, option_map};
 ghost use Rattle.blk_history.specs.Line.{At};
-ghost use Rattle.blk_history.specs.Transcript.{line_of, transcript};
+ghost use Rattle.blk_history.specs.Transcript.{entry_line, transcript};
 ghost use Rattle.blk_base.specs.Written.{memory_of};
 ghost use Rattle.qblk_core.specs.Output.{AllLinesFit, SendsPart, SendsFront};
 
@@ -46,9 +46,9 @@ fn send_line<K: Sink>(
     ensures quiet { OnOk result (K.faults out.new ≡ K.faults out.old) }
     ensures ok { At history.now.events at (λ e. OnOk result
         (SendsPart (memory_of line.old) (K.sent out.old) (K.sent out.new)
-        (line.old.bytes ++ line_of names.now e) line.new)) }
+        (line.old.bytes ++ entry_line names.now e) line.new)) }
     ensures failed { At history.now.events at (λ e. OnErr result
-        (SendsFront (K.sent out.old) (K.sent out.new) (line.old.bytes ++ line_of names.now e)
+        (SendsFront (K.sent out.old) (K.sent out.new) (line.old.bytes ++ entry_line names.now e)
         (K.faults out.old) (K.faults out.new))) }
     ensures faults { K.faults out.old ≤ K.faults out.new }
 {

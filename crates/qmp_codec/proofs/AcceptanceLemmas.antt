@@ -9,17 +9,17 @@ use Rattle.qmp_codec.specs.declared.row.Kind.TheVariants.{Text, Integer, Flag, F
 use Rattle.qmp_codec.specs.declared.row.Row.{Row}
 use Rattle.qmp_codec.specs.declared.row.Row.TheVariants.{Needs, Takes}
 use Rattle.qmp_codec.specs.declared.walk.Search.TheVariants.{Missing, Mistyped}
-use Rattle.qmp_codec.specs.Tables.{Rows, members, name_of}
+use Rattle.qmp_codec.specs.Tables.{Rows, members, row_name}
 use Rattle.qmp_codec.specs.Forms.{settled}
-use Rattle.qmp_codec.specs.Walk.{Name, fits, or_else, part_fault, parts_fault, list_fault, value_fault, member_fault, rows_fault, first_fault}
+use Rattle.qmp_codec.specs.Walk.{Name, fits, name_or_else, part_fault, parts_fault, list_fault, value_fault, member_fault, rows_fault, first_fault}
 use Rattle.qmp_codec.specs.Lines.{first_cause, cause_in, arguments_of}
 use Rattle.qmp_codec.specs.Acceptance.{IsObjectOrText, AreParts, IsList, IsValue, IsMember, AreMembers, IsAccepted}
 
-none_first : (a b : Option Name) → or_else a b ≡ None → a ≡ None
+none_first : (a b : Option Name) → name_or_else a b ≡ None → a ≡ None
 none_first None b h = refl
 none_first (Some n) b h = h
 
-none_later : (a b : Option Name) → or_else a b ≡ None → b ≡ None
+none_later : (a b : Option Name) → name_or_else a b ≡ None → b ≡ None
 none_later None b h = h
 none_later (Some n) b h = cc
 
@@ -77,7 +77,7 @@ rows_ok : (M T : Form → Data → Option Name) (I : Form → Data → Type 0) (
     → rows_fault Missing M d rows ≡ None → rows_fault Mistyped T d rows ≡ None → AreMembers I d rows
 rows_ok M T I ok d [] m t = tt
 rows_ok M T I ok d (row ∷ rows) m t =
-    (member_ok M T I ok row (get (name_of row) d) (none_first _ _ m) (none_first _ _ t), rows_ok M T I ok d rows (none_later _ _ m) (none_later _ _ t))
+    (member_ok M T I ok row (get (row_name row) d) (none_first _ _ m) (none_first _ _ t), rows_ok M T I ok d rows (none_later _ _ m) (none_later _ _ t))
 
 -- nothing is missing and nothing of another kind: the table accepts the object
 pub accepted : (depth : ℕ) (table : Form) (around d : Data)

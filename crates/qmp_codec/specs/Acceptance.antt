@@ -7,7 +7,7 @@ use Rattle.qmp_codec.specs.declared.row.Kind.{Kind}
 use Rattle.qmp_codec.specs.declared.row.Kind.TheVariants.{Object, TextOrObject, Objects, TextsOrObjects}
 use Rattle.qmp_codec.specs.declared.row.Row.{Row}
 use Rattle.qmp_codec.specs.declared.row.Row.TheVariants.{Needs, Takes}
-use Rattle.qmp_codec.specs.Tables.{Rows, members, name_of}
+use Rattle.qmp_codec.specs.Tables.{Rows, members, row_name}
 use Rattle.qmp_codec.specs.Forms.{settled}
 use Rattle.qmp_codec.specs.Walk.{Name, fits}
 
@@ -42,7 +42,8 @@ IsMember Inner (Takes name kind) (Some d) = IsValue Inner kind d
 
 abbrev pub AreMembers : (Form → Data → Type 0) → Data → Rows → Type 0
 AreMembers Inner d [] = Unit {0}
-AreMembers Inner d (row ∷ rows) = IsMember Inner row (get (name_of row) d) × AreMembers Inner d rows
+AreMembers Inner d (row ∷ rows) =
+    IsMember Inner row (get (row_name row) d) × AreMembers Inner d rows
 
 -- so it is with all members of an object, and with the objects inside
 unfoldable pub IsAccepted : ℕ → Form → Data → Data → Type 0

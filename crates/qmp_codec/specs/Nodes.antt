@@ -5,7 +5,7 @@ use Rattle.serde_json.specs.Data.{Data, null, boolean, string, object}
 use Rattle.serde_json.specs.Find.{get}
 use Rattle.qmp_codec.specs.declared.words.Sharing.{Sharing}
 use Rattle.qmp_codec.specs.declared.words.Sharing.TheVariants as sharing
-use Rattle.qmp_codec.specs.Words.{discard_of, image_format_of, version_of, device_driver_of, sharing_of}
+use Rattle.qmp_codec.specs.Words.{discard_of, image_format_of, version_of_word, device_driver_of, sharing_of}
 use Rattle.qmp_codec.specs.Forms.{text_in}
 use Rattle.qmp_codec.specs.Fields.{text_if, flag_if, amount_if, amount_in}
 use Rattle.qmp_codec.specs.declared.verb.Driver.{Driver}
@@ -164,7 +164,7 @@ create_qcow2_in d = record {
   backing_fmt = option_map image_format_of (text_if (codes "backing-fmt") d);
   cluster_size = amount_if (codes "cluster-size") d;
   refcount_bits = amount_if (codes "refcount-bits") d;
-  version = option_map version_of (text_if (codes "version") d);
+  version = option_map version_of_word (text_if (codes "version") d);
 }
 
 abbrev pub seen_create_qcow2 : CreateQcow2 (String Global) → CreateQcow2 (List ℕ)

@@ -155,9 +155,9 @@ abbrev pub named : Row (Bor (List ℕ)) → Row (List ℕ)
 named (Needs name kind) = Needs name.now kind
 named (Takes name kind) = Takes name.now kind
 
-abbrev pub name_of : Row (List ℕ) → List ℕ
-name_of (Needs name kind) = name
-name_of (Takes name kind) = name
+abbrev pub row_name : Row (List ℕ) → List ℕ
+row_name (Needs name kind) = name
+row_name (Takes name kind) = name
 
 abbrev pub kind_of : Row (List ℕ) → Kind
 kind_of (Needs name kind) = kind

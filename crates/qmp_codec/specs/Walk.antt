@@ -13,7 +13,7 @@ use Rattle.qmp_codec.specs.declared.row.Row.{Row}
 use Rattle.qmp_codec.specs.declared.row.Row.TheVariants.{Needs, Takes}
 use Rattle.qmp_codec.specs.declared.walk.Search.{Search}
 use Rattle.qmp_codec.specs.declared.walk.Search.TheVariants.{Missing, Mistyped}
-use Rattle.qmp_codec.specs.Tables.{Rows, members, name_of, kind_of}
+use Rattle.qmp_codec.specs.Tables.{Rows, members, row_name, kind_of}
 use Rattle.qmp_codec.specs.Forms.{settled}
 
 abbrev pub Name : Type 0
@@ -50,9 +50,9 @@ fits _ d = false
 
 -- ---- the first member that is missing, or whose value is of another kind
 
-abbrev pub or_else : Option Name → Option Name → Option Name
-or_else None later = later
-or_else (Some name) later = Some name
+abbrev pub name_or_else : Option Name → Option Name → Option Name
+name_or_else None later = later
+name_or_else (Some name) later = Some name
 
 -- a needed member is absent
 abbrev pub absent : Search → Row Name → Option Name
@@ -75,7 +75,7 @@ part_fault otherwise inner texts d = otherwise
 abbrev pub parts_fault : Option Name → (Data → Option Name) → Bool → Items → Option Name
 parts_fault otherwise inner texts no_items = None
 parts_fault otherwise inner texts (item d ds) =
-    or_else (part_fault otherwise inner texts d) (parts_fault otherwise inner texts ds)
+    name_or_else (part_fault otherwise inner texts d) (parts_fault otherwise inner texts ds)
 
 abbrev pub list_fault : Option Name → (Data → Option Name) → Bool → Data → Option Name
 list_fault otherwise inner texts (array ds) = parts_fault otherwise inner texts ds
@@ -92,12 +92,13 @@ abbrev pub member_fault : Search → (Form → Data → Option Name) → Row Nam
     → Option Name
 member_fault search inner row None = absent search row
 member_fault search inner row (Some d) =
-    value_fault (wrong search (name_of row)) inner (kind_of row) d
+    value_fault (wrong search (row_name row)) inner (kind_of row) d
 
 abbrev pub rows_fault : Search → (Form → Data → Option Name) → Data → Rows → Option Name
 rows_fault search inner d [] = None
 rows_fault search inner d (row ∷ rows) =
-    or_else (member_fault search inner row (get (name_of row) d)) (rows_fault search inner d rows)
+    name_or_else (member_fault search inner row (get (row_name row) d))
+    (rows_fault search inner d rows)
 
 -- the first fault of an object that stands in a member of the object around; tables lie in one another `depth` deep
 unfoldable pub first_fault : ℕ → Search → Form → Data → Data → Option Name
@@ -115,7 +116,7 @@ least (Some a) (Some b) = match_ordering (slice_cmp nat_cmp a b) (Some a) (Some 
 
 abbrev pub accepts : Rows → Name → Bool
 accepts [] name = false
-accepts (row ∷ rows) name = bytes_eq (name_of row) name || accepts rows name
+accepts (row ∷ rows) name = bytes_eq (row_name row) name || accepts rows name
 
 -- the least of what was found and the names that the rows don't have
 abbrev pub unknown_in : Rows → Option Name → Members → Option Name
@@ -140,7 +141,7 @@ least_of_parts inner found (item d ds) =
 -- the least of the first item that has one
 abbrev pub least_of_first : (Data → Option Name) → Items → Option Name
 least_of_first inner no_items = None
-least_of_first inner (item d ds) = or_else (part_unknown inner d) (least_of_first inner ds)
+least_of_first inner (item d ds) = name_or_else (part_unknown inner d) (least_of_first inner ds)
 
 abbrev pub part_inside : (Data → Option Name) → Option Data → Option Name
 part_inside inner None = None
@@ -166,7 +167,7 @@ unknown_inside inner d name kind = None
 abbrev pub rows_unknown : (Form → Data → Option Name) → Data → Option Name → Rows → Option Name
 rows_unknown inner d found [] = found
 rows_unknown inner d found (row ∷ rows) =
-    rows_unknown inner d (least found (unknown_inside inner d (name_of row) (kind_of row))) rows
+    rows_unknown inner d (least found (unknown_inside inner d (row_name row) (kind_of row))) rows
 
 -- the least name in an object that its table, or the table of an object inside, doesn't accept
 unfoldable pub least_unknown : ℕ → Form → Data → Data → Option Name

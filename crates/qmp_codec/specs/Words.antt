@@ -63,8 +63,8 @@ image_format_of word =
     else if bytes_eq word (codes "qcow2") then image_format.Qcow2
     else image_format.Unknown
 
-unfoldable pub version_of : List ℕ → Version
-version_of word =
+unfoldable pub version_of_word : List ℕ → Version
+version_of_word word =
     if bytes_eq word (codes "v3") then version.V3
     else version.Unknown
 

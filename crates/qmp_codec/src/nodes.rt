@@ -3,7 +3,7 @@
 ghost use Rattle.std.specs.Prelude.{◌≡◌, IfOk, codes, option_map};
 ghost use Rattle.serde_json.specs.View.{view};
 ghost use Rattle.serde_json.specs.Find.{get};
-ghost use Rattle.qmp_codec.specs.Words.{discard_of, image_format_of, version_of};
+ghost use Rattle.qmp_codec.specs.Words.{discard_of, image_format_of, version_of_word};
 ghost use Rattle.qmp_codec.specs.Fields.{text_if};
 ghost use Rattle.qmp_codec.specs.Nodes.{cache_in, node_options_in, seen_inline_file, inline_file_in, seen_add_raw, add_raw_in, seen_add_qcow2, add_qcow2_in, seen_blockdev_add, blockdev_add_in, seen_create_file, create_file_in, seen_create_qcow2, create_qcow2_in, seen_blockdev_create, blockdev_create_in, seen_snapshot, snapshot_in, seen_device_add, device_add_in, cache_if, seen_file_ref, file_ref_in, seen_backing, backing_if, seen_added, added_in, seen_created, created_of, created_in, sharing_if};
 
@@ -161,7 +161,7 @@ fn maybe_image_format(object: &Value, name: &str) -> Option<ImageFormat>
 }
 
 fn maybe_version(object: &Value, name: &str) -> Option<Version>
-    ensures { result ≡ option_map version_of (text_if name.now (view object.now)) }
+    ensures { result ≡ option_map version_of_word (text_if name.now (view object.now)) }
 {
     Some(read_version(maybe_str(object, name)?))
 }

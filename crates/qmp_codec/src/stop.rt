@@ -27,9 +27,9 @@ pub enum CodecStop<N = String> {
 
 impl fmt::Display for CodecStop {
     ghost use Rattle.std.specs.Prelude.{Some};
-    ghost use Rattle.qmp_codec.specs.Stops.{stop_text};
+    ghost use Rattle.qmp_codec.specs.Stops.{codec_stop_text};
 
-    ghost output = { λ stop. Some (stop_text stop) };
+    ghost output = { λ stop. Some (codec_stop_text stop) };
 
     fn fmt<W: fmt::Write>(&self, f: &mut fmt::Formatter<W>) -> fmt::Result {
         match self {

@@ -2,7 +2,7 @@
 
 ghost use Rattle.std.specs.Prelude.{◌≡◌, ◌-◌, ◌<◌, option_map, map, None};
 ghost use Rattle.serde_json.specs.View.{view, items_view, members_view};
-ghost use Rattle.qmp_codec.specs.Tables.{named, name_of, kind_of};
+ghost use Rattle.qmp_codec.specs.Tables.{named, row_name, kind_of};
 ghost use Rattle.qmp_codec.specs.Walk.{least, accepts, unknown_in, members_unknown, part_unknown, least_of_parts, least_of_first, unknown_inside, rows_unknown, least_unknown};
 
 use crate::form::{Form, form_of};
@@ -108,7 +108,7 @@ fn inner_unknown<'a>(depth: u8, rows: &[Row<&'static str>], object: &'a Value) -
 fn row_unknown<'a>(depth: u8, object: &'a Value, row: &Row<&'static str>) -> Option<&'a str>
     ensures { option_map (λ s. s.now) result ≡ unknown_inside
         (λ inner part. least_unknown depth inner (view object.now) part)
-        (view object.now) (name_of (named row.now)) (kind_of (named row.now)) }
+        (view object.now) (row_name (named row.now)) (kind_of (named row.now)) }
 {
     let (Row::Needs(name, kind) | Row::Takes(name, kind)) = row;
     match kind {

@@ -4,7 +4,7 @@ ghost use Rattle.std.specs.Prelude.{◌≡◌, ◌-◌, ◌<◌, option_map, tru
 ghost use Rattle.serde_json.specs.View.{view, items_view, members_view};
 ghost use Rattle.serde_json.specs.Written.{has_float, items_have_float, members_have_float};
 ghost use Rattle.serde_json.specs.Find.{get};
-ghost use Rattle.qmp_codec.specs.Tables.{named, name_of};
+ghost use Rattle.qmp_codec.specs.Tables.{named, row_name};
 ghost use Rattle.qmp_codec.specs.Walk.{is_integer, are_texts, is_list_of_texts, fits, absent, wrong, part_fault, parts_fault, list_fault, value_fault, member_fault, first_fault};
 
 use crate::form::{Form, form_of};
@@ -169,7 +169,7 @@ fn row_fault(
 ) -> Option<&'static str>
     ensures { option_map (λ s. s.now) result ≡ member_fault search
         (λ inner part. first_fault depth search inner (view object.now) part)
-        (named row.now) (get (name_of (named row.now)) (view object.now)) }
+        (named row.now) (get (row_name (named row.now)) (view object.now)) }
 {
     let (Row::Needs(name, kind) | Row::Takes(name, kind)) = row;
     match object.get(*name) {

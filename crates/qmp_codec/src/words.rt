@@ -1,7 +1,7 @@
 //! Words that members take. A word that none of these is stays as `Unknown`: it is refused as a value, further up.
 
 ghost use Rattle.std.specs.Prelude.{◌≡◌};
-ghost use Rattle.qmp_codec.specs.Words.{on_error_of, sync_of, copy_mode_of, bitmap_mode_of, discard_of, completion_mode_of, image_format_of, version_of, device_driver_of, sharing_of};
+ghost use Rattle.qmp_codec.specs.Words.{on_error_of, sync_of, copy_mode_of, bitmap_mode_of, discard_of, completion_mode_of, image_format_of, version_of_word, device_driver_of, sharing_of};
 
 /// What a job does after an error.
 #[derive(Clone, Copy)]
@@ -167,9 +167,9 @@ pub(crate) fn read_image_format(word: &str) -> ImageFormat
 }
 
 /// The version of a word.
-#[tactic(auto, unfolding(crate::specs::Words::version_of))]
+#[tactic(auto, unfolding(crate::specs::Words::version_of_word))]
 pub(crate) fn read_version(word: &str) -> Version
-    ensures { result ≡ version_of word.now }
+    ensures { result ≡ version_of_word word.now }
 {
     match word {
         "v3" => Version::V3,

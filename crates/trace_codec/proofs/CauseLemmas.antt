@@ -13,7 +13,7 @@ use Rattle.trace_codec.specs.Line.{line_of}
 use Rattle.trace_codec.specs.Reading.{Reading}
 use Rattle.trace_codec.specs.Request.{with_op, passes_total}
 use Rattle.trace_codec.specs.Trace.{◌>>=◌, next_line, after_line, after_lines, lines_of, trace_of}
-use Rattle.trace_codec.specs.Causes.{IsGood, op_in, requests_of, with_ops, are_too_many, AreTaken, IsTaken, IsCause, StopsAt}
+use Rattle.trace_codec.specs.Causes.{IsGood, op_in, requests_of, with_ops, are_too_many, AreLinesTaken, IsTaken, IsCause, StopsAt}
 use Rattle.trace_codec.specs.Traced.{IsRequest, IsTrace}
 
 -- a reading that may go on
@@ -143,7 +143,7 @@ start before = record { line = 1; ops = []; asked = before }
 may_start : (before : Amounts) → passes_total before ≡ false → MayGoOn (start before)
 may_start before h = record { number = omega arith; few = omega arith; within = h }
 
-taken_few : (before : Amounts) (lines : List (List ℕ)) (s : Reading) → Behind (start before) lines s → AreTaken before lines
+taken_few : (before : Amounts) (lines : List (List ℕ)) (s : Reading) → Behind (start before) lines s → AreLinesTaken before lines
 taken_few before lines s b = record {
   good = b.good;
   few = or_from (ltb 65536 (length (requests_of lines))) (passes_total (with_ops before (requests_of lines)))
@@ -220,7 +220,7 @@ trace_takes before text ops asked within h = taken_by before (lines_of text) ops
 
 -- the same of what reading a first trace answered
 pub all_taken : (before : Amounts) (text : List ℕ) (asked : Amounts) (r : Result (List Op) TraceStop) → before ≡ nothing →
-    IfOk r (λ ops. trace_of before text ≡ Ok (ops, asked)) → OnOk r (AreTaken nothing (lines_of text))
+    IfOk r (λ ops. trace_of before text ≡ Ok (ops, asked)) → OnOk r (AreLinesTaken nothing (lines_of text))
 all_taken before text asked (Ok ops) e h = (trace_takes nothing text ops asked refl (rw e at h)).all
 all_taken before text asked (Err stop) e h = tt
 

@@ -6,7 +6,7 @@ use Rattle.std.specs.Char.{is_ascii_alphabetic}
 use Rattle.std.proofs.lemmas.Bool.{false≢true}
 use Rattle.std.proofs.lemmas.Str.{IsUtf8-from_ascii}
 use Rattle.trace_codec.specs.Cut.{parts_of}
-use Rattle.trace_codec.specs.Awaits.{is_name_byte, is_name, id_in, guest_wait, line_in}
+use Rattle.trace_codec.specs.Awaits.{is_name_byte, is_name, id_in, guest_wait, awaited_line_in}
 use Rattle.trace_codec.proofs.Parts.{one_part}
 
 not_id : (id : List ℕ) (words : List (List ℕ)) → 0 < length words → id_in (id ∷ words) ≡ None
@@ -28,12 +28,12 @@ pub more_guest : (guests : List (List ℕ)) (name amount : List ℕ) (s : ℕ) (
 more_guest guests name amount s None h = cc
 more_guest guests name amount s (Some rest) h = not_guest guests name amount (slice_split (λ b. eqb b s) rest) (one_part s rest)
 
-not_line : (number : List ℕ) (words : List (List ℕ)) → 0 < length words → line_in (number ∷ words) ≡ None
+not_line : (number : List ℕ) (words : List (List ℕ)) → 0 < length words → awaited_line_in (number ∷ words) ≡ None
 not_line number [] h = absurd (omega arith)
 not_line number (word ∷ words) h = refl
 
 -- nor is more than a number what a line of a trace waits for
-pub more_lines : (number : List ℕ) (s : ℕ) (rest : Option (List ℕ)) → is_some rest ≡ true → line_in (number ∷ parts_of s rest) ≡ None
+pub more_lines : (number : List ℕ) (s : ℕ) (rest : Option (List ℕ)) → is_some rest ≡ true → awaited_line_in (number ∷ parts_of s rest) ≡ None
 more_lines number s None h = cc
 more_lines number s (Some rest) h = not_line number (slice_split (λ b. eqb b s) rest) (one_part s rest)
 

@@ -32,8 +32,8 @@ abbrev pub has_leading_zero : List ℕ → Bool
 has_leading_zero (first ∷ second ∷ digits) = first == 48
 has_leading_zero word = false
 
-abbrev pub amount_of : List ℕ → Option ℕ
-amount_of word = if has_leading_zero word then None else below (2 ^ 32) (numeral 10 word)
+abbrev pub awaited_amount_of : List ℕ → Option ℕ
+awaited_amount_of word = if has_leading_zero word then None else below (2 ^ 32) (numeral 10 word)
 
 -- the first place of a name
 abbrev pub place_from : ℕ → List ℕ → List (List ℕ) → Option ℕ
@@ -44,7 +44,7 @@ place_from k name (other ∷ names) =
 abbrev pub guest_wait : List (List ℕ) → List (List ℕ) → Option (Await (List ℕ))
 guest_wait guests (name ∷ amount ∷ []) = do
   guest ← place_from 0 name guests
-  requests ← amount_of amount
+  requests ← awaited_amount_of amount
   Some (Guest guest requests)
 guest_wait guests _ = None
 
@@ -84,13 +84,13 @@ await_of guests line = await_in guests (words_of line)
 -- ---- waits of a trace
 
 -- `await N`, behind the first word
-abbrev pub line_in : List (List ℕ) → Option ℕ
-line_in (number ∷ []) = below (2 ^ 32) (number_of number)
-line_in _ = None
+abbrev pub awaited_line_in : List (List ℕ) → Option ℕ
+awaited_line_in (number ∷ []) = below (2 ^ 32) (number_of number)
+awaited_line_in _ = None
 
 abbrev pub trace_wait_in : List (List ℕ) → Option ℕ
 trace_wait_in [] = None
-trace_wait_in (verb ∷ words) = if bytes_eq verb (codes "await") then line_in words else None
+trace_wait_in (verb ∷ words) = if bytes_eq verb (codes "await") then awaited_line_in words else None
 
 -- the line of the script that a line of a trace waits for
 abbrev pub trace_wait : List ℕ → Option ℕ

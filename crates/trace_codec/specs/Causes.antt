@@ -33,14 +33,14 @@ abbrev pub are_too_many : Amounts → List Op → Bool
 are_too_many before ops = nat_lt 65536 (length ops) || passes_total (with_ops before ops)
 
 -- all lines are good, and their requests not too many
-pub record AreTaken (before : Amounts) (lines : List (List ℕ)) : Type 0 where
+pub record AreLinesTaken (before : Amounts) (lines : List (List ℕ)) : Type 0 where
   pub good : AllByRecursion IsGood lines
   pub few : are_too_many before (requests_of lines) ≡ false
 
 -- all lines are taken: these are their requests, and this is what all traces ask with them
 pub record IsTaken (before : Amounts) (lines : List (List ℕ)) (ops : List Op)
     (asked : Amounts) : Type 0 where
-  pub all : AreTaken before lines
+  pub all : AreLinesTaken before lines
   pub requests : ops ≡ requests_of lines
   pub total : asked ≡ with_ops before ops
 
@@ -62,5 +62,5 @@ pub record StopsAt (before : Amounts) (lines : List (List ℕ)) (stop : TraceSto
   pub line : List ℕ
   pub rest : List (List ℕ)
   pub parts : lines ≡ front ++ line ∷ rest
-  pub taken : AreTaken before front
+  pub taken : AreLinesTaken before front
   pub cause : IsCause before front line stop

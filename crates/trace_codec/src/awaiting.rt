@@ -5,7 +5,7 @@ ghost use Rattle.std.specs.List.{list_all};
 ghost use Rattle.std.specs.Char.{is_ascii_alphabetic};
 ghost use Rattle.blk_base.specs.Written.{Written};
 ghost use Rattle.trace_codec.specs.Line.{words_of};
-ghost use Rattle.trace_codec.specs.Awaits.{seen_await, is_name_byte, is_name, amount_of, place_from, guest_wait, id_in, wait_in, await_in, await_of, trace_wait, first_wait_in};
+ghost use Rattle.trace_codec.specs.Awaits.{seen_await, is_name_byte, is_name, awaited_amount_of, place_from, guest_wait, id_in, wait_in, await_in, await_of, trace_wait, first_wait_in};
 
 use crate::cut::cut;
 use crate::number::{read_digits, read_number};
@@ -138,7 +138,7 @@ fn place_of(name: &[u8], names: &Names1) -> Option<u32>
 
 /// A number in decimal without leading zeros.
 fn read_amount(word: &[u8]) -> Option<u32>
-    ensures { result ≡ amount_of word.now }
+    ensures { result ≡ awaited_amount_of word.now }
 {
     if word.len() > 1 && word[0] == b'0' {
         return None;

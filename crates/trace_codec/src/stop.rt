@@ -21,9 +21,9 @@ pub enum TraceStop {
 
 impl fmt::Display for TraceStop {
     ghost use Rattle.std.specs.Prelude.{Some};
-    ghost use Rattle.trace_codec.specs.Stop.{stop_text};
+    ghost use Rattle.trace_codec.specs.Stop.{trace_stop_text};
 
-    ghost output = { λ stop. Some (stop_text stop) };
+    ghost output = { λ stop. Some (trace_stop_text stop) };
 
     fn fmt<W: fmt::Write>(&self, f: &mut fmt::Formatter<W>) -> fmt::Result {
         match self {

@@ -2,7 +2,7 @@
 
 ghost use Rattle.std.specs.Prelude.{◌≡◌, ◌⊎◌, [], Ok, Err, IfOk, IfErr, OnOk, OnErr};
 ghost use Rattle.trace_codec.specs.Amounts.{nothing};
-ghost use Rattle.trace_codec.specs.Causes.{AreTaken, StopsAt, requests_of};
+ghost use Rattle.trace_codec.specs.Causes.{AreLinesTaken, StopsAt, requests_of};
 ghost use Rattle.std.specs.List.{AllByRecursion};
 ghost use Rattle.trace_codec.specs.Traced.{IsRequest, IsTrace};
 ghost use Rattle.trace_codec.specs.Trace.{after_lines, lines_of, trace_of, ops_of};
@@ -26,7 +26,7 @@ pub fn read_trace(alloc: Global, text: &str) -> Result<Ops, TraceStop>
         (λ stop. (stop ≡ TraceStop.NoMemory) ⊎ (ops_of text.now ≡ Err stop)) }
 
     // In other words: all lines are taken and these are their requests, or the first line with a cause is named.
-    ensures taken { OnOk result (AreTaken nothing (lines_of text.now)) }
+    ensures taken { OnOk result (AreLinesTaken nothing (lines_of text.now)) }
     ensures requests { IfOk result (λ ops. ops ≡ requests_of (lines_of text.now)) }
     ensures askable { IfOk result IsTrace }
     ensures cause { IfErr result

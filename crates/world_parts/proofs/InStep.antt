@@ -12,7 +12,7 @@ use Rattle.trace_codec.specs.Request.{pieces_of, read_bytes_of}
 use Rattle.qmp_rules.specs.Chains.{is_listed}
 use Rattle.blk_history.specs.Fold.{change, With}
 use Rattle.blk_history.specs.Machine.{Flight}
-use Rattle.blk_history.specs.Recorded.{Recorded}
+use Rattle.blk_history.specs.Recorded.{Recorded, log_with_entry, log_with_shown}
 use Rattle.blk_history.specs.declared.event.Event.{Event}
 use Rattle.blk_history.specs.declared.event.Event.TheVariants.{Admit, Done}
 use Rattle.blk_pieces.specs.Pieces.{shown_before}
@@ -22,7 +22,7 @@ use Rattle.flat_machine.specs.Opening.{new_guest}
 use Rattle.flat_machine.specs.Machine.{admitted, finished, past_piece}
 use Rattle.world_parts.specs.declared.row.InFlight.{InFlight}
 use Rattle.world_parts.specs.declared.row.GuestProgress.{GuestProgress}
-use Rattle.world_parts.specs.Progress.{no_log, new_row, guest_in, guests_in, flight_as, flight_in, flight_at, IsPlaced, IsPlacedIn, CanShow, log_with_shown, HaveTheirPlaces, AreMarked, KeepsStep, owed, owed_by, owed_bytes, owed_bytes_by, actor_done, ended_in, answered_by, answered_in, log_with_entry, room_less, requests_done, IsFree, HasRoomFor}
+use Rattle.world_parts.specs.Progress.{no_log, new_row, guest_in, guests_in, flight_as, flight_in, flight_at, IsPlaced, IsPlacedIn, CanShow, HaveTheirPlaces, AreMarked, KeepsStep, owed, owed_by, owed_bytes, owed_bytes_by, actor_done, ended_in, answered_by, answered_in, room_less, requests_done, IsFree, HasRoomFor}
 use Rattle.world_parts.proofs.Rows.{request-push, request-append, guests-append, guest-append, placed-append, placed-put, placed-at, guests-put, guests-at, marked-put, owed-change, owed-bytes-change, owed-at, owed-bytes-at}
 
 -- what holds of what is there

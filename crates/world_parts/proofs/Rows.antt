@@ -3,13 +3,13 @@ use Rattle.std.proofs.Common.{◌≡◌, ℕ, zero, suc, ◌+◌, ◌≤◌, Lis
 use Rattle.std.specs.Prelude.{slice_get, option_and_then}
 use Rattle.trace_codec.specs.declared.op.Op.{Op}
 use Rattle.blk_history.specs.Fold.{change}
-use Rattle.blk_history.specs.Line.{admitted_by}
+use Rattle.blk_history.specs.Line.{admitted_by, request_at}
 use Rattle.blk_history.specs.declared.event.Event.{Event}
 use Rattle.blk_history.specs.declared.event.Event.TheVariants.{Admit}
 use Rattle.flat_machine.specs.State.{Guest}
 use Rattle.world_parts.specs.declared.row.InFlight.{InFlight}
 use Rattle.world_parts.specs.declared.row.GuestProgress.{GuestProgress}
-use Rattle.world_parts.specs.Progress.{request_at, flight_in, guest_in, guests_in, IsPlacedIn, HaveTheirPlaces, AreMarked, owed, owed_by, owed_bytes, owed_bytes_by}
+use Rattle.world_parts.specs.Progress.{flight_in, guest_in, guests_in, IsPlacedIn, HaveTheirPlaces, AreMarked, owed, owed_by, owed_bytes, owed_bytes_by}
 
 -- ---- an entry that is there stays where it is
 

@@ -8,9 +8,9 @@ use Rattle.trace_codec.specs.Request.{pieces_of, read_bytes_of}
 use Rattle.qmp_rules.specs.Chains.{is_listed}
 use Rattle.blk_history.specs.Fold.{change}
 use Rattle.blk_history.specs.Disk.{piece}
-use Rattle.blk_history.specs.Line.{admitted_by}
+use Rattle.blk_history.specs.Line.{request_at}
 use Rattle.blk_history.specs.Machine.{Flight}
-use Rattle.blk_history.specs.Recorded.{Recorded}
+use Rattle.blk_history.specs.Recorded.{Recorded, log_with_entry, log_with_shown}
 use Rattle.blk_history.specs.declared.entry.Refused.{Refused}
 use Rattle.blk_history.specs.declared.event.Event.{Event}
 use Rattle.blk_history.specs.declared.event.Event.TheVariants.{Admit, Refuse, Piece, Retire, Reply, Reached, Done}
@@ -47,9 +47,6 @@ abbrev pub answered_in : List Event → List ℕ
 answered_in events = filter_map answered_by events
 
 -- ---- a guest's row: its request in flight stands in the history
-
-abbrev pub request_at : List Event → ℕ → Option Op
-request_at events place = option_and_then admitted_by (slice_get events place)
 
 abbrev pub flight_as : InFlight → Op → Flight
 flight_as f op = record { op = op; next = f.next; is_stopped = f.is_stopped }
@@ -135,18 +132,6 @@ no_progress guests room =
     record { guests = replicate guests new_guest; spare = room; log = no_log room }
 
 -- ---- what each entry leaves
-
--- the history with one more entry, and with bytes that it shows
-abbrev pub log_with_entry : Recorded → Event → Recorded
-log_with_entry log e = record log { events = log.events ++ e ∷ []; room = log.room - 1 }
-
-abbrev pub log_with_shown : Recorded → Event → List ℕ → Recorded
-log_with_shown log e got = record {
-  events = log.events ++ e ∷ [];
-  bytes = log.bytes ++ got;
-  room = log.room - 1;
-  byte_room = log.byte_room - length got;
-}
 
 abbrev pub room_less : ℕ → ℕ → Room → Room
 room_less entries bytes room =

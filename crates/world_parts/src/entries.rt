@@ -3,7 +3,7 @@ ghost use Rattle.std.specs.Prelude.{◌≡◌, ◌<◌, ◌≤◌, length, optio
 ghost use Rattle.blk_history.specs.declared.event.Event.{Event};
 ghost use Rattle.qmp_codec.specs.Commands.{seen_command};
 ghost use Rattle.trace_codec.specs.Awaits.{seen_await};
-ghost use Rattle.world_parts.specs.Progress.{log_with_entry, log_with_shown};
+ghost use Rattle.blk_history.specs.Recorded.{log_with_entry, log_with_shown};
 
 use blk_base::{Outcome, Text};
 use blk_history::{Asked, Awaited, Entry, History, Refused, Understood};

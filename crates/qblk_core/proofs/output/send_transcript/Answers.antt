@@ -1,7 +1,7 @@
 use Rattle.std.proofs.Common.{List, ℕ, ◌∙◌, take, subst, sym, arith}
 use Rattle.std.specs.Prelude.{flat_map}
 use Rattle.blk_base.specs.Written.{memory_of}
-use Rattle.blk_history.specs.Transcript.{line_of}
+use Rattle.blk_history.specs.Transcript.{entry_line}
 use Rattle.qblk_core.specs.Output.{SendsPart}
 use Rattle.qblk_core.proofs.Sending.{on-err, on-ok, get-below, fits-more, lines-next, part-next, line-failed, all-sent, rest-sent, rest-failed}
 use Rattle.qblk_core.proofs.output.send_transcript.Goals as goal
@@ -25,7 +25,7 @@ loop-at-preserved g c =
     let es = c.args.history.now.events in
     let names = c.args.names.now in
     let found = get-below es c.loop-at.at (omega arith) in
-    let next = part-next (memory_of c.args.line.now) (g.K.Sink.sent c.args.out.now) (g.K.Sink.sent c.loop-at.out) (g.K.Sink.sent c.send_line.new.out) (flat_map (line_of names) (take c.loop-at.at es)) (line_of names found.0) c.loop-at.line c.send_line.new.line
+    let next = part-next (memory_of c.args.line.now) (g.K.Sink.sent c.args.out.now) (g.K.Sink.sent c.loop-at.out) (g.K.Sink.sent c.send_line.new.out) (flat_map (entry_line names) (take c.loop-at.at es)) (entry_line names found.0) c.loop-at.line c.send_line.new.line
     c.loop-at.invariant.part (c.in_default.ensures.ok found.0 found.1) in
     let P : List ℕ → Type 0 = λ w. SendsPart (memory_of c.args.line.now) (g.K.Sink.sent c.args.out.now) (g.K.Sink.sent c.send_line.new.out) w c.send_line.new.line in
     record { part = subst P (sym (lines-next names es c.loop-at.at found.0 found.1)) next; faults = c.in_default.ensures.quiet ∙ c.loop-at.invariant.faults }

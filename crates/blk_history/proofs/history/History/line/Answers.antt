@@ -2,7 +2,7 @@ use Rattle.std.proofs.Common.{◌<◌, ◌≤◌, length, map, ap, arith, IsOk, 
 use Rattle.std.proofs.lemmas.List.{length-map}
 use Rattle.blk_history.specs.declared.event.Event.{Event}
 use Rattle.blk_history.specs.Recorded.{Recorded, event_of}
-use Rattle.blk_history.specs.Transcript.{line_of}
+use Rattle.blk_history.specs.Transcript.{entry_line}
 use Rattle.blk_history.specs.Line.{At, IsActorNamed, line_room, Appends}
 use Rattle.blk_history.proofs.Points.{points-at, of_event, at_event}
 use Rattle.blk_history.proofs.history.History.line.Goals as goal
@@ -27,7 +27,7 @@ returns-clause-ok c =
     let bytes = c.self.inside.bytes.items in
     let events = ap (λ (v : Recorded). v.events) c.self.view_is in
     let below : c.args.at < length es = omega (arith, ap length events, length-map es (event_of bytes)) in
-    let P : Event → Type 0 = λ e. OnOk c.write_line.result (Appends c.args.out.now c.write_line.new.out (line_of c.args.names.now e) (line_room c.args.names.now e)) in
+    let P : Event → Type 0 = λ e. OnOk c.write_line.result (Appends c.args.out.now c.write_line.new.out (entry_line c.args.names.now e) (line_room c.args.names.now e)) in
     let here : P (event_of bytes c.index.result.now) = rw c.deref.ensures.value at c.write_line.ensures.ok in
     rw (← events) (at_event P bytes es c.args.at c.index.result.now below c.index.ensures here)
 
