@@ -6,21 +6,21 @@ use Rattle.std.proofs.lemmas.Bool.Decides.{nat_tests}
 use Rattle.std.proofs.lemmas.List.{take-append-drop, set-append_left, set-append_right, set-get_or, length-take-le, length-append, length-map, length-drop, get_or-take, get_or-drop, get_or_default}
 use Rattle.std.proofs.lemmas.List.Edits.{map_over_more}
 use Rattle.blk_bitmaps.specs.declared.row.Bitmap.{Bitmap}
-use Rattle.blk_bitmaps.specs.Rows.{is_named, joined}
-use Rattle.blk_bitmaps.specs.Refusals.{first, use_refusal, busy_refusal}
+use Rattle.blk_bitmaps.specs.Rows.{is_named, merged_row}
+use Rattle.blk_bitmaps.specs.Refusals.{first_row, use_refusal, busy_refusal}
 use Rattle.blk_bitmaps.specs.Calls.{with_first, without_first, with_source}
 use Rattle.blk_bitmaps.proofs.SetLemmas.{merged_self}
 
 -- what the definitions say of the first row that passes, at its place
 pub record At (test : Bitmap → Bool) (change : Bitmap → Bitmap) (rows : List Bitmap) (place : ℕ) (d : Bitmap) : Type 0 where
   pub within : place < length rows
-  pub found : first test rows ≡ Some (get_or rows place d)
+  pub found : first_row test rows ≡ Some (get_or rows place d)
   pub changed : with_first test change rows ≡ set rows place (change (get_or rows place d))
   pub gone : without_first test rows ≡ remove rows place
 
 -- no row passes
 pub record Nowhere (test : Bitmap → Bool) (change : Bitmap → Bitmap) (rows : List Bitmap) : Type 0 where
-  pub found : first test rows ≡ None
+  pub found : first_row test rows ≡ None
   pub changed : with_first test change rows ≡ rows
 
 at : (test : Bitmap → Bool) (change : Bitmap → Bitmap) (rows : List Bitmap) (d : Bitmap) → position_or_len test rows < length rows
@@ -74,14 +74,14 @@ absent test change rows is = elim (cases_lt (position_or_len test rows) (length 
   | inr past ↦ nowhere test change rows (omega arith)
 ]
 
-pub find_at : (test : Bitmap → Bool) (rows : List Bitmap) (place : ℕ) (d : Bitmap) → position test rows ≡ Some place → first test rows ≡ Some (get_or rows place d)
+pub find_at : (test : Bitmap → Bool) (rows : List Bitmap) (place : ℕ) (d : Bitmap) → position test rows ≡ Some place → first_row test rows ≡ Some (get_or rows place d)
 find_at test rows place d is = (placed test (λ row. row) rows place d is).found
 
-pub find_none : (test : Bitmap → Bool) (rows : List Bitmap) → position test rows ≡ None → first test rows ≡ None
+pub find_none : (test : Bitmap → Bool) (rows : List Bitmap) → position test rows ≡ None → first_row test rows ≡ None
 find_none test rows is = (absent test (λ row. row) rows is).found
 
 pub refusal_at : (d : Bitmap) (test : Bitmap → Bool) (rows : List Bitmap) (place : ℕ) (job : Option ℕ) → position test rows ≡ Some place
-    → (get_or rows place d).busy ≡ job → use_refusal (first test rows) ≡ busy_refusal job
+    → (get_or rows place d).busy ≡ job → use_refusal (first_row test rows) ≡ busy_refusal job
 refusal_at d test rows place job is busy = ap use_refusal (find_at test rows place d is) ∙ ap busy_refusal busy
 
 -- a row of a part of the rows is written
@@ -99,46 +99,46 @@ set_front rows i m v below within =
     sym (rw (take-append-drop m rows) at written)
 
 -- a row merged with itself stays
-pub joined_self : (rows : List Bitmap) (i : ℕ) (d : Bitmap) → rows ≡ set rows i (joined (get_or rows i d) (get_or rows i d))
+pub joined_self : (rows : List Bitmap) (i : ℕ) (d : Bitmap) → rows ≡ set rows i (merged_row (get_or rows i d) (get_or rows i d))
 joined_self rows i d =
-    let same : joined (get_or rows i d) (get_or rows i d) ≡ get_or rows i d
+    let same : merged_row (get_or rows i d) (get_or rows i d) ≡ get_or rows i d
     = ap (λ s. record (get_or rows i d) { dirty = s }) (merged_self (get_or rows i d).granularity (get_or rows i d).dirty) in
     rw same (sym (set-get_or rows i d))
 
 pub join_back : (rows front back : List Bitmap) (from to : ℕ) (d v x y : Bitmap) → from < to → to < length rows → front ≡ take to rows → back ≡ drop to rows
-    → v ≡ joined (get_or front from x) (get_or back 0 y) → front ++ set back 0 v ≡ set rows to (joined (get_or rows from d) (get_or rows to d))
+    → v ≡ merged_row (get_or front from x) (get_or back 0 y) → front ++ set back 0 v ≡ set rows to (merged_row (get_or rows from d) (get_or rows to d))
 join_back rows front back from to d v x y below within front-is back-is is =
     let source : get_or front from x ≡ get_or rows from d
     = ap (λ r. get_or r from x) front-is ∙ get_or-take to rows from x below ∙ get_or_default rows from x d (omega arith) in
     let none : to + 0 ≡ to = omega arith in
     let target : get_or back 0 y ≡ get_or rows to d
     = ap (λ r. get_or r 0 y) back-is ∙ get_or-drop to rows 0 y ∙ ap (λ i. get_or rows i y) none ∙ get_or_default rows to y d within in
-    rw (is, source, target, front-is, back-is) (set_back rows to (joined (get_or rows from d) (get_or rows to d)) within)
+    rw (is, source, target, front-is, back-is) (set_back rows to (merged_row (get_or rows from d) (get_or rows to d)) within)
 
 pub join_front : (rows front back : List Bitmap) (from to : ℕ) (d v x y : Bitmap) → to < from → from < length rows → front ≡ take from rows → back ≡ drop from rows
-    → v ≡ joined (get_or back 0 x) (get_or front to y) → set front to v ++ back ≡ set rows to (joined (get_or rows from d) (get_or rows to d))
+    → v ≡ merged_row (get_or back 0 x) (get_or front to y) → set front to v ++ back ≡ set rows to (merged_row (get_or rows from d) (get_or rows to d))
 join_front rows front back from to d v x y below within front-is back-is is =
     let none : from + 0 ≡ from = omega arith in
     let source : get_or back 0 x ≡ get_or rows from d
     = ap (λ r. get_or r 0 x) back-is ∙ get_or-drop from rows 0 x ∙ ap (λ i. get_or rows i x) none ∙ get_or_default rows from x d within in
     let target : get_or front to y ≡ get_or rows to d
     = ap (λ r. get_or r to y) front-is ∙ get_or-take from rows to y below ∙ get_or_default rows to y d (omega arith) in
-    rw (is, source, target, front-is, back-is) (set_front rows to from (joined (get_or rows from d) (get_or rows to d)) below within)
+    rw (is, source, target, front-is, back-is) (set_front rows to from (merged_row (get_or rows from d) (get_or rows to d)) below within)
 
 -- a source is merged into the row at its place
 pub merged_at : (rows new : List Bitmap) (node : ℕ) (name : List ℕ) (test : Bitmap → Bool) (from to : ℕ) → position test rows ≡ Some from → position (is_named node name) rows ≡ Some to
-    → ((d : Bitmap) → new ≡ set rows to (joined (get_or rows from d) (get_or rows to d))) → new ≡ with_source rows node name (first test rows)
+    → ((d : Bitmap) → new ≡ set rows to (merged_row (get_or rows from d) (get_or rows to d))) → new ≡ with_source rows node name (first_row test rows)
 merged_at [] new node name test from to from-is to-is is = absurd (let none : position test [] ≡ None = refl in cc)
 merged_at (row ∷ rows) new node name test from to from-is to-is is =
-    is row ∙ sym (placed (is_named node name) (joined (get_or (row ∷ rows) from row)) (row ∷ rows) to row to-is).changed
+    is row ∙ sym (placed (is_named node name) (merged_row (get_or (row ∷ rows) from row)) (row ∷ rows) to row to-is).changed
     ∙ sym (ap (with_source (row ∷ rows) node name) (find_at test (row ∷ rows) from row from-is))
 
-pub source_absent : (rows : List Bitmap) (node : ℕ) (name : List ℕ) (test : Bitmap → Bool) → position test rows ≡ None → rows ≡ with_source rows node name (first test rows)
+pub source_absent : (rows : List Bitmap) (node : ℕ) (name : List ℕ) (test : Bitmap → Bool) → position test rows ≡ None → rows ≡ with_source rows node name (first_row test rows)
 source_absent rows node name test is = sym (ap (with_source rows node name) (find_none test rows is))
 
 pub target_absent : (rows : List Bitmap) (node : ℕ) (name : List ℕ) (source : Option Bitmap) → position (is_named node name) rows ≡ None → rows ≡ with_source rows node name source
 target_absent rows node name None is = refl
-target_absent rows node name (Some source) is = sym (absent (is_named node name) (joined source) rows is).changed
+target_absent rows node name (Some source) is = sym (absent (is_named node name) (merged_row source) rows is).changed
 
 -- one more row is changed in place
 pub noted : (change : Bitmap → Bitmap) (rows now : List Bitmap) (i : ℕ) (r v : Bitmap) → i < length rows → now ≡ map change (take i rows) ++ drop i rows

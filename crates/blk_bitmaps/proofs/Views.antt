@@ -8,8 +8,8 @@ use Rattle.std.proofs.lemmas.List.Sums.{count_by_more_no, count_by_more_yes}
 use Rattle.blk_graph.proofs.Members.{Contains-here, Contains-there, Contains-cases, Contains-nil}
 use Rattle.blk_bits.specs.Granules.{contains}
 use Rattle.blk_bitmaps.specs.declared.row.Bitmap.{Bitmap}
-use Rattle.blk_bitmaps.specs.Rows.{is_named, is_dirty, dirty_below, AreSingle}
-use Rattle.blk_bitmaps.specs.Refusals.{first}
+use Rattle.blk_bitmaps.specs.Rows.{is_named, is_dirty, dirty_below, HaveDistinctNames}
+use Rattle.blk_bitmaps.specs.Refusals.{first_row}
 use Rattle.blk_bitmaps.specs.Calls.{with_first, without_first, where_so}
 
 -- ---- names
@@ -62,7 +62,7 @@ module _ {V : Type 0} (view : Bitmap → V) (n : ℕ) (m : List ℕ) (test : V �
         let here : test (view row) ≡ false = same row ∙ parts.0 in
         rw here (ap (λ vs. view row ∷ vs) (still rows parts.1))
 
-    pub changed-view : (f : Bitmap → Bitmap) → ((row : Bitmap) → view (f row) ≡ g (view row)) → (rows : List Bitmap) → AreSingle rows
+    pub changed-view : (f : Bitmap → Bitmap) → ((row : Bitmap) → view (f row) ≡ g (view row)) → (rows : List Bitmap) → HaveDistinctNames rows
         → map view (with_first (is_named n m) f rows) ≡ map (λ v. cond (test v) (g v) v) (map view rows)
     changed-view f fits [] single = refl
     changed-view f fits (row ∷ rows) single = at (is_named n m row) refl (changed-view f fits rows single.1)
@@ -85,7 +85,7 @@ module _ {V : Type 0} (view : Bitmap → V) (n : ℕ) (m : List ℕ) (test : V �
       let here : test (view row) ≡ false = same row ∙ parts.0 in
       rw here (ap (λ vs. view row ∷ vs) (kept rows parts.1))
 
-  pub removed-view : (rows : List Bitmap) → AreSingle rows
+  pub removed-view : (rows : List Bitmap) → HaveDistinctNames rows
       → map view (without_first (is_named n m) rows) ≡ filter (λ v. not (test v)) (map view rows)
   removed-view [] single = refl
   removed-view (row ∷ rows) single = at (is_named n m row) refl (removed-view rows single.1)
@@ -100,12 +100,12 @@ module _ {V : Type 0} (view : Bitmap → V) (n : ℕ) (m : List ℕ) (test : V �
           let here : test (view row) ≡ false = same row ∙ e in
           rw here (ap (λ vs. view row ∷ vs) rest)
 
-  pub found-view : (rows : List Bitmap) → find test (map view rows) ≡ option_map view (first (is_named n m) rows)
+  pub found-view : (rows : List Bitmap) → find test (map view rows) ≡ option_map view (first_row (is_named n m) rows)
   found-view [] = refl
   found-view (row ∷ rows) = rw (same row) (at (is_named n m row) (found-view rows))
     where
-      at : (b : Bool) → find test (map view rows) ≡ option_map view (first (is_named n m) rows)
-          → cond b (Some (view row)) (find test (map view rows)) ≡ option_map view (cond b (Some row) (first (is_named n m) rows))
+      at : (b : Bool) → find test (map view rows) ≡ option_map view (first_row (is_named n m) rows)
+          → cond b (Some (view row)) (find test (map view rows)) ≡ option_map view (cond b (Some row) (first_row (is_named n m) rows))
       at true rest = refl
       at false rest = rest
 
@@ -155,10 +155,10 @@ where-view view test f by g (row ∷ rows) tells fits =
     at false rest = ap (λ vs. view row ∷ vs) rest
 
 -- a row is what is found by its node and name
-pub found-itself : (rows : List Bitmap) (row : Bitmap) → AreSingle rows → Contains rows row → first (is_named row.node row.name.bytes) rows ≡ Some row
+pub found-itself : (rows : List Bitmap) (row : Bitmap) → HaveDistinctNames rows → Contains rows row → first_row (is_named row.node row.name.bytes) rows ≡ Some row
 found-itself [] row single there = absurd (Contains-nil row there)
 found-itself (x ∷ rows) row single there = elim (Contains-cases x rows row there) [
-  | inl here ↦ subst (λ r. cond (is_named r.node r.name.bytes x) (Some x) (first (is_named r.node r.name.bytes) rows) ≡ Some r) (sym here) (rw (named-itself x) refl)
+  | inl here ↦ subst (λ r. cond (is_named r.node r.name.bytes x) (Some x) (first_row (is_named r.node r.name.bytes) rows) ≡ Some r) (sym here) (rw (named-itself x) refl)
   | inr later ↦
       let other : is_named row.node row.name.bytes x ≡ false = named-back x row (unnamed rows single.0 later) in
       rw other (found-itself rows row single.1 later)
@@ -177,7 +177,7 @@ found-itself (x ∷ rows) row single there = elim (Contains-cases x rows row the
 
 -- the nodes and names are the same
 pub single-same : (rows now : List Bitmap) → map (λ row. row.node) now ≡ map (λ row. row.node) rows → map (λ row. row.name.bytes) now ≡ map (λ row. row.name.bytes) rows
-    → AreSingle rows → AreSingle now
+    → HaveDistinctNames rows → HaveDistinctNames now
 single-same rows [] nodes names single = tt
 single-same [] (y ∷ now) nodes names single = absurd cc
 single-same (x ∷ rows) (y ∷ now) nodes names single =
@@ -211,17 +211,17 @@ none-fewer p q (row ∷ rows) none =
     at true with_it rest = with_it
     at false with_it rest = rest
 
-pub single-fewer : (q : Bitmap → Bool) (rows : List Bitmap) → AreSingle rows → AreSingle (filter q rows)
+pub single-fewer : (q : Bitmap → Bool) (rows : List Bitmap) → HaveDistinctNames rows → HaveDistinctNames (filter q rows)
 single-fewer q [] single = tt
 single-fewer q (row ∷ rows) single =
     at (q row) (none-fewer (is_named row.node row.name.bytes) q rows single.0, single-fewer q rows single.1) (single-fewer q rows single.1)
   where
-    at : (b : Bool) → AreSingle (row ∷ filter q rows) → AreSingle (filter q rows) → AreSingle (cond b (row ∷ filter q rows) (filter q rows))
+    at : (b : Bool) → HaveDistinctNames (row ∷ filter q rows) → HaveDistinctNames (filter q rows) → HaveDistinctNames (cond b (row ∷ filter q rows) (filter q rows))
     at true with_it rest = with_it
     at false with_it rest = rest
 
 -- without the first of a name they are those that pass a test
-pub without-filter : (n : ℕ) (m : List ℕ) (rows : List Bitmap) → AreSingle rows → without_first (is_named n m) rows ≡ filter (λ row. not (is_named n m row)) rows
+pub without-filter : (n : ℕ) (m : List ℕ) (rows : List Bitmap) → HaveDistinctNames rows → without_first (is_named n m) rows ≡ filter (λ row. not (is_named n m row)) rows
 without-filter n m rows single = sym (own (without_first (is_named n m) rows)) ∙ removed-view (λ row. row) n m (is_named n m) (λ row. refl) rows single ∙ ap (filter (λ row. not (is_named n m row))) (own rows)
   where
     own : (rows : List Bitmap) → map (λ row. row) rows ≡ rows
@@ -229,7 +229,7 @@ without-filter n m rows single = sym (own (without_first (is_named n m) rows)) �
     own (row ∷ rows) = ap (λ rs. row ∷ rs) (own rows)
 
 -- one more, of another node or name
-pub single-push : (row : Bitmap) (rows : List Bitmap) → list_any (is_named row.node row.name.bytes) rows ≡ false → AreSingle rows → AreSingle (rows ++ row ∷ [])
+pub single-push : (row : Bitmap) (rows : List Bitmap) → list_any (is_named row.node row.name.bytes) rows ≡ false → HaveDistinctNames rows → HaveDistinctNames (rows ++ row ∷ [])
 single-push row [] none single = (refl, tt)
 single-push row (x ∷ rows) none single =
     let parts = or-both (is_named row.node row.name.bytes x) (list_any (is_named row.node row.name.bytes) rows) none in

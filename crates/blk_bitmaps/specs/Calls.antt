@@ -4,7 +4,7 @@ use Rattle.blk_base.specs.Pieces.{Extent}
 use Rattle.blk_base.specs.Written.{Written}
 use Rattle.blk_bitmaps.specs.declared.row.Bitmap.{Bitmap}
 use Rattle.blk_bitmaps.specs.declared.sources.Source.{Source}
-use Rattle.blk_bitmaps.specs.Rows.{added, turned, emptied, filled, written, joined, used, given_back, is_named, records, is_used_by}
+use Rattle.blk_bitmaps.specs.Rows.{added, switched, emptied, filled, written, merged_row, used, use_ended, is_named, records, is_used_by}
 use Rattle.blk_bitmaps.specs.Refusals.{source_of}
 
 pub data Call : Type 0 where
@@ -37,27 +37,28 @@ where_so test change rows = map (λ row. if test row then change row else row) r
 
 abbrev pub with_source : List Bitmap → ℕ → List ℕ → Option Bitmap → List Bitmap
 with_source rows node name None = rows
-with_source rows node name (Some source) = with_first (is_named node name) (joined source) rows
+with_source rows node name (Some source) = with_first (is_named node name) (merged_row source) rows
 
 abbrev pub with_sources : List Bitmap → ℕ → List ℕ → List Source → List Bitmap
 with_sources rows node name [] = rows
 with_sources rows node name (source ∷ sources) =
     with_sources (with_source rows node name (source_of rows source)) node name sources
 
-abbrev pub after : List Bitmap → Call → List Bitmap
-after rows (Add node name size granularity on) = rows ++ added node name size granularity on ∷ []
-after rows (Remove node name) = without_first (is_named node name) rows
-after rows (RemoveAll node) = filter (λ row. not (row.node == node)) rows
-after rows (Enable node name) = with_first (is_named node name) (turned true) rows
-after rows (Disable node name) = with_first (is_named node name) (turned false) rows
-after rows (Clear node name) = with_first (is_named node name) emptied rows
-after rows (Merge node target sources) = with_sources rows node target sources
-after rows (NoteWrite node span) = where_so (records node) (written span) rows
-after rows (NoteAll node) = where_so (records node) filled rows
-after rows (Freeze node name job) = with_first (is_named node name) (used job) rows
-after rows (Release job success) = where_so (is_used_by job) (given_back success) rows
+abbrev pub rows_after_call : List Bitmap → Call → List Bitmap
+rows_after_call rows (Add node name size granularity on) =
+    rows ++ added node name size granularity on ∷ []
+rows_after_call rows (Remove node name) = without_first (is_named node name) rows
+rows_after_call rows (RemoveAll node) = filter (λ row. not (row.node == node)) rows
+rows_after_call rows (Enable node name) = with_first (is_named node name) (switched true) rows
+rows_after_call rows (Disable node name) = with_first (is_named node name) (switched false) rows
+rows_after_call rows (Clear node name) = with_first (is_named node name) emptied rows
+rows_after_call rows (Merge node target sources) = with_sources rows node target sources
+rows_after_call rows (NoteWrite node span) = where_so (records node) (written span) rows
+rows_after_call rows (NoteAll node) = where_so (records node) filled rows
+rows_after_call rows (Freeze node name job) = with_first (is_named node name) (used job) rows
+rows_after_call rows (Release job success) = where_so (is_used_by job) (use_ended success) rows
 
 -- the rows after the calls in turn
 abbrev pub after_all : List Bitmap → List Call → List Bitmap
 after_all rows [] = rows
-after_all rows (call ∷ calls) = after_all (after rows call) calls
+after_all rows (call ∷ calls) = after_all (rows_after_call rows call) calls

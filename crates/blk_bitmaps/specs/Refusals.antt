@@ -5,20 +5,20 @@ use Rattle.blk_bitmaps.specs.declared.row.Bitmap.{Bitmap}
 use Rattle.blk_bitmaps.specs.declared.sources.Source.{Source}
 use Rattle.blk_bitmaps.specs.declared.stop.BitmapStop.{BitmapStop}
 use Rattle.blk_bitmaps.specs.declared.stop.BitmapStop.TheVariants.{NameTaken, NotFound, Busy, Granularity, SizeDiffers, TooMany}
-use Rattle.blk_bitmaps.specs.Rows.{is_named, is_granularity}
+use Rattle.blk_bitmaps.specs.Rows.{is_named, is_granule_size}
 
 -- the first row that passes a test
-abbrev pub first : (Bitmap → Bool) → List Bitmap → Option Bitmap
-first test [] = None
-first test (row ∷ rows) = if test row then Some row else first test rows
+abbrev pub first_row : (Bitmap → Bool) → List Bitmap → Option Bitmap
+first_row test [] = None
+first_row test (row ∷ rows) = if test row then Some row else first_row test rows
 
 abbrev pub find : List Bitmap → ℕ → List ℕ → Option Bitmap
-find rows node name = first (is_named node name) rows
+find rows node name = first_row (is_named node name) rows
 
 abbrev pub add_refusal : List Bitmap → ℕ → List ℕ → ℕ → Option BitmapStop
 add_refusal rows node name granularity =
     if is_some (find rows node name) then Some NameTaken
-    else if not (is_granularity granularity) then Some Granularity
+    else if not (is_granule_size granularity) then Some Granularity
     else if nat_le 64 (length rows) then Some TooMany
     else None
 

@@ -8,8 +8,8 @@ use Rattle.blk_bits.specs.Granules.{contains, those_below, merged}
 use Rattle.blk_bitmaps.specs.declared.row.Bitmap.{Bitmap}
 
 -- a power of two from 512 to 2,097,152
-abbrev pub is_granularity : ℕ → Bool
-is_granularity bytes = nat_le 512 bytes && (nat_le bytes 2097152 && is_power_of_two bytes)
+abbrev pub is_granule_size : ℕ → Bool
+is_granule_size bytes = nat_le 512 bytes && (nat_le bytes 2097152 && is_power_of_two bytes)
 
 -- how many granules a disk has; the last one may reach past its end
 abbrev pub granule_count : ℕ → ℕ → ℕ
@@ -22,12 +22,12 @@ is_named node name row = (row.node == node) && bytes_eq row.name.bytes name
 abbrev pub records : ℕ → Bitmap → Bool
 records node row = (row.node == node) && row.enabled
 
-abbrev pub is_job : ℕ → Option ℕ → Bool
-is_job job None = false
-is_job job (Some other) = other == job
+abbrev pub is_busy_with : ℕ → Option ℕ → Bool
+is_busy_with job None = false
+is_busy_with job (Some other) = other == job
 
 abbrev pub is_used_by : ℕ → Bitmap → Bool
-is_used_by job row = is_job job row.busy
+is_used_by job row = is_busy_with job row.busy
 
 -- a new row: nothing is dirty, and no job uses it
 abbrev pub added : ℕ → Written → ℕ → ℕ → Bool → Bitmap
@@ -42,8 +42,8 @@ added node name size granularity on = record {
   frozen = None;
 }
 
-abbrev pub turned : Bool → Bitmap → Bitmap
-turned on row = record row { enabled = on }
+abbrev pub switched : Bool → Bitmap → Bitmap
+switched on row = record row { enabled = on }
 
 abbrev pub emptied : Bitmap → Bitmap
 emptied row = record row { dirty = replicate (length row.dirty) false }
@@ -52,8 +52,8 @@ abbrev pub filled : Bitmap → Bitmap
 filled row = record row { dirty = replicate (length row.dirty) true }
 
 -- granule k has a byte of the span
-abbrev pub touches : ℕ → Extent → ℕ → Bool
-touches granularity span k =
+abbrev pub span_touches : ℕ → Extent → ℕ → Bool
+span_touches granularity span k =
     nat_lt 0 span.len
     && (nat_lt (granularity * k) (span.start + span.len)
     && nat_lt span.start (granularity * (k + 1)))
@@ -63,12 +63,12 @@ abbrev pub written : Extent → Bitmap → Bitmap
 written span row =
     record row {
       dirty = those_below (length row.dirty)
-          (λ k. contains row.dirty k || touches row.granularity span k);
+          (λ k. contains row.dirty k || span_touches row.granularity span k);
     }
 
 -- each granule that overlaps a dirty one of the source is dirty
-abbrev pub joined : Bitmap → Bitmap → Bitmap
-joined source row =
+abbrev pub merged_row : Bitmap → Bitmap → Bitmap
+merged_row source row =
     record row {
       dirty = merged (record { mine = row.granularity; theirs = source.granularity })
           row.dirty source.dirty;
@@ -88,8 +88,8 @@ with_frozen set None = set
 with_frozen set (Some old) = those_below (length set) (λ k. contains set k || contains old k)
 
 -- the use ends: after a success what was put aside is dropped, else it is dirty again
-abbrev pub given_back : Bool → Bitmap → Bitmap
-given_back success row = record row {
+abbrev pub use_ended : Bool → Bitmap → Bitmap
+use_ended success row = record row {
   busy = None;
   dirty = if success then row.dirty else with_frozen row.dirty row.frozen;
   frozen = None;
@@ -111,9 +111,10 @@ dirty_below row (suc k) = dirty_below row k + (if is_dirty row k then 1 else 0)
 -- ---- tables of rows
 
 -- no two have one node and name
-abbrev pub AreSingle : List Bitmap → Type 0
-AreSingle [] = Unit {0}
-AreSingle (row ∷ rows) = (list_any (is_named row.node row.name.bytes) rows ≡ false) × AreSingle rows
+abbrev pub HaveDistinctNames : List Bitmap → Type 0
+HaveDistinctNames [] = Unit {0}
+HaveDistinctNames (row ∷ rows) =
+    (list_any (is_named row.node row.name.bytes) rows ≡ false) × HaveDistinctNames rows
 
 -- the bytes of its granules are counted in 64 bits
 abbrev pub IsCountable : Bitmap → Type 0

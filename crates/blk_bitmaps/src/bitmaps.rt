@@ -1,8 +1,8 @@
 //! The table and its calls.
 ghost use Rattle.std.specs.Prelude.{◌≡◌, ◌<◌, ◌==◌, [], ◌∷◌, ◌++◌, filter, vec_capacity, IfOk, IsOk, IfErr, OnOk, OnErr, Err, MatchOption, option_copied, length, nat_le, not, Some, None, if◌then◌else◌, is_some};
-ghost use Rattle.blk_bitmaps.specs.Rows.{added, is_named, is_granularity, granule_count, IsCountable};
+ghost use Rattle.blk_bitmaps.specs.Rows.{added, is_named, is_granule_size, granule_count, IsCountable};
 ghost use Rattle.blk_bitmaps.specs.Refusals.{find, add_refusal, use_refusal, merge_refusal};
-ghost use Rattle.blk_bitmaps.specs.Calls.{after, with_source, Add, Remove, RemoveAll, Enable, Disable, Clear, Merge, NoteWrite, NoteAll, Freeze, Release};
+ghost use Rattle.blk_bitmaps.specs.Calls.{rows_after_call, with_source, Add, Remove, RemoveAll, Enable, Disable, Clear, Merge, NoteWrite, NoteAll, Freeze, Release};
 
 use crate::find::{find, free_place};
 use crate::granularity::Granularity;
@@ -102,7 +102,7 @@ impl Bitmaps {
         ensures answer { MatchOption (add_refusal self.old node name.bytes granularity)
             (IfErr result (λ stop. stop ≡ BitmapStop.NoMemory)) (λ stop. result ≡ Err stop) }
         ensures done { OnOk result
-            (self.new ≡ after self.old (Add node name size granularity enabled)) }
+            (self.new ≡ rows_after_call self.old (Add node name size granularity enabled)) }
         ensures refused { OnErr result (self.new ≡ self.old) }
     {
         let row = self.prepare(node, name, size, granularity, enabled)?;
@@ -114,7 +114,7 @@ impl Bitmaps {
     pub fn remove(&mut self, node: NodeId, name: &str) -> Result<(), BitmapStop>
         ensures answer { MatchOption (use_refusal (find self.old node name.now)) (IsOk result)
             (λ stop. result ≡ Err stop) }
-        ensures done { OnOk result (self.new ≡ after self.old (Remove node name.now)) }
+        ensures done { OnOk result (self.new ≡ rows_after_call self.old (Remove node name.now)) }
         ensures refused { OnErr result (self.new ≡ self.old) }
     {
         let place = free_place(self.rows.as_slice(), node, name)?;
@@ -124,7 +124,7 @@ impl Bitmaps {
 
     /// Removes all bitmaps of a node, as the node goes, whether or not a job uses them.
     pub fn remove_all(&mut self, node: NodeId)
-        ensures { self.new ≡ after self.old (RemoveAll node) }
+        ensures { self.new ≡ rows_after_call self.old (RemoveAll node) }
     {
         drop_all(&mut self.rows, node);
     }
@@ -133,7 +133,7 @@ impl Bitmaps {
     pub fn enable(&mut self, node: NodeId, name: &str) -> Result<(), BitmapStop>
         ensures answer { MatchOption (use_refusal (find self.old node name.now)) (IsOk result)
             (λ stop. result ≡ Err stop) }
-        ensures done { OnOk result (self.new ≡ after self.old (Enable node name.now)) }
+        ensures done { OnOk result (self.new ≡ rows_after_call self.old (Enable node name.now)) }
         ensures refused { OnErr result (self.new ≡ self.old) }
     {
         change::turn(self.rows.as_mut_slice(), node, name, true)
@@ -143,7 +143,7 @@ impl Bitmaps {
     pub fn disable(&mut self, node: NodeId, name: &str) -> Result<(), BitmapStop>
         ensures answer { MatchOption (use_refusal (find self.old node name.now)) (IsOk result)
             (λ stop. result ≡ Err stop) }
-        ensures done { OnOk result (self.new ≡ after self.old (Disable node name.now)) }
+        ensures done { OnOk result (self.new ≡ rows_after_call self.old (Disable node name.now)) }
         ensures refused { OnErr result (self.new ≡ self.old) }
     {
         change::turn(self.rows.as_mut_slice(), node, name, false)
@@ -153,7 +153,7 @@ impl Bitmaps {
     pub fn clear(&mut self, node: NodeId, name: &str) -> Result<(), BitmapStop>
         ensures answer { MatchOption (use_refusal (find self.old node name.now)) (IsOk result)
             (λ stop. result ≡ Err stop) }
-        ensures done { OnOk result (self.new ≡ after self.old (Clear node name.now)) }
+        ensures done { OnOk result (self.new ≡ rows_after_call self.old (Clear node name.now)) }
         ensures refused { OnErr result (self.new ≡ self.old) }
     {
         change::empty(self.rows.as_mut_slice(), node, name)
@@ -166,7 +166,8 @@ impl Bitmaps {
         ensures answer { MatchOption
             (merge_refusal self.old (find self.old node target.now) sources.now) (IsOk result)
             (λ stop. result ≡ Err stop) }
-        ensures done { OnOk result (self.new ≡ after self.old (Merge node target.now sources.now)) }
+        ensures done { OnOk result
+            (self.new ≡ rows_after_call self.old (Merge node target.now sources.now)) }
         ensures refused { OnErr result (self.new ≡ self.old) }
     {
         merge::judge(self.rows.as_slice(), node, target, sources.as_slice())?;
@@ -184,14 +185,14 @@ impl Bitmaps {
 
     /// A write to the node was made: each enabled bitmap of it has the span's granules dirty.
     pub fn note_write(&mut self, node: NodeId, span: Span)
-        ensures { self.new ≡ after self.old (NoteWrite node span) }
+        ensures { self.new ≡ rows_after_call self.old (NoteWrite node span) }
     {
         change::note_write(self.rows.as_mut_slice(), node, span);
     }
 
     /// Each enabled bitmap of the node has all its granules dirty.
     pub fn note_all(&mut self, node: NodeId)
-        ensures { self.new ≡ after self.old (NoteAll node) }
+        ensures { self.new ≡ rows_after_call self.old (NoteAll node) }
     {
         change::note_all(self.rows.as_mut_slice(), node);
     }
@@ -200,7 +201,7 @@ impl Bitmaps {
     pub fn freeze(&mut self, node: NodeId, name: &str, job: u32) -> Result<(), BitmapStop>
         ensures answer { MatchOption (use_refusal (find self.old node name.now))
             (IfErr result (λ stop. stop ≡ BitmapStop.NoMemory)) (λ stop. result ≡ Err stop) }
-        ensures done { OnOk result (self.new ≡ after self.old (Freeze node name.now job)) }
+        ensures done { OnOk result (self.new ≡ rows_after_call self.old (Freeze node name.now job)) }
         ensures refused { OnErr result (self.new ≡ self.old) }
     {
         change::freeze(self.rows.as_mut_slice(), self.alloc, node, name, job)
@@ -209,7 +210,7 @@ impl Bitmaps {
     /// A job ends its use of bitmaps: after a success they keep what was written since then alone, else what was put
     /// aside as well.
     pub fn release(&mut self, job: u32, success: bool)
-        ensures { self.new ≡ after self.old (Release job success) }
+        ensures { self.new ≡ rows_after_call self.old (Release job success) }
     {
         change::release(self.rows.as_mut_slice(), job, success);
     }

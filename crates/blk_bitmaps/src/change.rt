@@ -1,6 +1,6 @@
 //! What the calls make of the rows.
 ghost use Rattle.std.specs.Prelude.{◌≡◌, MatchOption, IsOk, IfErr, OnOk, OnErr, Err, true, false, map};
-ghost use Rattle.blk_bitmaps.specs.Rows.{is_named, records, is_used_by, turned, emptied, filled, written, used, given_back};
+ghost use Rattle.blk_bitmaps.specs.Rows.{is_named, records, is_used_by, switched, emptied, filled, written, used, use_ended};
 ghost use Rattle.blk_bitmaps.specs.Refusals.{find, use_refusal};
 ghost use Rattle.blk_bitmaps.specs.Calls.{with_first, where_so};
 
@@ -20,7 +20,7 @@ pub(crate) fn turn(
     ensures answer { MatchOption (use_refusal (find rows.old node name.now)) (IsOk result)
         (λ stop. result ≡ Err stop) }
     ensures done { OnOk result
-        (rows.new ≡ with_first (is_named node name.now) (turned on) rows.old) }
+        (rows.new ≡ with_first (is_named node name.now) (switched on) rows.old) }
     ensures refused { OnErr result (rows.new ≡ rows.old) }
 {
     let place = free_place(rows, node, name)?;
@@ -74,7 +74,7 @@ pub(crate) fn note_all(rows: &mut [Bitmap], node: NodeId)
 }
 
 pub(crate) fn release(rows: &mut [Bitmap], job: u32, success: bool)
-    ensures { rows.new ≡ where_so (is_used_by job) (given_back success) rows.old }
+    ensures { rows.new ≡ where_so (is_used_by job) (use_ended success) rows.old }
 {
     for place in 0..rows.len() {
         rows[place].release(job, success);

@@ -1,6 +1,6 @@
 //! Sizes of granules.
 ghost use Rattle.std.specs.Prelude.{◌≡◌, ◌<◌, Some, None, if◌then◌else◌};
-ghost use Rattle.blk_bitmaps.specs.Rows.{is_granularity};
+ghost use Rattle.blk_bitmaps.specs.Rows.{is_granule_size};
 
 use std::marker::Model;
 
@@ -25,7 +25,7 @@ impl Model for Granularity {
 impl Granularity {
     /// None where a granule can't have so many bytes.
     pub fn new(bytes: u64) -> Option<Self>
-        ensures { result ≡ (if is_granularity bytes then Some bytes else None) }
+        ensures { result ≡ (if is_granule_size bytes then Some bytes else None) }
     {
         if 512 <= bytes && bytes <= 2097152 && bytes.is_power_of_two() {
             Some(Granularity { bytes })

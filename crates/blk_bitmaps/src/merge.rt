@@ -1,6 +1,6 @@
 //! A merge of bitmaps.
 ghost use Rattle.std.specs.Prelude.{◌≡◌, ◌<◌, length, position, slice_index_or, slice_set, option_copied, None, Some, MatchOption, IsOk, Err};
-ghost use Rattle.blk_bitmaps.specs.Rows.{is_named, joined};
+ghost use Rattle.blk_bitmaps.specs.Rows.{is_named, merged_row};
 ghost use Rattle.blk_bitmaps.specs.Refusals.{find, source_of, is_absent, first_job, job_of, has_size, differs, sources_refusal, merge_refusal};
 ghost use Rattle.blk_bitmaps.specs.Calls.{with_source, with_sources};
 ghost use Rattle.blk_bitmaps.specs.declared.row.Bitmap.{Bitmap};
@@ -137,7 +137,7 @@ fn join(rows: &mut [Bitmap], from: usize, to: usize)
     requires to { to < length rows.old }
     ensures { (d : Bitmap)
         → rows.new ≡ slice_set rows.old to
-        (joined (slice_index_or rows.old from d) (slice_index_or rows.old to d)) }
+        (merged_row (slice_index_or rows.old from d) (slice_index_or rows.old to d)) }
 {
     if from < to {
         let (front, back) = rows.split_at_mut(to);

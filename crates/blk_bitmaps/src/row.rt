@@ -1,7 +1,7 @@
 //! One bitmap.
 ghost use Rattle.std.specs.Prelude.{◌≡◌, ◌*◌, ◌-◌, ◌^◌, ℕ, ◌<◌, ◌≤◌, min, length, replicate, false, true, Some, None, IfOk, OnOk, OnErr, if◌then◌else◌, ◌||◌};
 ghost use Rattle.blk_bits.specs.Granules.{in_span, contains, those_below};
-ghost use Rattle.blk_bitmaps.specs.Rows.{is_named, records, is_used_by, turned, emptied, filled, written, joined, used, given_back, touches, is_dirty, dirty_below};
+ghost use Rattle.blk_bitmaps.specs.Rows.{is_named, records, is_used_by, switched, emptied, filled, written, merged_row, used, use_ended, span_touches, is_dirty, dirty_below};
 
 use crate::granularity::Granularity;
 use blk_base::{NoMemory, Span, Text};
@@ -69,7 +69,7 @@ impl Bitmap {
     }
 
     pub(crate) fn turn(&mut self, on: bool)
-        ensures { self.new ≡ turned on self.old }
+        ensures { self.new ≡ switched on self.old }
     {
         self.enabled = on;
     }
@@ -106,7 +106,7 @@ impl Bitmap {
     }
 
     pub(crate) fn join(&mut self, source: &Bitmap)
-        ensures { self.new ≡ joined source.now self.old }
+        ensures { self.new ≡ merged_row source.now self.old }
     {
         let ratio = Ratio {
             mine: self.granularity.bytes(),
@@ -128,7 +128,7 @@ impl Bitmap {
 
     pub(crate) fn release(&mut self, job: u32, success: bool)
         ensures { self.new
-            ≡ (if is_used_by job self.old then given_back success self.old else self.old) }
+            ≡ (if is_used_by job self.old then use_ended success self.old else self.old) }
     {
         if self.busy == Some(job) {
             self.busy = None;
@@ -172,7 +172,8 @@ fn unite(set: &mut DirtySet, other: &DirtySet)
 fn mark(set: &mut DirtySet, granularity: u64, span: Span)
     requires { 0 < granularity }
     ensures { set.new
-        ≡ those_below (length set.old) (λ k. contains set.old k || touches granularity span k) }
+        ≡ those_below (length set.old)
+        (λ k. contains set.old k || span_touches granularity span k) }
 {
     let granules = touched(granularity, span, set.granules());
     set.set_span(granules.from, granules.to);
@@ -184,7 +185,7 @@ fn touched(granularity: u64, span: Span, count: u64) -> GranuleSpan
     ensures order { result.from ≤ result.to }
     ensures within { result.to ≤ count }
     ensures span { (k : ℕ) → k < count
-        → in_span result.from result.to k ≡ touches granularity span k }
+        → in_span result.from result.to k ≡ span_touches granularity span k }
 {
     if span.len == 0 {
         return GranuleSpan { from: 0, to: 0 };

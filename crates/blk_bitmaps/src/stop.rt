@@ -25,9 +25,9 @@ pub enum BitmapStop {
 
 impl fmt::Display for BitmapStop {
     ghost use Rattle.std.specs.Prelude.{Some};
-    ghost use Rattle.blk_bitmaps.specs.Stop.{stop_text};
+    ghost use Rattle.blk_bitmaps.specs.Stop.{bitmap_stop_text};
 
-    ghost output = { λ stop. Some (stop_text stop) };
+    ghost output = { λ stop. Some (bitmap_stop_text stop) };
 
     fn fmt<W: fmt::Write>(&self, f: &mut fmt::Formatter<W>) -> fmt::Result {
         match self {

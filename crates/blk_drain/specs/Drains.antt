@@ -22,8 +22,8 @@ abbrev pub in_flight : List GuestRow → ℕ → Option ℕ
 in_flight rows guest = (row_of_guest rows guest).request
 
 -- a guest has this request in flight, or none; all else stays
-abbrev pub with_request : List GuestRow → ℕ → Option ℕ → List GuestRow
-with_request rows guest request =
+abbrev pub guest_with_request : List GuestRow → ℕ → Option ℕ → List GuestRow
+guest_with_request rows guest request =
     slice_set rows guest (record (row_of_guest rows guest) { request = request })
 
 -- each of these guests' counts is changed so, no other guest's, and no request

@@ -1,5 +1,5 @@
 ghost use Rattle.std.specs.Prelude.{◌≡◌, ◌≢◌, ◌↔◌, ℕ, ◌<◌, ◌≤◌, List, Contains, All, AllPairs, length, replicate, Some, None, IfOk, IsSome};
-ghost use Rattle.blk_drain.specs.Drains.{idle, row_of_guest, drain_count, in_flight, with_request, Counted, risen, fallen, readiness};
+ghost use Rattle.blk_drain.specs.Drains.{idle, row_of_guest, drain_count, in_flight, guest_with_request, Counted, risen, fallen, readiness};
 
 use blk_base::NoMemory;
 use std::alloc::Global;
@@ -78,7 +78,7 @@ impl Drains {
         ensures held { (result ≡ Gate1.Held) ↔ (drain_count self.old guest ≢ 0) }
         ensures admitted { (result ≡ Gate1.Admitted) ↔ (drain_count self.old guest ≡ 0) }
         ensures begun { result ≡ Gate1.Admitted
-            → self.new ≡ with_request self.old guest (Some request) }
+            → self.new ≡ guest_with_request self.old guest (Some request) }
         ensures kept { result ≡ Gate1.Held → self.new ≡ self.old }
     {
         let row = &mut self.rows[guest as usize];
@@ -93,7 +93,7 @@ impl Drains {
     pub fn retire(&mut self, guest: u32)
         requires known { guest < 64 }
         requires busy { IsSome (in_flight self.old guest) }
-        ensures { self.new ≡ with_request self.old guest None }
+        ensures { self.new ≡ guest_with_request self.old guest None }
     {
         self.rows[guest as usize].request = None;
     }

@@ -2,7 +2,7 @@
 use Rattle.std.proofs.Common.{◌≡◌, ℕ, true, false, List, [], ◌∷◌, ◌++◌, ◌≢◌, filter, cond, not, eqb, eqb-true, ⊎_elim, subst, All, Option, Some, None, refl, sym, ap, ◌∙◌, append-nil}
 use Rattle.std.proofs.lemmas.List.Elements.{All-head, All-tail, filter-append}
 use Rattle.blk_lock.specs.declared.known.Stamped.{Stamped}
-use Rattle.blk_lock.specs.Stamps.{has_actor, is_by, entries_of, done_by, IsOthers, OthersAdd}
+use Rattle.blk_lock.specs.Stamps.{has_actor, is_by, entries_of, made_by_actor, IsOthers, OthersAdd}
 use Rattle.blk_lock.specs.Plays.{made_since, without}
 use Rattle.blk_lock.proofs.Tests.{not_true, not_both, or_cases, or_left, or_right}
 use Rattle.blk_lock.proofs.Splits.{has_actor-one}
@@ -21,21 +21,21 @@ module _ {E : Type 0} where
   pub grown_since : (seen : List (Stamped E)) (es history : List E) → history ≡ entries_of seen ++ es → history ≡ entries_of seen ++ made_since seen history
   grown_since seen es history is = is ∙ ap (λ l. entries_of seen ++ l) (sym (made_since_grown seen es history is))
 
-  none_done : (actor : E → Option ℕ) (names : List (List ℕ)) (actors : List ℕ) (a : ℕ) → has_actor actors a ≡ true → (xs : List (Stamped E)) → All (IsOthers actor names actors) xs → done_by actor a xs ≡ []
+  none_done : (actor : E → Option ℕ) (names : List (List ℕ)) (actors : List ℕ) (a : ℕ) → has_actor actors a ≡ true → (xs : List (Stamped E)) → All (IsOthers actor names actors) xs → made_by_actor actor a xs ≡ []
   none_done actor names actors a held [] all = refl
   none_done actor names actors a held (s ∷ xs) all =
       let P : Stamped E → Type 0 = IsOthers actor names actors in
       let tail = none_done actor names actors a held xs (All-tail P s xs all) in
       let other = one_of_these actors a (actor s.entry) held (All-head P s xs all).of_another in
-      ap (λ b. cond b (s.entry ∷ done_by actor a xs) (done_by actor a xs)) other ∙ tail
+      ap (λ b. cond b (s.entry ∷ made_by_actor actor a xs) (made_by_actor actor a xs)) other ∙ tail
 
-  pub done_by_append : (actor : E → Option ℕ) (a : ℕ) (xs ys : List (Stamped E)) → done_by actor a (xs ++ ys) ≡ done_by actor a xs ++ done_by actor a ys
+  pub done_by_append : (actor : E → Option ℕ) (a : ℕ) (xs ys : List (Stamped E)) → made_by_actor actor a (xs ++ ys) ≡ made_by_actor actor a xs ++ made_by_actor actor a ys
   done_by_append actor a xs ys = ap (filter (λ e. is_by (a ∷ []) (actor e))) (entries_of-append xs ys) ∙ filter-append (λ e. is_by (a ∷ []) (actor e)) (entries_of xs) (entries_of ys)
 
   -- what others add holds nothing of an actor that the pass holds
-  pub done_by_others : (actor : E → Option ℕ) (names : List (List ℕ)) (actors : List ℕ) (a : ℕ) (xs ys : List (Stamped E)) → OthersAdd actor names actors xs ys → has_actor actors a ≡ true → done_by actor a ys ≡ done_by actor a xs
+  pub done_by_others : (actor : E → Option ℕ) (names : List (List ℕ)) (actors : List ℕ) (a : ℕ) (xs ys : List (Stamped E)) → OthersAdd actor names actors xs ys → has_actor actors a ≡ true → made_by_actor actor a ys ≡ made_by_actor actor a xs
   done_by_others actor names actors a xs ys h held =
-      ap (done_by actor a) h.begins ∙ done_by_append actor a xs h.rest ∙ ap (λ l. done_by actor a xs ++ l) (none_done actor names actors a held h.rest h.by_others) ∙ append-nil (done_by actor a xs)
+      ap (made_by_actor actor a) h.begins ∙ done_by_append actor a xs h.rest ∙ ap (λ l. made_by_actor actor a xs ++ l) (none_done actor names actors a held h.rest h.by_others) ∙ append-nil (made_by_actor actor a xs)
 
 -- an actor that was not given away is kept
 filtered_keeps : (xs : List ℕ) (b a : ℕ) → a ≢ b → has_actor xs a ≡ true → has_actor (filter (λ x. not (eqb x b)) xs) a ≡ true

@@ -10,10 +10,10 @@ use Rattle.blk_lock.specs.declared.known.Stage.{Stage}
 use Rattle.blk_lock.specs.declared.known.Stage.TheVariants.{Spent, Fresh, Joined, Rest, Waiting, Out, Counted}
 use Rattle.blk_lock.specs.Rooms.{no_room, less, IsWithinRoom}
 use Rattle.blk_lock.specs.Stamps.{is_among, may_make, entries_of, stamped, made_by, OthersAdd}
-use Rattle.blk_lock.specs.Stages.{is_settled, ticket_of}
+use Rattle.blk_lock.specs.Stages.{is_at_rest_or_out, ticket_of}
 use Rattle.blk_lock.specs.Views.{mine}
 use Rattle.blk_lock.specs.Order.{HaveNoneInCommon}
-use Rattle.blk_lock.specs.Plays.{longer, side_of, joined_known, Joins, made_since, after_put, counted_known, HasTaken, Counts, Serves}
+use Rattle.blk_lock.specs.Plays.{longer, side_of, joined_known, Joins, made_since, after_put, counted_known, HasTaken, CountsMade, Serves}
 use Rattle.blk_lock.proofs.Made.{made_by-append, made_by-stamped, entries_of-stamped, entries_of-append}
 use Rattle.blk_lock.proofs.Frames.{Rule}
 use Rattle.blk_lock.proofs.Puts.{counts, serves}
@@ -27,7 +27,7 @@ pub taken_out : {W : Type 0} (hand : List (ℕ × Option W)) (x y : Option W) �
 taken_out hand x y is its = sym (ap in_hand_first its) ∙ ap in_hand_first is
 
 -- a pass rests where it has no turn out
-pub rests : {E : Type 0} (turn : Option Room) (stage : Stage E) → is_settled turn stage ≡ true → turn ≡ None → stage ≡ Rest
+pub rests : {E : Type 0} (turn : Option Room) (stage : Stage E) → is_at_rest_or_out turn stage ≡ true → turn ≡ None → stage ≡ Rest
 rests None Rest fits e = refl
 rests None Spent fits e = cc
 rests None Fresh fits e = cc
@@ -38,7 +38,7 @@ rests None (Counted t) fits e = cc
 rests (Some had) stage fits e = cc
 
 -- and has a ticket served where it has one out
-pub is_out_with : {E : Type 0} (turn : Option Room) (had : Room) (stage : Stage E) → is_settled turn stage ≡ true → turn ≡ Some had → (t : ℕ) × (stage ≡ Out t)
+pub is_out_with : {E : Type 0} (turn : Option Room) (had : Room) (stage : Stage E) → is_at_rest_or_out turn stage ≡ true → turn ≡ Some had → (t : ℕ) × (stage ≡ Out t)
 is_out_with None had stage fits e = cc
 is_out_with (Some r) had (Out t) fits e = (t, refl)
 is_out_with (Some r) had Spent fits e = cc
@@ -64,7 +64,7 @@ unspent room now None h = less-none room no_room now (omega arith, omega arith)
 unspent room now (Some had) h = less-none room had now h
 
 -- where the room that was to spare is known, its turn is out
-pub has_turn : {E : Type 0} (P : Room → Type 0) (turn : Option Room) (stage : Stage E) → is_settled turn stage ≡ true → IsSomeAnd turn P → (t : ℕ) × (stage ≡ Out t)
+pub has_turn : {E : Type 0} (P : Room → Type 0) (turn : Option Room) (stage : Stage E) → is_at_rest_or_out turn stage ≡ true → IsSomeAnd turn P → (t : ℕ) × (stage ≡ Out t)
 has_turn P None stage fits h = absurd h
 has_turn P (Some had) stage fits h = is_out_with (Some had) had stage fits refl
 
@@ -80,13 +80,13 @@ module _ {W E O : Type 0} (history : W → List E) (spare : W → Room) where
   abbrev pub counted : Known E O → W → Me (Option W) (Known E O)
   counted p world = held (counted_known (made_since p.view.seen (history world)) (spare world) p) world
 
-  pub counted_as : (p : Known E O) (m n : Me (Option W) (Known E O)) (world : W) → m ≡ held p world → Counts history spare m n → n ≡ counted p world
+  pub counted_as : (p : Known E O) (m n : Me (Option W) (Known E O)) (world : W) → m ≡ held p world → CountsMade history spare m n → n ≡ counted p world
   counted_as p m n world is h =
-      let k : Counts history spare (held p world) n = subst (λ (z : Me (Option W) (Known E O)). Counts history spare z n) is h in k.after world refl
+      let k : CountsMade history spare (held p world) n = subst (λ (z : Me (Option W) (Known E O)). CountsMade history spare z n) is h in k.after world refl
 
-  pub counted_named : (p : Known E O) (m n : Me (Option W) (Known E O)) (world : W) → m ≡ held p world → Counts history spare m n → is_among p.view.names p.view.name ≡ true
+  pub counted_named : (p : Known E O) (m n : Me (Option W) (Known E O)) (world : W) → m ≡ held p world → CountsMade history spare m n → is_among p.view.names p.view.name ≡ true
   counted_named p m n world is h =
-      let k : Counts history spare (held p world) n = subst (λ (z : Me (Option W) (Known E O)). Counts history spare z n) is h in k.named
+      let k : CountsMade history spare (held p world) n = subst (λ (z : Me (Option W) (Known E O)). CountsMade history spare z n) is h in k.named
 
 module _ {W E O : Type 0} (history : W → List E) (actor : E → Option ℕ) (spare : W → Room) (comes : W → O → Type 0) where
   abbrev M : Type 0
@@ -113,9 +113,9 @@ module _ {W E O : Type 0} (history : W → List E) (actor : E → Option ℕ) (s
     Lawful = Rule history actor spare comes opening start
 
     pub counts_held : (slots id entries : ℕ) (p : Known E O) (m : M) (world : W) → MayPut p world → m ≡ held p world → entries ≡ length (history world)
-        → Allows Lawful slots id m 2 (λ _. entries) (λ _ n. Counts history spare m n)
+        → Allows Lawful slots id m 2 (λ _. entries) (λ _ n. CountsMade history spare m n)
     counts_held slots id entries p m world may is all =
-        let Told : M × ℕ → Type 0 = λ z. Allows Lawful slots id z.0 2 (λ _. z.1) (λ _ n. Counts history spare z.0 n) in
+        let Told : M × ℕ → Type 0 = λ z. Allows Lawful slots id z.0 2 (λ _. z.1) (λ _ n. CountsMade history spare z.0 n) in
         subst Told (λ i. (sym is i, sym all i)) (counts history actor spare comes opening start slots id may.ticket (held p world) world may.out refl may.grown may.room may.allowed)
 
     pub serves_held : (slots id : ℕ) (p : Known E O) (m : M) (world : W) → MayPut p world → m ≡ counted history spare p world

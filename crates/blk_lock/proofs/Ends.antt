@@ -12,8 +12,8 @@ use Rattle.blk_lock.specs.declared.known.Stamped.{Stamped}
 use Rattle.blk_lock.specs.declared.known.Known.{Known}
 use Rattle.blk_lock.specs.declared.known.Stage.TheVariants.{Rest}
 use Rattle.blk_lock.specs.Rooms.{Measure, in_entries, in_bytes, amount, IsWithinRoom}
-use Rattle.blk_lock.specs.Stamps.{is_among, entries_of, taken, made_by, IsOthers}
-use Rattle.blk_lock.specs.Stages.{IsLive, is_out}
+use Rattle.blk_lock.specs.Stamps.{is_among, entries_of, room_taken, made_by, IsOthers}
+use Rattle.blk_lock.specs.Stages.{IsLive, has_world_out}
 use Rattle.blk_lock.specs.Order.{MayGive, IsSoundPass, Has, IsHome, first_known}
 use Rattle.blk_lock.proofs.Tests.{not_both, is_among-one}
 use Rattle.blk_lock.proofs.Histories.{All-then, All-later, OthersAdd-same}
@@ -69,7 +69,7 @@ module _ {W E O : Type 0} (history : W → List E) (actor : E → Option ℕ) (s
           told = empty;
           opened = opened;
           has_room = λ k. omega arith;
-          none_out = λ i p at. subst (λ (x : Known E O). is_out x.stage ≡ false) (at_one first p i at).1 refl;
+          none_out = λ i p at. subst (λ (x : Known E O). has_world_out x.stage ≡ false) (at_one first p i at).1 refl;
         };
       }
 
@@ -92,7 +92,7 @@ module _ {W E O : Type 0} (history : W → List E) (actor : E → Option ℕ) (s
       is_home : IsHome history spare comes opening r.log s.homes s.views
       is_home = ⊎_elim (λ h. h)
           (λ a. let same : id ≡ a.holder = sym (alone a.holder a.pass (a.there, out_is_live a.pass.stage a.out)) in
-          not_both (is_out v.stage) (subst (λ (x : Known E O). is_out x.stage ≡ true) (some-injective a.pass v (sym a.there ∙ (ap (get_elem? s.views) (sym same) ∙ at))) a.out) (ap is_out rest))
+          not_both (has_world_out v.stage) (subst (λ (x : Known E O). has_world_out x.stage ≡ true) (some-injective a.pass v (sym a.there ∙ (ap (get_elem? s.views) (sym same) ∙ at))) a.out) (ap has_world_out rest))
           r.place
 
       all_mine : All (λ m. is_among v.view.names m.maker ≡ true) r.log

@@ -10,9 +10,9 @@ use Rattle.blk_lock.specs.declared.known.Stamped.{Stamped}
 use Rattle.blk_lock.specs.declared.known.Known.{Known}
 use Rattle.blk_lock.specs.declared.known.Stage.{Stage}
 use Rattle.blk_lock.specs.Rooms.{Measure, amount}
-use Rattle.blk_lock.specs.Stamps.{is_among, taken, OthersAdd}
-use Rattle.blk_lock.specs.Stages.{IsLive, ticket_of, is_out}
-use Rattle.blk_lock.specs.Order.{StandsAt, MayGive, IsSoundPass, AreApart, Has, rooms, IsHome, IsAway, InOrder}
+use Rattle.blk_lock.specs.Stamps.{is_among, room_taken, OthersAdd}
+use Rattle.blk_lock.specs.Stages.{IsLive, ticket_of, has_world_out}
+use Rattle.blk_lock.specs.Order.{HoldsAtStage, MayGive, IsSoundPass, AreApart, Has, rooms, IsHome, IsAway, InOrder}
 use Rattle.blk_lock.proofs.Tests.{not_both}
 use Rattle.blk_lock.proofs.Histories.{All-then}
 use Rattle.blk_lock.proofs.Passes.{total-set, moved, AreApart-sym, on_each, on_pairs, on_all_pairs, makers_stay}
@@ -54,10 +54,10 @@ module _ {W E O : Type 0} (history : W → List E) (actor : E → Option ℕ) (s
           → (drawn served : ℕ) (log : List (Stamped E)) (words : List ℕ) (homes : List (mathlib.Core.Option.Option (Option W)))
           → words ≡ drawn ∷ served ∷ length log ∷ []
           → OthersAdd actor v.view.names v.view.actors seen log
-          → StandsAt actor drawn log w.view stage
+          → HoldsAtStage actor drawn log w.view stage
           → ((j : ℕ) (q : Known E O) → j ≢ id → Has s.views j q → IsSoundPass actor opening drawn log q)
           → All (IsNamed s.views) log
-          → ((k : Measure) → rooms k (set s.views id w) + taken k log ≤ amount k start)
+          → ((k : Measure) → rooms k (set s.views id w) + room_taken k log ≤ amount k start)
           → Place served log homes (set s.views id w)
           → Rule record { words = words; homes = homes; views = set s.views id w }
       moves is_live only drawn served log words homes words_are goes_on stands others named in_room place =
@@ -85,17 +85,17 @@ module _ {W E O : Type 0} (history : W → List E) (actor : E → Option ℕ) (s
       rooms_stay same k = let all = total-set (λ p. amount k p.view.room) s.views id v w at in let e = same k in omega arith
 
       -- the value stays where it is, where the pass does not have it
-      pub stays : is_out v.stage ≡ false → is_out stage ≡ false → ((k : Measure) → amount k room ≡ amount k v.view.room) → Place r.served r.log s.homes s.views → Place r.served r.log s.homes (set s.views id w)
+      pub stays : has_world_out v.stage ≡ false → has_world_out stage ≡ false → ((k : Measure) → amount k room ≡ amount k v.view.room) → Place r.served r.log s.homes s.views → Place r.served r.log s.homes (set s.views id w)
       stays was is same (inl h) = inl record {
         world = h.world;
         in_slot = h.in_slot;
         told = h.told;
         opened = h.opened;
         has_room = λ k. let e = rooms_stay same k in let b = h.has_room k in omega arith;
-        none_out = λ j q p. ⊎_elim (λ (t : (j ≡ id) × (w ≡ q)). subst (λ (x : Known E O). is_out x.stage ≡ false) t.1 is) (λ (t : (j ≢ id) × (get_elem? s.views j ≡ some q)). h.none_out j q t.1) (at_set s.views id j w q p);
+        none_out = λ j q p. ⊎_elim (λ (t : (j ≡ id) × (w ≡ q)). subst (λ (x : Known E O). has_world_out x.stage ≡ false) t.1 is) (λ (t : (j ≢ id) × (get_elem? s.views j ≡ some q)). h.none_out j q t.1) (at_set s.views id j w q p);
       }
       stays was is same (inr a) =
-          let ne : a.holder ≢ id = λ e. not_both (is_out v.stage) (subst (λ (x : Known E O). is_out x.stage ≡ true) (some-injective a.pass v (sym a.there ∙ (ap (get_elem? s.views) e ∙ at))) a.out) was in
+          let ne : a.holder ≢ id = λ e. not_both (has_world_out v.stage) (subst (λ (x : Known E O). has_world_out x.stage ≡ true) (some-injective a.pass v (sym a.there ∙ (ap (get_elem? s.views) e ∙ at))) a.out) was in
           inr record {
             holder = a.holder;
             pass = a.pass;
@@ -106,5 +106,5 @@ module _ {W E O : Type 0} (history : W → List E) (actor : E → Option ℕ) (s
             turn = a.turn;
             empty = a.empty;
             has_room = λ k. let e = rooms_stay same k in let b = a.has_room k in omega arith;
-            alone = λ j q p o. ⊎_elim (λ (t : (j ≡ id) × (w ≡ q)). not_both (is_out q.stage) o (subst (λ (x : Known E O). is_out x.stage ≡ false) t.1 is)) (λ (t : (j ≢ id) × (get_elem? s.views j ≡ some q)). a.alone j q t.1 o) (at_set s.views id j w q p);
+            alone = λ j q p o. ⊎_elim (λ (t : (j ≡ id) × (w ≡ q)). not_both (has_world_out q.stage) o (subst (λ (x : Known E O). has_world_out x.stage ≡ false) t.1 is)) (λ (t : (j ≢ id) × (get_elem? s.views j ≡ some q)). a.alone j q t.1 o) (at_set s.views id j w q p);
           }

@@ -13,8 +13,8 @@ use Rattle.blk_lock.specs.declared.known.Known.{Known}
 use Rattle.blk_lock.specs.declared.known.Stage.TheVariants.{Fresh, Joined, Rest}
 use Rattle.blk_lock.specs.Rooms.{Measure, in_entries, in_bytes, amount, no_room, plus}
 use Rattle.blk_lock.specs.Stamps.{is_among}
-use Rattle.blk_lock.specs.Stages.{IsLive, is_out}
-use Rattle.blk_lock.specs.Order.{HaveNoneInCommon, Unites, StandsAt, MayGive, IsSoundPass, AreApart, Has, rooms, IsHome, IsAway}
+use Rattle.blk_lock.specs.Stages.{IsLive, has_world_out}
+use Rattle.blk_lock.specs.Order.{HaveNoneInCommon, Unites, HoldsAtStage, MayGive, IsSoundPass, AreApart, Has, rooms, IsHome, IsAway}
 use Rattle.blk_lock.specs.Plays.{longer, joined_known, spent_known, resting, Settles}
 use Rattle.blk_lock.specs.Plays as plays
 use Rattle.blk_lock.proofs.Tests.{not_both, is_among-left, is_among-right, is_among-cases, has_actor-cases}
@@ -142,13 +142,13 @@ module _ {W E O : Type 0} (history : W → List E) (actor : E → Option ℕ) (s
       opened = h.opened;
       has_room = λ k. let a = rooms_same k in let b = h.has_room k in omega arith;
       none_out = λ j q p. ⊎_elim
-          (λ (t : (j ≡ other) × (spent_known ≡ q)). subst (λ (x : Known E O). is_out x.stage ≡ false) t.1 refl)
-          (λ (t : (j ≢ other) × (get_elem? (set s.views id both) j ≡ some q)). ⊎_elim (λ (x : (j ≡ id) × (both ≡ q)). subst (λ (y : Known E O). is_out y.stage ≡ false) x.1 refl) (λ (x : (j ≢ id) × (get_elem? s.views j ≡ some q)). h.none_out j q x.1) (at_set s.views id j both q t.1))
+          (λ (t : (j ≡ other) × (spent_known ≡ q)). subst (λ (x : Known E O). has_world_out x.stage ≡ false) t.1 refl)
+          (λ (t : (j ≢ other) × (get_elem? (set s.views id both) j ≡ some q)). ⊎_elim (λ (x : (j ≡ id) × (both ≡ q)). subst (λ (y : Known E O). has_world_out y.stage ≡ false) x.1 refl) (λ (x : (j ≢ id) × (get_elem? s.views j ≡ some q)). h.none_out j q x.1) (at_set s.views id j both q t.1))
           (at_set (set s.views id both) other j spent_known q p);
     }
     place (inr a) =
-        let ne_id : a.holder ≢ id = λ e. not_both (is_out v.stage) (subst (λ (x : Known E O). is_out x.stage ≡ true) (some-injective a.pass v (sym a.there ∙ (ap (get_elem? s.views) e ∙ at))) a.out) (ap is_out rest) in
-        let ne_other : a.holder ≢ other = λ e. not_both (is_out u.stage) (subst (λ (x : Known E O). is_out x.stage ≡ true) (some-injective a.pass u (sym a.there ∙ (ap (get_elem? s.views) e ∙ there))) a.out) (ap is_out rests) in
+        let ne_id : a.holder ≢ id = λ e. not_both (has_world_out v.stage) (subst (λ (x : Known E O). has_world_out x.stage ≡ true) (some-injective a.pass v (sym a.there ∙ (ap (get_elem? s.views) e ∙ at))) a.out) (ap has_world_out rest) in
+        let ne_other : a.holder ≢ other = λ e. not_both (has_world_out u.stage) (subst (λ (x : Known E O). has_world_out x.stage ≡ true) (some-injective a.pass u (sym a.there ∙ (ap (get_elem? s.views) e ∙ there))) a.out) (ap has_world_out rests) in
         inr record {
           holder = a.holder;
           pass = a.pass;
@@ -160,8 +160,8 @@ module _ {W E O : Type 0} (history : W → List E) (actor : E → Option ℕ) (s
           empty = a.empty;
           has_room = λ k. let e = rooms_same k in let b = a.has_room k in omega arith;
           alone = λ j q p o. ⊎_elim
-              (λ (t : (j ≡ other) × (spent_known ≡ q)). not_both (is_out q.stage) o (subst (λ (x : Known E O). is_out x.stage ≡ false) t.1 refl))
-              (λ (t : (j ≢ other) × (get_elem? (set s.views id both) j ≡ some q)). ⊎_elim (λ (x : (j ≡ id) × (both ≡ q)). not_both (is_out q.stage) o (subst (λ (y : Known E O). is_out y.stage ≡ false) x.1 refl)) (λ (x : (j ≢ id) × (get_elem? s.views j ≡ some q)). a.alone j q x.1 o) (at_set s.views id j both q t.1))
+              (λ (t : (j ≡ other) × (spent_known ≡ q)). not_both (has_world_out q.stage) o (subst (λ (x : Known E O). has_world_out x.stage ≡ false) t.1 refl))
+              (λ (t : (j ≢ other) × (get_elem? (set s.views id both) j ≡ some q)). ⊎_elim (λ (x : (j ≡ id) × (both ≡ q)). not_both (has_world_out q.stage) o (subst (λ (y : Known E O). has_world_out y.stage ≡ false) x.1 refl)) (λ (x : (j ≢ id) × (get_elem? s.views j ≡ some q)). a.alone j q x.1 o) (at_set s.views id j both q t.1))
               (at_set (set s.views id both) other j spent_known q p);
         }
 
@@ -184,7 +184,7 @@ module _ {W E O : Type 0} (history : W → List E) (actor : E → Option ℕ) (s
   joins id other v u rest rests s r at ne there = joins_one s r id other v u at ne (sym (set_else s.views id other (joined_known v u) ne) ∙ there) rest rests
 
   -- a pass that looks at the count and rests then
-  module _ (s : St) (r : Lawful s) (id : ℕ) (v : Known E O) (at : get_elem? s.views id ≡ some v) (live : IsLive v.stage) (off : is_out v.stage ≡ false) where
+  module _ (s : St) (r : Lawful s) (id : ℕ) (v : Known E O) (at : get_elem? s.views id ≡ some v) (live : IsLive v.stage) (off : has_world_out v.stage ≡ false) where
     rests_one : (cs : List (ℕ × Option W)) → Lawful (stepped s 2 (get_or s.words 2 0) id cs (resting v) keeps)
     rests_one cs =
         let same : (k : Measure) → amount k v.view.room ≡ amount k v.view.room = λ k. refl in
@@ -205,11 +205,11 @@ module _ {W E O : Type 0} (history : W → List E) (actor : E → Option ℕ) (s
       let live : IsLive v.stage = subst IsLive (sym fresh) tt in
       let mine = r.sound id v (at, live) in
       let P : Stamped E → Type 0 = λ m. is_among v.view.names m.maker ≡ false in
-      let none : All P r.log = subst (StandsAt actor r.drawn r.log v.view) fresh mine.stands in (
+      let none : All P r.log = subst (HoldsAtStage actor r.drawn r.log v.view) fresh mine.stands in (
         resting v,
         keeps,
         tt,
-        rests_one s r id v at live (ap is_out fresh) me.1,
+        rests_one s r id v at live (ap has_world_out fresh) me.1,
         record { after = refl; nothing = made_from-none v.view.names 0 v.view.seen (All-earlier P v.view.seen mine.goes_on.rest (subst (All P) mine.goes_on.begins none)) },
       )
 
@@ -221,12 +221,12 @@ module _ {W E O : Type 0} (history : W → List E) (actor : E → Option ℕ) (s
         resting v,
         keeps,
         tt,
-        rests_one s r id v at live (ap is_out joined) me.1,
+        rests_one s r id v at live (ap has_world_out joined) me.1,
         record {
           after = refl;
-          apart = λ l x is. (let two : Unites actor r.log v.view l x = subst (StandsAt actor r.drawn r.log v.view) is mine.stands in two.apart);
+          apart = λ l x is. (let two : Unites actor r.log v.view l x = subst (HoldsAtStage actor r.drawn r.log v.view) is mine.stands in two.apart);
           both = λ l x is longest.
-              let two : Unites actor r.log v.view l x = subst (StandsAt actor r.drawn r.log v.view) is mine.stands in
+              let two : Unites actor r.log v.view l x = subst (HoldsAtStage actor r.drawn r.log v.view) is mine.stands in
               let a = length-longer-left l.seen x.seen in let b = length-longer-right l.seen x.seen in let c = ap length longest in (
                 OthersAdd-between actor l.names v.view.names l.actors v.view.actors l.seen v.view.seen r.log two.from_left mine.goes_on (omega arith),
                 OthersAdd-between actor x.names v.view.names x.actors v.view.actors x.seen v.view.seen r.log two.from_right mine.goes_on (omega arith),

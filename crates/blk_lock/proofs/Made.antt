@@ -6,7 +6,7 @@ use Rattle.std.specs.List.{enumerate_from}
 use Rattle.blk_base.specs.declared.memory.Room.{Room}
 use Rattle.blk_lock.specs.declared.known.Stamped.{Stamped}
 use Rattle.blk_lock.specs.Rooms.{Measure, amount}
-use Rattle.blk_lock.specs.Stamps.{same_name, is_among, entries_of, stamped, taken, made_by, IsOthers, OthersAdd}
+use Rattle.blk_lock.specs.Stamps.{same_name, is_among, entries_of, stamped, room_taken, made_by, IsOthers, OthersAdd}
 use Rattle.blk_lock.specs.Plays.{made_since}
 use Rattle.blk_lock.proofs.Histories.{All-then}
 
@@ -126,15 +126,15 @@ module _ {E : Type 0} where
   All-stamped P Q name took [] each all = All-nil P
   All-stamped P Q name took (e ∷ es) each all = All-cons P (record { entry = e; maker = name; took = Some took }) (map (λ x. record { entry = x; maker = name; took = None }) es) (each e (Some took) (All-head Q e es all)) (unmarked_all P Q name es each (All-tail Q e es all))
 
-  unmarked_taken : (k : Measure) (name : List ℕ) (es : List E) → taken k (map (λ x. record { entry = x; maker = name; took = None }) es) ≡ 0
+  unmarked_taken : (k : Measure) (name : List ℕ) (es : List E) → room_taken k (map (λ x. record { entry = x; maker = name; took = None }) es) ≡ 0
   unmarked_taken k name [] = refl
   unmarked_taken k name (e ∷ es) = omega (arith, unmarked_taken k name es)
 
-  pub taken-stamped : (k : Measure) (name : List ℕ) (took : Room) (es : List E) → taken k (stamped name took es) ≤ amount k took
+  pub taken-stamped : (k : Measure) (name : List ℕ) (took : Room) (es : List E) → room_taken k (stamped name took es) ≤ amount k took
   taken-stamped k name took [] = omega arith
   taken-stamped k name took (e ∷ es) = omega (arith, unmarked_taken k name es)
 
-  pub taken-append : (k : Measure) (xs ys : List (Stamped E)) → taken k (xs ++ ys) ≡ taken k xs + taken k ys
+  pub taken-append : (k : Measure) (xs ys : List (Stamped E)) → room_taken k (xs ++ ys) ≡ room_taken k xs + room_taken k ys
   taken-append k [] ys = omega arith
   taken-append k (s ∷ xs) ys = omega (arith, taken-append k xs ys)
 

@@ -11,7 +11,7 @@ use Rattle.blk_lock.specs.declared.known.Known.{Known}
 use Rattle.blk_lock.specs.declared.known.Stage.{Stage}
 use Rattle.blk_lock.specs.declared.known.Stage.TheVariants.{Spent, Fresh, Joined, Rest, Waiting, Out, Counted}
 use Rattle.blk_lock.specs.Stamps.{is_among}
-use Rattle.blk_lock.specs.Stages.{IsLive, is_out}
+use Rattle.blk_lock.specs.Stages.{IsLive, has_world_out}
 use Rattle.blk_lock.specs.Order.{total, Has, AreApart}
 
 pub at_inside : {X : Type 0} (xs : List X) (i : ℕ) (x : X) → get_elem? xs i ≡ some x → i < length xs
@@ -42,7 +42,7 @@ module _ {X : Type 0} (f : X → ℕ) where
   total-two (z ∷ xs) (suc i) (suc j) x y apart at at' = omega (arith, total-two xs i j x y (λ e. apart (ap suc e)) at at')
 
 module _ {E : Type 0} where
-  pub out_is_live : (s : Stage E) → is_out s ≡ true → IsLive s
+  pub out_is_live : (s : Stage E) → has_world_out s ≡ true → IsLive s
   out_is_live Spent h = cc
   out_is_live Fresh h = tt
   out_is_live (Joined l r) h = tt

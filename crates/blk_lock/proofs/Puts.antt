@@ -13,9 +13,9 @@ use Rattle.blk_lock.specs.declared.known.Stage.{Stage}
 use Rattle.blk_lock.specs.declared.known.Stage.TheVariants.{Spent, Fresh, Joined, Rest, Waiting, Out, Counted}
 use Rattle.blk_lock.specs.Rooms.{Measure, in_entries, in_bytes, amount, no_room, less, IsWithinRoom}
 use Rattle.blk_lock.specs.Stamps.{is_among, has_actor, is_by, may_make, entries_of, stamped, IsOthers, OthersAdd}
-use Rattle.blk_lock.specs.Stages.{IsLive, ticket_of, is_out}
-use Rattle.blk_lock.specs.Order.{IsDrawn, StandsAt, IsSoundPass, AreApart, Has, rooms, IsAway}
-use Rattle.blk_lock.specs.Plays.{made_since, counted_known, Counts, Serves}
+use Rattle.blk_lock.specs.Stages.{IsLive, ticket_of, has_world_out}
+use Rattle.blk_lock.specs.Order.{IsDrawn, HoldsAtStage, IsSoundPass, AreApart, Has, rooms, IsAway}
+use Rattle.blk_lock.specs.Plays.{made_since, counted_known, CountsMade, Serves}
 use Rattle.blk_lock.proofs.Tests.{not_true, not_both, is_among-left, is_among-right, has_actor-left, has_actor-right}
 use Rattle.blk_lock.proofs.Histories.{All-then, OthersAdd-same, OthersAdd-more, IsOthers-fewer}
 use Rattle.blk_lock.proofs.Made.{All-stamped, entries_of-stamped, taken-stamped, taken-append, length-entries_of}
@@ -53,7 +53,7 @@ module _ {E : Type 0} (actor : E → Option ℕ) where
 
 module _ {E O : Type 0} (actor : E → Option ℕ) where
   -- what holds of a pass stays so when another's entries are counted
-  pub stands_on : (drawn : ℕ) (log more : List (Stamped E)) (v : View E O) (s : Stage E) → is_out s ≡ false → All (IsOthers actor v.names v.actors) more → StandsAt actor drawn log v s → StandsAt actor drawn (log ++ more) v s
+  pub stands_on : (drawn : ℕ) (log more : List (Stamped E)) (v : View E O) (s : Stage E) → has_world_out s ≡ false → All (IsOthers actor v.names v.actors) more → HoldsAtStage actor drawn log v s → HoldsAtStage actor drawn (log ++ more) v s
   stands_on drawn log more v Spent off all h = tt
   stands_on drawn log more v Fresh off all h = All-append (λ m. is_among v.names m.maker ≡ false) log more h (All-then (IsOthers actor v.names v.actors) (λ m. is_among v.names m.maker ≡ false) (λ m o. o.by_another) more all)
   stands_on drawn log more v (Joined l r) off all h =
@@ -90,15 +90,15 @@ module _ {W E O : Type 0} (history : W → List E) (actor : E → Option ℕ) (s
     pub pass : v ≡ away.pass
     pub ticket : ticket_of v.stage ≡ Some r.served
 
-  pub is_mine : (s : St) (r : Lawful s) (id : ℕ) (v : Known E O) → get_elem? s.views id ≡ some v → is_out v.stage ≡ true → IsMine s r id v
-  is_mine s r id v at out = ⊎_elim (λ h. not_both (is_out v.stage) out (h.none_out id v at))
+  pub is_mine : (s : St) (r : Lawful s) (id : ℕ) (v : Known E O) → get_elem? s.views id ≡ some v → has_world_out v.stage ≡ true → IsMine s r id v
+  is_mine s r id v at out = ⊎_elim (λ h. not_both (has_world_out v.stage) out (h.none_out id v at))
       (λ a. let here : id ≡ a.holder = a.alone id v at out in
       let same : v ≡ a.pass = some-injective v a.pass (sym at ∙ (ap (get_elem? s.views) here ∙ a.there)) in
       record { away = a; holder = here; pass = same; ticket = ap (λ (x : Known E O). ticket_of x.stage) same ∙ a.ticket })
       r.place
 
-  pub others_are_in : (s : St) (r : Lawful s) (id : ℕ) (v : Known E O) → IsMine s r id v → (j : ℕ) (q : Known E O) → j ≢ id → get_elem? s.views j ≡ some q → is_out q.stage ≡ false
-  others_are_in s r id v m j q ne at = not_true (is_out q.stage) (λ out. ne (m.away.alone j q at out ∙ sym m.holder))
+  pub others_are_in : (s : St) (r : Lawful s) (id : ℕ) (v : Known E O) → IsMine s r id v → (j : ℕ) (q : Known E O) → j ≢ id → get_elem? s.views j ≡ some q → has_world_out q.stage ≡ false
+  others_are_in s r id v m j q ne at = not_true (has_world_out q.stage) (λ out. ne (m.away.alone j q at out ∙ sym m.holder))
 
   -- what a turn made is counted
   module _ (s : St) (r : Lawful s) (id t : ℕ) (v : Known E O) (world : W) (at : get_elem? s.views id ≡ some v) (out : v.stage ≡ Out t)
@@ -131,12 +131,12 @@ module _ {W E O : Type 0} (history : W → List E) (actor : E → Option ℕ) (s
 
     stands : IsDrawn r.drawn ticket × (v.view.seen ≡ r.log)
     stands =
-        let h : IsDrawn r.drawn t × (v.view.seen ≡ r.log) = subst (StandsAt actor r.drawn r.log v.view) out mine.stands in
+        let h : IsDrawn r.drawn t × (v.view.seen ≡ r.log) = subst (HoldsAtStage actor r.drawn r.log v.view) out mine.stands in
         let same : t ≡ ticket = ap (λ (x : Stage E). unwrap_or (ticket_of x) 0) (sym out) in
         (subst (IsDrawn r.drawn) same h.0, h.1)
 
     has_it : IsMine s r id v
-    has_it = is_mine s r id v at (ap is_out out)
+    has_it = is_mine s r id v at (ap has_world_out out)
 
     apart_from : (j : ℕ) (q : Known E O) → j ≢ id → Has s.views j q → AreApart v q
     apart_from j q ne h = r.apart id j v q (λ e. ne (sym e)) (at, live) h
@@ -191,7 +191,7 @@ module _ {W E O : Type 0} (history : W → List E) (actor : E → Option ℕ) (s
       → history world ≡ entries_of me.0.view.seen ++ made_since me.0.view.seen (history world)
       → IsWithinRoom (less (unwrap_or me.0.view.turn no_room) (spare world)) me.0.view.room
       → All (λ e. may_make me.0.view.actors (actor e) ≡ true) (made_since me.0.view.seen (history world))
-      → Allows Lawful slots id me 2 (λ _. length (history world)) (λ _ m. Counts history spare me m)
+      → Allows Lawful slots id me 2 (λ _. length (history world)) (λ _ m. CountsMade history spare me m)
   counts slots id t me world out hand grown fits allowed s r _ at _ =
       let v : Known E O = me.0 in (
         counted_known (made_since v.view.seen (history world)) (spare world) v,
@@ -211,8 +211,8 @@ module _ {W E O : Type 0} (history : W → List E) (actor : E → Option ℕ) (s
   serves_one s r id t v world at out told opened turn =
       let live : IsLive v.stage = subst IsLive (sym out) tt in
       let mine = r.sound id v (at, live) in
-      let h : IsDrawn r.drawn t × (v.view.seen ≡ r.log) = subst (StandsAt actor r.drawn r.log v.view) out mine.stands in
-      let m = is_mine s r id v at (ap is_out out) in
+      let h : IsDrawn r.drawn t × (v.view.seen ≡ r.log) = subst (HoldsAtStage actor r.drawn r.log v.view) out mine.stands in
+      let m = is_mine s r id v at (ap has_world_out out) in
       let w : Known E O = moved v Rest v.view.seen v.view.room None in
       let now : get_or s.words 1 0 ≡ r.served = ap (λ l. get_or l 1 0) r.words in
       let is : t ≡ r.served = (let e : Some t ≡ Some r.served = sym (ap ticket_of out) ∙ m.ticket in cc) in
@@ -237,7 +237,7 @@ module _ {W E O : Type 0} (history : W → List E) (actor : E → Option ℕ) (s
         told = told ∙ ap entries_of h.1;
         opened = subst (λ o. IfSome o (comes world)) mine.opened opened;
         has_room = λ k. let e = kept k in let b = m.away.has_room k in let c = had_is k in omega arith;
-        none_out = λ j q p. ⊎_elim (λ (x : (j ≡ id) × (w ≡ q)). subst (λ (y : Known E O). is_out y.stage ≡ false) x.1 refl) (λ (x : (j ≢ id) × (get_elem? s.views j ≡ some q)). others_are_in s r id v m j q x.0 x.1) (at_set s.views id j w q p);
+        none_out = λ j q p. ⊎_elim (λ (x : (j ≡ id) × (w ≡ q)). subst (λ (y : Known E O). has_world_out y.stage ≡ false) x.1 refl) (λ (x : (j ≢ id) × (get_elem? s.views j ≡ some q)). others_are_in s r id v m j q x.0 x.1) (at_set s.views id j w q p);
       })
 
   serves_in_hand : (slots id t : ℕ) (v : Known E O) (world : W) → v.stage ≡ Counted t → history world ≡ entries_of v.view.seen → IfSome v.view.opening (comes world) → v.view.turn ≡ Some (spare world)

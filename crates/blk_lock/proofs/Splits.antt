@@ -12,8 +12,8 @@ use Rattle.blk_lock.specs.declared.known.Known.{Known}
 use Rattle.blk_lock.specs.declared.known.Stage.TheVariants.{Rest}
 use Rattle.blk_lock.specs.Rooms.{Measure, amount, IsWithinRoom}
 use Rattle.blk_lock.specs.Stamps.{is_among, has_actor, is_by, IsOthers}
-use Rattle.blk_lock.specs.Stages.{IsLive, is_out}
-use Rattle.blk_lock.specs.Order.{StandsAt, MayGive, IsSoundPass, AreApart, Has, rooms, IsHome, IsAway}
+use Rattle.blk_lock.specs.Stages.{IsLive, has_world_out}
+use Rattle.blk_lock.specs.Order.{HoldsAtStage, MayGive, IsSoundPass, AreApart, Has, rooms, IsHome, IsAway}
 use Rattle.blk_lock.specs.Plays.{without, list_of, split_known, fresh_known}
 use Rattle.blk_lock.proofs.Tests.{not_true, not_both, or_cases, is_among-here, is_among-one, has_actor-without}
 use Rattle.blk_lock.proofs.Histories.{All-then, All-later, OthersAdd-fewer}
@@ -170,7 +170,7 @@ module _ {W E O : Type 0} (history : W → List E) (actor : E → Option ℕ) (s
       named = mine.named;
       shared = omega arith;
       goes_on = OthersAdd-fewer actor v.view.names v.view.names v.view.actors (without v.view.actors given) (λ n t. t) fewer v.view.seen r.log mine.goes_on;
-      stands = subst (StandsAt actor r.drawn r.log left.view) (sym rest) tt;
+      stands = subst (HoldsAtStage actor r.drawn r.log left.view) (sym rest) tt;
     }
 
     apart_left : (j : ℕ) (q : Known E O) → j ≢ id → Has s.views j q → AreApart left q
@@ -224,12 +224,12 @@ module _ {W E O : Type 0} (history : W → List E) (actor : E → Option ℕ) (s
       opened = h.opened;
       has_room = λ k. let a = rooms_same k in let b = h.has_room k in omega arith;
       none_out = λ j q p. ⊎_elim
-          (λ (old : get_elem? passes j ≡ some q). ⊎_elim (λ (t : (j ≡ id) × (left ≡ q)). subst (λ (x : Known E O). is_out x.stage ≡ false) t.1 (ap is_out rest)) (λ (t : (j ≢ id) × (get_elem? s.views j ≡ some q)). h.none_out j q t.1) (at_set s.views id j left q old))
-          (λ (t : (j ≡ length passes) × (right ≡ q)). subst (λ (x : Known E O). is_out x.stage ≡ false) t.1 refl)
+          (λ (old : get_elem? passes j ≡ some q). ⊎_elim (λ (t : (j ≡ id) × (left ≡ q)). subst (λ (x : Known E O). has_world_out x.stage ≡ false) t.1 (ap has_world_out rest)) (λ (t : (j ≢ id) × (get_elem? s.views j ≡ some q)). h.none_out j q t.1) (at_set s.views id j left q old))
+          (λ (t : (j ≡ length passes) × (right ≡ q)). subst (λ (x : Known E O). has_world_out x.stage ≡ false) t.1 refl)
           (at_push passes right q j p);
     }
     place (inr a) =
-        let ne : a.holder ≢ id = λ e. not_both (is_out v.stage) (subst (λ (x : Known E O). is_out x.stage ≡ true) (some-injective a.pass v (sym a.there ∙ (ap (get_elem? s.views) e ∙ at))) a.out) (ap is_out rest) in
+        let ne : a.holder ≢ id = λ e. not_both (has_world_out v.stage) (subst (λ (x : Known E O). has_world_out x.stage ≡ true) (some-injective a.pass v (sym a.there ∙ (ap (get_elem? s.views) e ∙ at))) a.out) (ap has_world_out rest) in
         inr record {
           holder = a.holder;
           pass = a.pass;
@@ -241,8 +241,8 @@ module _ {W E O : Type 0} (history : W → List E) (actor : E → Option ℕ) (s
           empty = a.empty;
           has_room = λ k. let e = rooms_same k in let b = a.has_room k in omega arith;
           alone = λ j q p o. ⊎_elim
-              (λ (old : get_elem? passes j ≡ some q). ⊎_elim (λ (t : (j ≡ id) × (left ≡ q)). not_both (is_out q.stage) o (subst (λ (x : Known E O). is_out x.stage ≡ false) t.1 (ap is_out rest))) (λ (t : (j ≢ id) × (get_elem? s.views j ≡ some q)). a.alone j q t.1 o) (at_set s.views id j left q old))
-              (λ (t : (j ≡ length passes) × (right ≡ q)). not_both (is_out q.stage) o (subst (λ (x : Known E O). is_out x.stage ≡ false) t.1 refl))
+              (λ (old : get_elem? passes j ≡ some q). ⊎_elim (λ (t : (j ≡ id) × (left ≡ q)). not_both (has_world_out q.stage) o (subst (λ (x : Known E O). has_world_out x.stage ≡ false) t.1 (ap has_world_out rest))) (λ (t : (j ≢ id) × (get_elem? s.views j ≡ some q)). a.alone j q t.1 o) (at_set s.views id j left q old))
+              (λ (t : (j ≡ length passes) × (right ≡ q)). not_both (has_world_out q.stage) o (subst (λ (x : Known E O). has_world_out x.stage ≡ false) t.1 refl))
               (at_push passes right q j p);
         }
 

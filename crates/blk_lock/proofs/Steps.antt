@@ -14,9 +14,9 @@ use Rattle.blk_lock.specs.declared.known.Known.{Known}
 use Rattle.blk_lock.specs.declared.known.Stage.{Stage}
 use Rattle.blk_lock.specs.declared.known.Stage.TheVariants.{Spent, Fresh, Joined, Rest, Waiting, Out, Counted}
 use Rattle.blk_lock.specs.Rooms.{Measure, in_entries, in_bytes, amount}
-use Rattle.blk_lock.specs.Stages.{IsLive, ticket_of, is_out}
-use Rattle.blk_lock.specs.Order.{IsDrawn, StandsAt, Has, rooms, IsHome, IsAway}
-use Rattle.blk_lock.specs.Plays.{Draws, Watches, Looks}
+use Rattle.blk_lock.specs.Stages.{IsLive, ticket_of, has_world_out}
+use Rattle.blk_lock.specs.Order.{IsDrawn, HoldsAtStage, Has, rooms, IsHome, IsAway}
+use Rattle.blk_lock.specs.Plays.{Draws, Watches, LooksAtHistory}
 use Rattle.blk_lock.proofs.Tests.{not_both}
 use Rattle.blk_lock.proofs.Histories.{OthersAdd-same}
 use Rattle.blk_lock.proofs.Passes.{total-at, moved, out_is_live, at_inside}
@@ -27,7 +27,7 @@ more_drawn drawn drawn' t le h = let lt : t < drawn = h.0 in (omega arith, h.1)
 
 module _ {E O : Type 0} where
   -- a ticket that a pass has was drawn
-  pub ticket_drawn : (actor : E → Option ℕ) (drawn : ℕ) (log : List (Stamped E)) (v : View E O) (s : Stage E) (t : ℕ) → StandsAt actor drawn log v s → ticket_of s ≡ Some t → t < drawn
+  pub ticket_drawn : (actor : E → Option ℕ) (drawn : ℕ) (log : List (Stamped E)) (v : View E O) (s : Stage E) (t : ℕ) → HoldsAtStage actor drawn log v s → ticket_of s ≡ Some t → t < drawn
   ticket_drawn actor drawn log v Spent t h e = cc
   ticket_drawn actor drawn log v Fresh t h e = cc
   ticket_drawn actor drawn log v (Joined l r) t h e = cc
@@ -37,7 +37,7 @@ module _ {E O : Type 0} where
   ticket_drawn actor drawn log v (Counted u) t h e = let same : u ≡ t = cc in let lt : u < drawn = h.0.0 in omega arith
 
   -- what holds of a pass stays so when more tickets are drawn
-  stands_more : (actor : E → Option ℕ) (drawn drawn' : ℕ) (log : List (Stamped E)) (v : View E O) (s : Stage E) → drawn ≤ drawn' → StandsAt actor drawn log v s → StandsAt actor drawn' log v s
+  stands_more : (actor : E → Option ℕ) (drawn drawn' : ℕ) (log : List (Stamped E)) (v : View E O) (s : Stage E) → drawn ≤ drawn' → HoldsAtStage actor drawn log v s → HoldsAtStage actor drawn' log v s
   stands_more actor drawn drawn' log v Spent le h = tt
   stands_more actor drawn drawn' log v Fresh le h = h
   stands_more actor drawn drawn' log v (Joined l r) le h = h
@@ -73,7 +73,7 @@ module _ {W E O : Type 0} (history : W → List E) (actor : E → Option ℕ) (s
       (λ j q ne h. let k = r.sound j q h in record { opened = k.opened; named = k.named; shared = k.shared; goes_on = k.goes_on; stands = stands_more actor r.drawn (old + 1) r.log q.view q.stage (omega arith) k.stands })
       r.made
       (λ k. let e = rooms_stay history actor spare comes opening start s r id v at live (Waiting old) v.view.seen v.view.room v.view.turn same k in let b = r.in_room k in omega arith)
-      (stays history actor spare comes opening start s r id v at live (Waiting old) v.view.seen v.view.room v.view.turn (ap is_out rest) refl same r.place)
+      (stays history actor spare comes opening start s r id v at live (Waiting old) v.view.seen v.view.room v.view.turn (ap has_world_out rest) refl same r.place)
 
   pub draws : (slots id : ℕ) (me : M) (old : ℕ) → me.0.stage ≡ Rest → old + 1 < 2 ^ 64 → Allows Lawful slots id me 0 (λ n. either (n == old) (old + 1) n) (Draws (step slots 0 old (old + 1) none) me)
   draws slots id me old rest below s r _ at _ =
@@ -84,7 +84,7 @@ module _ {W E O : Type 0} (history : W → List E) (actor : E → Option ℕ) (s
       (λ miss. (me.0, keeps, tt, unmoved history actor spare comes opening start s r 0 id me.1 me.0 at, record { drawn = λ e. absurd (miss e); missed = λ _. refl }))
 
   -- the history so far is seen
-  pub looks : (slots id : ℕ) (me : M) → me.0.stage ≡ Rest → Allows Lawful slots id me 2 (λ n. n) (λ n m. Looks actor me n m)
+  pub looks : (slots id : ℕ) (me : M) → me.0.stage ≡ Rest → Allows Lawful slots id me 2 (λ n. n) (λ n m. LooksAtHistory actor me n m)
   looks slots id me rest s r _ at _ =
       let v : Known E O = me.0 in
       let live : IsLive v.stage = subst IsLive (sym rest) tt in
@@ -98,18 +98,18 @@ module _ {W E O : Type 0} (history : W → List E) (actor : E → Option ℕ) (s
             r.drawn r.served r.log (set s.words 2 (get_or s.words 2 0)) s.homes
             (ap (λ l. set l 2 (get_or l 2 0)) r.words)
             (OthersAdd-same actor v.view.names v.view.actors r.log)
-            (subst (StandsAt actor r.drawn r.log (record v.view { seen = r.log })) (sym rest) tt)
+            (subst (HoldsAtStage actor r.drawn r.log (record v.view { seen = r.log })) (sym rest) tt)
             (λ j q ne h. r.sound j q h)
             r.made
             (λ k. let e = rooms_stay history actor spare comes opening start s r id v at live v.stage r.log v.view.room v.view.turn same k in let b = r.in_room k in omega arith)
-            (stays history actor spare comes opening start s r id v at live v.stage r.log v.view.room v.view.turn (ap is_out rest) (ap is_out rest) same r.place),
+            (stays history actor spare comes opening start s r id v at live v.stage r.log v.view.room v.view.turn (ap has_world_out rest) (ap has_world_out rest) same r.place),
         record { seen = r.log; after = refl; found_all = ap (λ l. get_or l 2 0) r.words; others = mine.goes_on },
       )
 
   -- the value is at home where the ticket that is served is that of a waiting pass
-  served_home : (s : St) (r : Lawful s) (id n : ℕ) (v : Known E O) → Has s.views id v → is_out v.stage ≡ false → ticket_of v.stage ≡ Some n → r.served ≡ n → IsAway r.served s.homes s.views → ⊥
+  served_home : (s : St) (r : Lawful s) (id n : ℕ) (v : Known E O) → Has s.views id v → has_world_out v.stage ≡ false → ticket_of v.stage ≡ Some n → r.served ≡ n → IsAway r.served s.homes s.views → ⊥
   served_home s r id n v has in_wait ticket now a =
-      let ne : id ≢ a.holder = λ e. not_both (is_out v.stage) (subst (λ (x : Known E O). is_out x.stage ≡ true) (some-injective a.pass v (sym a.there ∙ (ap (get_elem? s.views) (sym e) ∙ has.0))) a.out) in_wait in
+      let ne : id ≢ a.holder = λ e. not_both (has_world_out v.stage) (subst (λ (x : Known E O). has_world_out x.stage ≡ true) (some-injective a.pass v (sym a.there ∙ (ap (get_elem? s.views) (sym e) ∙ has.0))) a.out) in_wait in
       (r.apart id a.holder v a.pass ne has (a.there, out_is_live a.pass.stage a.out)).tickets n ticket (a.ticket ∙ ap (λ (t : ℕ). Some t) now)
 
   takes_one : (s : St) (r : Lawful s) (id n : ℕ) (v : Known E O) (cs : List (ℕ × Option W)) (at : get_elem? s.views id ≡ some v) → v.stage ≡ Waiting n → get_or s.words 1 0 ≡ n
@@ -128,7 +128,7 @@ module _ {W E O : Type 0} (history : W → List E) (actor : E → Option ℕ) (s
       r.drawn r.served r.log (set s.words 1 (get_or s.words 1 0)) (set s.homes 0 none)
       (ap (λ l. set l 1 (get_or l 1 0)) r.words)
       (OthersAdd-same actor v.view.names v.view.actors r.log)
-      (subst (StandsAt actor r.drawn r.log v.view) waits mine.stands, refl)
+      (subst (HoldsAtStage actor r.drawn r.log v.view) waits mine.stands, refl)
       (λ j q ne k. r.sound j q k)
       r.made
       (λ k. let e = kept k in let b = r.in_room k in omega arith)
@@ -142,7 +142,7 @@ module _ {W E O : Type 0} (history : W → List E) (actor : E → Option ℕ) (s
         turn = refl;
         empty = ap (λ l. set l 0 none) h.in_slot;
         has_room = λ k. let e = kept k in let b = h.has_room k in omega arith;
-        alone = λ j q p o. ⊎_elim (λ (t : (j ≡ id) × (w ≡ q)). t.0) (λ (t : (j ≢ id) × (get_elem? s.views j ≡ some q)). not_both (is_out q.stage) o (h.none_out j q t.1)) (at_set s.views id j w q p);
+        alone = λ j q p o. ⊎_elim (λ (t : (j ≡ id) × (w ≡ q)). t.0) (λ (t : (j ≢ id) × (get_elem? s.views j ≡ some q)). not_both (has_world_out q.stage) o (h.none_out j q t.1)) (at_set s.views id j w q p);
       })
 
   room_for : (s : St) (id : ℕ) (v : Known E O) (world : W) → get_elem? s.views id ≡ some v → ((k : Measure) → rooms k s.views ≤ amount k (spare world)) → (k : Measure) → amount k v.view.room ≤ amount k (spare world)
@@ -157,7 +157,7 @@ module _ {W E O : Type 0} (history : W → List E) (actor : E → Option ℕ) (s
       dite (ℕ_discrete n ticket)
       (λ now. let its : v.stage ≡ Waiting n = waits ∙ ap (λ (t : ℕ). Waiting t) (sym now) in
       let served : r.served ≡ n = sym (ap (λ l. get_or l 1 0) r.words) in
-      let h : IsHome history spare comes opening r.log s.homes s.views = ⊎_elim (λ h. h) (λ a. absurd (served_home s r id n v (at, live) (ap is_out waits) (ap ticket_of its) served a)) r.place in (
+      let h : IsHome history spare comes opening r.log s.homes s.views = ⊎_elim (λ h. h) (λ a. absurd (served_home s r id n v (at, live) (ap has_world_out waits) (ap ticket_of its) served a)) r.place in (
         moved v (Out n) r.log v.view.room (Some (spare h.world)),
         takes 0 (Some h.world),
         ap (λ l. get_elem? l 0) h.in_slot,

@@ -11,8 +11,8 @@ use Rattle.blk_lock.specs.declared.known.Known.{Known}
 use Rattle.blk_lock.specs.declared.known.Stage.{Stage}
 use Rattle.blk_lock.specs.declared.known.Stage.TheVariants.{Fresh, Joined, Rest, Waiting, Out, Counted}
 use Rattle.blk_lock.specs.Rooms.{Measure, amount}
-use Rattle.blk_lock.specs.Stamps.{is_among, has_actor, entries_of, taken, OthersAdd}
-use Rattle.blk_lock.specs.Stages.{IsLive, ticket_of, is_out}
+use Rattle.blk_lock.specs.Stamps.{is_among, has_actor, entries_of, room_taken, OthersAdd}
+use Rattle.blk_lock.specs.Stages.{IsLive, ticket_of, has_world_out}
 
 abbrev pub total : {X : Type 0} → (X → ℕ) → List X → ℕ
 total f [] = 0
@@ -24,8 +24,8 @@ IsDrawn drawn ticket = (ticket < drawn) × (ticket + 1 < 2 ^ 64)
 
 module _ {E : Type 0} where
   -- what follows on what this side had seen, others made
-  abbrev pub GoesOn : (E → Option ℕ) → List (Stamped E) → Side E → Type 0
-  GoesOn actor log side = OthersAdd actor side.names side.actors side.seen log
+  abbrev pub GoesOnByOthers : (E → Option ℕ) → List (Stamped E) → Side E → Type 0
+  GoesOnByOthers actor log side = OthersAdd actor side.names side.actors side.seen log
 
 -- two passes have no name and no actor in common
 pub record HaveNoneInCommon (names : List (List ℕ)) (actors : List ℕ) (names' : List (List ℕ))
@@ -40,17 +40,17 @@ module _ {E O : Type 0} where
     pub names : v.names ≡ left.names ++ right.names
     pub actors : v.actors ≡ left.actors ++ right.actors
     pub apart : HaveNoneInCommon left.names left.actors right.names right.actors
-    pub from_left : GoesOn actor log left
-    pub from_right : GoesOn actor log right
+    pub from_left : GoesOnByOthers actor log left
+    pub from_right : GoesOnByOthers actor log right
 
   -- what holds of a pass by where it stands
-  abbrev pub StandsAt : (E → Option ℕ) → ℕ → List (Stamped E) → View E O → Stage E → Type 0
-  StandsAt actor drawn log v Fresh = All (λ m. is_among v.names m.maker ≡ false) log
-  StandsAt actor drawn log v (Joined left right) = Unites actor log v left right
-  StandsAt actor drawn log v (Waiting ticket) = IsDrawn drawn ticket
-  StandsAt actor drawn log v (Out ticket) = IsDrawn drawn ticket × (v.seen ≡ log)
-  StandsAt actor drawn log v (Counted ticket) = IsDrawn drawn ticket × (v.seen ≡ log)
-  StandsAt actor drawn log v _ = Unit {0}
+  abbrev pub HoldsAtStage : (E → Option ℕ) → ℕ → List (Stamped E) → View E O → Stage E → Type 0
+  HoldsAtStage actor drawn log v Fresh = All (λ m. is_among v.names m.maker ≡ false) log
+  HoldsAtStage actor drawn log v (Joined left right) = Unites actor log v left right
+  HoldsAtStage actor drawn log v (Waiting ticket) = IsDrawn drawn ticket
+  HoldsAtStage actor drawn log v (Out ticket) = IsDrawn drawn ticket × (v.seen ≡ log)
+  HoldsAtStage actor drawn log v (Counted ticket) = IsDrawn drawn ticket × (v.seen ≡ log)
+  HoldsAtStage actor drawn log v _ = Unit {0}
 
   -- a later split of the pass gives this name, or a split of that pass
   abbrev pub MayGive : View E O → List ℕ → Type 0
@@ -63,7 +63,7 @@ module _ {E O : Type 0} where
     pub named : is_among p.view.names p.view.name ≡ true
     pub shared : 0 < p.view.shares
     pub goes_on : OthersAdd actor p.view.names p.view.actors p.view.seen log
-    pub stands : StandsAt actor drawn log p.view p.stage
+    pub stands : HoldsAtStage actor drawn log p.view p.stage
 
   -- two passes have no name, actor or ticket in common
   pub record AreApart (p q : Known E O) : Type 0 where
@@ -89,7 +89,8 @@ module _ {W E O : Type 0} where
     pub told : history world ≡ entries_of log
     pub opened : comes world opening
     pub has_room : (k : Measure) → rooms k passes ≤ amount k (spare world)
-    pub none_out : (i : ℕ) (p : Known E O) → get_elem? passes i ≡ some p → is_out p.stage ≡ false
+    pub none_out : (i : ℕ) (p : Known E O) → get_elem? passes i ≡ some p
+        → has_world_out p.stage ≡ false
 
   -- the value is out with the pass whose ticket is served
   pub record IsAway (served : ℕ) (homes : List (mathlib.Core.Option.Option (Option W)))
@@ -98,12 +99,12 @@ module _ {W E O : Type 0} where
     pub pass : Known E O
     pub had : Room
     pub there : get_elem? passes holder ≡ some pass
-    pub out : is_out pass.stage ≡ true
+    pub out : has_world_out pass.stage ≡ true
     pub ticket : ticket_of pass.stage ≡ Some served
     pub turn : pass.view.turn ≡ Some had
     pub empty : homes ≡ none ∷ []
     pub has_room : (k : Measure) → rooms k passes ≤ amount k had
-    pub alone : (i : ℕ) (p : Known E O) → get_elem? passes i ≡ some p → is_out p.stage ≡ true
+    pub alone : (i : ℕ) (p : Known E O) → get_elem? passes i ≡ some p → has_world_out p.stage ≡ true
         → i ≡ holder
 
   pub record InOrder (history : W → List E) (actor : E → Option ℕ) (spare : W → Room)
@@ -122,7 +123,7 @@ module _ {W E O : Type 0} where
         (λ m. (i : ℕ) × (p : Known E O) × Has s.views i p × (is_among p.view.names m.maker ≡ true))
         log
     pub shares : total (λ p. p.view.shares) s.views ≡ 1024
-    pub in_room : (k : Measure) → rooms k s.views + taken k log ≤ amount k start
+    pub in_room : (k : Measure) → rooms k s.views + room_taken k log ≤ amount k start
     pub place : IsHome history spare comes opening log s.homes s.views
         ⊎ IsAway served s.homes s.views
 

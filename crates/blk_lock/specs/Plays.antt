@@ -10,7 +10,7 @@ use Rattle.blk_lock.specs.declared.known.Stage.TheVariants.{Spent, Fresh, Joined
 use Rattle.blk_lock.specs.Rooms.{no_room, plus, less, IsWithinRoom}
 use Rattle.blk_lock.specs.Stamps.{is_among, entries_of, stamped, made_by, OthersAdd}
 use Rattle.blk_lock.specs.Stages.{ticket_of}
-use Rattle.blk_lock.specs.Order.{GoesOn, HaveNoneInCommon}
+use Rattle.blk_lock.specs.Order.{GoesOnByOthers, HaveNoneInCommon}
 
 -- the actor is taken from the list, if there is one
 abbrev pub without : List ℕ → Option ℕ → List ℕ
@@ -151,7 +151,7 @@ module _ {W E O : Type 0} where
     pub missed : ticket_of m.0.stage ≢ Some found → m' ≡ m
 
   -- what was made with the value in hand is counted, under the pass's name, which is one of its names
-  pub record Counts (history : W → List E) (spare : W → Room)
+  pub record CountsMade (history : W → List E) (spare : W → Room)
       (m m' : Me (Option W) (Known E O)) : Type 0 where
     pub after : (world : W) → m.1 ≡ (0, Some world) ∷ []
         → m' ≡ (counted_known (made_since m.0.view.seen (history world)) (spare world) m.0, m.1)
@@ -162,7 +162,7 @@ module _ {W E O : Type 0} where
   Serves m m' = m' ≡ (record { stage = Rest; view = record m.0.view { turn = None } }, [])
 
   -- the history so far is seen, and its length found
-  pub record Looks (actor : E → Option ℕ) (m : Me (Option W) (Known E O)) (found : ℕ)
+  pub record LooksAtHistory (actor : E → Option ℕ) (m : Me (Option W) (Known E O)) (found : ℕ)
       (m' : Me (Option W) (Known E O)) : Type 0 where
     pub seen : List (Stamped E)
     pub after : m' ≡ (having_seen seen m.0, m.1)
@@ -178,7 +178,7 @@ module _ {W E O : Type 0} where
   pub record Joins (actor : E → Option ℕ) (m m' : Me (Option W) (Known E O)) : Type 0 where
     pub after : m' ≡ (resting m.0, m.1)
     pub both : (left right : Side E) → m.0.stage ≡ Joined left right
-        → m.0.view.seen ≡ longer left.seen right.seen → GoesOn actor m.0.view.seen left
-        × GoesOn actor m.0.view.seen right
+        → m.0.view.seen ≡ longer left.seen right.seen → GoesOnByOthers actor m.0.view.seen left
+        × GoesOnByOthers actor m.0.view.seen right
     pub apart : (left right : Side E) → m.0.stage ≡ Joined left right
         → HaveNoneInCommon left.names left.actors right.names right.actors

@@ -11,9 +11,9 @@ abbrev pub amount : Measure → Room → ℕ
 amount in_entries r = r.entries
 amount in_bytes r = r.bytes
 
-abbrev pub amount_if : Measure → Option Room → ℕ
-amount_if k None = 0
-amount_if k (Some r) = amount k r
+abbrev pub room_amount_if : Measure → Option Room → ℕ
+room_amount_if k None = 0
+room_amount_if k (Some r) = amount k r
 
 abbrev pub no_room : Room
 no_room = record { entries = 0; bytes = 0 }

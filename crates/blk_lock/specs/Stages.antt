@@ -6,10 +6,10 @@ use Rattle.blk_lock.specs.declared.known.Stage.TheVariants.{Spent, Rest, Waiting
 
 module _ {E : Type 0} where
   -- a pass that its owner holds rests, or has its turn out
-  abbrev pub is_settled : Option Room → Stage E → Bool
-  is_settled None Rest = true
-  is_settled (Some r) (Out t) = true
-  is_settled _ _ = false
+  abbrev pub is_at_rest_or_out : Option Room → Stage E → Bool
+  is_at_rest_or_out None Rest = true
+  is_at_rest_or_out (Some r) (Out t) = true
+  is_at_rest_or_out _ _ = false
 
   -- the slots that it holds: an emptied one while its turn is out
   abbrev pub in_hand : {W : Type 0} → Stage E → List (ℕ × Option W)
@@ -27,7 +27,7 @@ module _ {E : Type 0} where
   ticket_of _ = None
 
   -- the world is out with this pass
-  abbrev pub is_out : Stage E → Bool
-  is_out (Out t) = true
-  is_out (Counted t) = true
-  is_out _ = false
+  abbrev pub has_world_out : Stage E → Bool
+  has_world_out (Out t) = true
+  has_world_out (Counted t) = true
+  has_world_out _ = false

@@ -4,7 +4,7 @@ use Rattle.std.specs.Prelude.{◌≡◌, ℕ, ◌+◌, Bool, true, false, ◌&&�
 use Rattle.std.specs.List.{enumerate_from}
 use Rattle.blk_base.specs.declared.memory.Room.{Room}
 use Rattle.blk_lock.specs.declared.known.Stamped.{Stamped}
-use Rattle.blk_lock.specs.Rooms.{Measure, amount_if}
+use Rattle.blk_lock.specs.Rooms.{Measure, room_amount_if}
 
 abbrev pub same_name : List ℕ → List ℕ → Bool
 same_name [] [] = true
@@ -41,9 +41,9 @@ module _ {E : Type 0} where
       ∷ map (λ x. record { entry = x; maker = name; took = None }) es
 
   -- the room that all turns of a history took
-  abbrev pub taken : Measure → List (Stamped E) → ℕ
-  taken k [] = 0
-  taken k (s ∷ stamps) = amount_if k s.took + taken k stamps
+  abbrev pub room_taken : Measure → List (Stamped E) → ℕ
+  room_taken k [] = 0
+  room_taken k (s ∷ stamps) = room_amount_if k s.took + room_taken k stamps
 
   -- the entries that those of these names made, each with its place
   abbrev pub made_by : List (List ℕ) → List (Stamped E) → List (ℕ × E)
@@ -51,8 +51,8 @@ module _ {E : Type 0} where
       map (λ p. (p.0, p.1.entry)) (filter (λ p. is_among names p.1.maker) (enumerate_from 0 stamps))
 
   -- what this actor made, in its order
-  abbrev pub done_by : (E → Option ℕ) → ℕ → List (Stamped E) → List E
-  done_by actor a stamps = filter (λ e. is_by (a ∷ []) (actor e)) (entries_of stamps)
+  abbrev pub made_by_actor : (E → Option ℕ) → ℕ → List (Stamped E) → List E
+  made_by_actor actor a stamps = filter (λ e. is_by (a ∷ []) (actor e)) (entries_of stamps)
 
   -- others made it: neither a pass of these names, nor one of these actors
   pub record IsOthers (actor : E → Option ℕ) (names : List (List ℕ)) (actors : List ℕ)

@@ -49,5 +49,5 @@ module _ {E O : Type 0} where
   KeepsRoom v spare = IsSomeAnd v.turn (λ had. IsWithinRoom (less had spare) v.room)
 
   -- nothing is gone of what was to spare at the take
-  abbrev pub KeepsSpare : View E O → Room → Type 0
-  KeepsSpare v spare = IfSome v.turn (λ had. IsWithinRoom had spare)
+  abbrev pub KeepsSpareSinceTake : View E O → Room → Type 0
+  KeepsSpareSinceTake v spare = IfSome v.turn (λ had. IsWithinRoom had spare)

@@ -1,6 +1,6 @@
 //! The right to make events, and what its holder has seen and made.
 ghost use Rattle.std.specs.Prelude.{◌≡◌, IsTrue};
-ghost use Rattle.blk_lock.specs.Stages.{is_settled, in_hand};
+ghost use Rattle.blk_lock.specs.Stages.{is_at_rest_or_out, in_hand};
 
 use crate::known::Known;
 use crate::logged::Logged;
@@ -12,6 +12,6 @@ use atomic_table::Seat;
 #[derive(Drop)]
 pub struct Pass<W: Logged> {
     pub(crate) seat: Seat<Option<W>, Known<W::Entry, W::Opening>>,
-    ghost settled: { IsTrue (is_settled seat.me.0.view.turn seat.me.0.stage) },
+    ghost settled: { IsTrue (is_at_rest_or_out seat.me.0.view.turn seat.me.0.stage) },
     ghost in_hand: { seat.me.1 ≡ in_hand seat.me.0.stage },
 }

@@ -2,7 +2,7 @@
 ghost use Rattle.std.specs.Prelude.{ℕ, Option, None};
 ghost use Rattle.blk_base.specs.declared.memory.Room.{Room};
 ghost use Rattle.blk_lock.specs.Rooms.{no_room};
-ghost use Rattle.blk_lock.specs.Plays.{Draws, Watches, Counts, Serves, Looks, Settles, Joins, split_known, fresh_known, joined_known, spent_known};
+ghost use Rattle.blk_lock.specs.Plays.{Draws, Watches, CountsMade, Serves, LooksAtHistory, Settles, Joins, split_known, fresh_known, joined_known, spent_known};
 
 use crate::known::Known;
 use crate::logged::Logged;
@@ -27,7 +27,7 @@ impl<W: Logged> Play<Option<W>, Known<W::Entry, W::Opening>> for Watch {
 pub(crate) struct Count;
 
 impl<W: Logged> Play<Option<W>, Known<W::Entry, W::Opening>> for Count {
-    ghost then = { λ st m found n. Counts W.history W.spare m n };
+    ghost then = { λ st m found n. CountsMade W.history W.spare m n };
 }
 
 /// Serves the next ticket.
@@ -41,7 +41,7 @@ impl<W: Logged> Play<Option<W>, Known<W::Entry, W::Opening>> for Serve {
 pub(crate) struct Look;
 
 impl<W: Logged> Play<Option<W>, Known<W::Entry, W::Opening>> for Look {
-    ghost then = { λ st m found n. Looks W.actor m found n };
+    ghost then = { λ st m found n. LooksAtHistory W.actor m found n };
 }
 
 /// The first look of a new pass.

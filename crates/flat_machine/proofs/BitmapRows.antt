@@ -12,8 +12,8 @@ use Rattle.blk_graph.proofs.Members.{Contains-here, Contains-there, Contains-cas
 use Rattle.blk_base.specs.Pieces.{Extent}
 use Rattle.blk_bits.specs.Granules.{those_below}
 use Rattle.blk_bitmaps.specs.declared.row.Bitmap.{Bitmap}
-use Rattle.blk_bitmaps.specs.Rows.{is_named, turned, emptied, written, joined, records, dirty_below}
-use Rattle.blk_bitmaps.specs.Refusals.{first}
+use Rattle.blk_bitmaps.specs.Rows.{is_named, switched, emptied, written, merged_row, records, dirty_below}
+use Rattle.blk_bitmaps.specs.Refusals.{first_row}
 use Rattle.blk_bitmaps.specs.Refusals as refusals
 use Rattle.blk_bitmaps.specs.Calls.{with_first, without_first, where_so, with_source}
 use Rattle.blk_bitmaps.proofs.Views.{changed-view, removed-view, found-view, named-view, left-view, mapped-view, first-view, where-view, found-itself, single-same, single-fewer, single-push, without-filter, dirty-count}
@@ -112,7 +112,7 @@ later-bitmaps old new rows now like listed was = record {
 counted : (n : ℕ) (test : ℕ → Bool) → length (those_below n test) ≡ n
 counted n test = length-map-range_with_len test 0 n
 
-turned-later : (on : Bool) (row : Bitmap) → IsLater row (turned on row)
+turned-later : (on : Bool) (row : Bitmap) → IsLater row (switched on row)
 turned-later on row = record { node = refl; name = refl; granularity = refl; busy = refl; frozen = refl; count = refl }
 
 emptied-later : (row : Bitmap) → IsLater row (emptied row)
@@ -121,20 +121,20 @@ emptied-later row = record { node = refl; name = refl; granularity = refl; busy 
 written-later : (span : Extent) (row : Bitmap) → IsLater row (written span row)
 written-later span row = record { node = refl; name = refl; granularity = refl; busy = refl; frozen = refl; count = counted (length row.dirty) _ }
 
-joined-later : (source row : Bitmap) → IsLater row (joined source row)
+joined-later : (source row : Bitmap) → IsLater row (merged_row source row)
 joined-later source row = record { node = refl; name = refl; granularity = refl; busy = refl; frozen = refl; count = counted (length row.dirty) _ }
 
 -- ---- each kind of change
 
 module _ (n : ℕ) (m : List ℕ) (old : List BitmapRow) (rows : List Bitmap) (was : AreBitmapsOf old rows) where
   -- bitmaps are turned on and off
-  pub turned-bitmaps : (on : Bool) → AreBitmapsOf (table.with_turned n m on old) (with_first (is_named n m) (turned on) rows)
-  turned-bitmaps on = later-bitmaps old _ rows _ (later-first (is_named n m) (turned on) (turned-later on) rows)
+  pub turned-bitmaps : (on : Bool) → AreBitmapsOf (table.with_turned n m on old) (with_first (is_named n m) (switched on) rows)
+  turned-bitmaps on = later-bitmaps old _ rows _ (later-first (is_named n m) (switched on) (turned-later on) rows)
       (ap (table.with_turned n m on) was.listed
-      ∙ sym (changed-view bitmap_of n m (is_bitmap n m) (λ row. refl) (table.with_recording on) (turned on) (λ row. refl) rows was.single)) was
+      ∙ sym (changed-view bitmap_of n m (is_bitmap n m) (λ row. refl) (table.with_recording on) (switched on) (λ row. refl) rows was.single)) was
 
-  pub turned-dirty : (on : Bool) → map dirty_in (with_first (is_named n m) (turned on) rows) ≡ map dirty_in rows
-  turned-dirty on = first-view dirty_in (is_named n m) (turned on) (λ row. refl) rows
+  pub turned-dirty : (on : Bool) → map dirty_in (with_first (is_named n m) (switched on) rows) ≡ map dirty_in rows
+  turned-dirty on = first-view dirty_in (is_named n m) (switched on) (λ row. refl) rows
 
   -- they are cleared
   pub cleared-bitmaps : AreBitmapsOf old (with_first (is_named n m) emptied rows)
@@ -160,12 +160,12 @@ module _ (n : ℕ) (m : List ℕ) (old : List BitmapRow) (rows : List Bitmap) (w
   -- one is merged into them
   pub merged-bitmaps : (source : Option Bitmap) → AreBitmapsOf old (with_source rows n m source)
   merged-bitmaps None = was
-  merged-bitmaps (Some source) = later-bitmaps old old rows _ (later-first (is_named n m) (joined source) (joined-later source) rows)
-      (was.listed ∙ sym (first-view bitmap_of (is_named n m) (joined source) (λ row. refl) rows)) was
+  merged-bitmaps (Some source) = later-bitmaps old old rows _ (later-first (is_named n m) (merged_row source) (joined-later source) rows)
+      (was.listed ∙ sym (first-view bitmap_of (is_named n m) (merged_row source) (λ row. refl) rows)) was
 
   merged-by : (source : Option Bitmap) → map dirty_in (with_source rows n m source) ≡ merge_from (option_map dirty_in source) n m (map dirty_in rows)
   merged-by None = refl
-  merged-by (Some source) = changed-view dirty_in n m (is_dirty_of n m) (λ row. refl) (marking.dirtied_by (dirty_in source)) (joined source) (λ row. refl) rows was.single
+  merged-by (Some source) = changed-view dirty_in n m (is_dirty_of n m) (λ row. refl) (marking.dirtied_by (dirty_in source)) (merged_row source) (λ row. refl) rows was.single
 
   pub merged-dirty : (k : ℕ) (other : List ℕ)
       → map dirty_in (with_source rows n m (refusals.find rows k other)) ≡ merge_from (dirty_at (map dirty_in rows) k other) n m (map dirty_in rows)
@@ -173,7 +173,7 @@ module _ (n : ℕ) (m : List ℕ) (old : List BitmapRow) (rows : List Bitmap) (w
       ∙ ap (λ found. merge_from found n m (map dirty_in rows)) (sym (found-view dirty_in k other (is_dirty_of k other) (λ row. refl) rows))
 
   -- whether the table has one
-  pub found-bitmap : find (is_bitmap n m) old ≡ option_map bitmap_of (first (is_named n m) rows)
+  pub found-bitmap : find (is_bitmap n m) old ≡ option_map bitmap_of (first_row (is_named n m) rows)
   found-bitmap = ap (find (is_bitmap n m)) was.listed ∙ found-view bitmap_of n m (is_bitmap n m) (λ row. refl) rows
 
   named-bitmap : list_any (is_bitmap n m) old ≡ list_any (is_named n m) rows
@@ -328,7 +328,7 @@ follow-all changes t rows leaves was =
     (follow-left changes t rows rows [] leaves was (λ kept. follow-none (all_changed t changes) rows kept))
 
 module _ (t : RunTable) (rows : List Bitmap) (was : AreBitmapsOf t.bitmaps rows) (n : ℕ) where
-  pub follow-turned : (m : List ℕ) (on : Bool) → FollowChanges t rows (with_first (is_named n m) (turned on) rows) (change.TurnBitmap n m on ∷ [])
+  pub follow-turned : (m : List ℕ) (on : Bool) → FollowChanges t rows (with_first (is_named n m) (switched on) rows) (change.TurnBitmap n m on ∷ [])
   unfolding changed
   follow-turned m on = record { listed = turned-bitmaps n m t.bitmaps rows was on; dirty = turned-dirty n m t.bitmaps rows was on }
 

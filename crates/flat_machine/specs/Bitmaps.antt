@@ -2,7 +2,7 @@
 use Rattle.std.specs.Prelude.{◌≡◌, ℕ, List, [], ◌∷◌, map, Contains, None}
 use Rattle.blk_bitmaps.specs.declared.row.Bitmap.{Bitmap}
 use Rattle.blk_base.specs.Pieces.{Extent}
-use Rattle.blk_bitmaps.specs.Rows.{AreSingle, IsCountable, records, written}
+use Rattle.blk_bitmaps.specs.Rows.{HaveDistinctNames, IsCountable, records, written}
 use Rattle.blk_bitmaps.specs.Calls.{where_so}
 use Rattle.qmp_rules.specs.declared.change.Change.{Change}
 use Rattle.qmp_rules.specs.declared.rows.BitmapRow.{BitmapRow}
@@ -46,7 +46,7 @@ pub record IsFreeBitmap (row : Bitmap) : Type 0 where
 -- the rows are of these bitmaps, of which no two have one node and name
 pub record AreBitmapsOf (rows : List BitmapRow) (bitmaps : List Bitmap) : Type 0 where
   pub listed : rows ≡ map bitmap_of bitmaps
-  pub single : AreSingle bitmaps
+  pub single : HaveDistinctNames bitmaps
   pub each : (row : Bitmap) → Contains bitmaps row → IsFreeBitmap row
 
 -- they are what the changes make of rows and of dirty granules

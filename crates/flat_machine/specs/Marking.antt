@@ -2,7 +2,7 @@
 use Rattle.std.specs.Prelude.{ℕ, ◌*◌, ◌==◌, Bool, true, false, ◌&&◌, ◌||◌, if◌then◌else◌, List, length, replicate, map, find, count_by, bytes_eq, Option, Some, None, option_map, unwrap_or}
 use Rattle.blk_base.specs.Pieces.{Extent}
 use Rattle.blk_bits.specs.Granules.{contains, those_below, merged}
-use Rattle.blk_bitmaps.specs.Rows.{granule_count, touches, with_frozen}
+use Rattle.blk_bitmaps.specs.Rows.{granule_count, span_touches, with_frozen}
 use Rattle.qmp_rules.specs.declared.rows.BitmapRow.{BitmapRow}
 use Rattle.qmp_rules.specs.Table.{RunTable, bitmap_at}
 use Rattle.flat_machine.specs.State.{Dirty}
@@ -28,7 +28,7 @@ abbrev pub marked : Extent → Dirty → Dirty
 marked span d =
     record d {
       set = those_below (length d.set)
-          (λ k. contains d.set k || touches d.granularity span k);
+          (λ k. contains d.set k || span_touches d.granularity span k);
     }
 
 -- each granule that overlaps a dirty one of the source

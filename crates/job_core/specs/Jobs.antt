@@ -56,20 +56,20 @@ with_row table slot row = record {
   starts = min (table.starts + 1) (2 ^ 32 - 1);
 }
 
-abbrev pub moved : JobState → JobRow → JobRow
-moved state row = record row { state = state }
+abbrev pub row_in_job_state : JobState → JobRow → JobRow
+row_in_job_state state row = record row { state = state }
 
 -- the job of a slot is in this state; all else stays
 abbrev pub in_state : JobTable → ℕ → JobState → JobTable
 in_state table slot state =
     record table {
       slots = slice_set table.slots slot
-          (option_map (moved state) (job_row_at table slot));
+          (option_map (row_in_job_state state) (job_row_at table slot));
     }
 
 -- a slot is free
-abbrev pub without_row : JobTable → ℕ → JobTable
-without_row table slot = record table { slots = slice_set table.slots slot None }
+abbrev pub with_free_slot : JobTable → ℕ → JobTable
+with_free_slot table slot = record table { slots = slice_set table.slots slot None }
 
 -- the steps of a job's life
 abbrev pub IsStep : JobState → JobState → Type 0

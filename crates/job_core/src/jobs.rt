@@ -1,6 +1,6 @@
 //! The table and its calls.
 ghost use Rattle.std.specs.Prelude.{◌≡◌, ◌↔◌, ◌<◌, length, replicate, position, None, IfOk, IsSome, OnErr, IsSomeAnd, MatchOption, is_none, vec_len, if◌then◌else◌};
-ghost use Rattle.job_core.specs.Jobs.{job_row_at, has_id, is_ready, slot_of, row_count, created, with_row, without_row, in_state, IsStep, entry_answer};
+ghost use Rattle.job_core.specs.Jobs.{job_row_at, has_id, is_ready, slot_of, row_count, created, with_row, with_free_slot, in_state, IsStep, entry_answer};
 ghost use Rattle.job_core.specs.Table.{DifferentIds};
 
 use crate::row::{JobRow, JobState};
@@ -114,7 +114,7 @@ impl Jobs {
     /// Frees a slot.
     pub fn remove(&mut self, slot: u32)
         requires { IsSome (job_row_at self.old slot) }
-        ensures { self.new ≡ without_row self.old slot }
+        ensures { self.new ≡ with_free_slot self.old slot }
     {
         self.slots[slot as usize] = None;
     }

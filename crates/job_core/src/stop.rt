@@ -19,9 +19,9 @@ pub enum JobStop {
 
 impl fmt::Display for JobStop {
     ghost use Rattle.std.specs.Prelude.{Some};
-    ghost use Rattle.job_core.specs.Stop.{stop_text};
+    ghost use Rattle.job_core.specs.Stop.{job_stop_text};
 
-    ghost output = { λ stop. Some (stop_text stop) };
+    ghost output = { λ stop. Some (job_stop_text stop) };
 
     fn fmt<W: fmt::Write>(&self, f: &mut fmt::Formatter<W>) -> fmt::Result {
         match self {

@@ -4,7 +4,7 @@ use Rattle.blk_base.specs.declared.memory.Room.{Room}
 use Rattle.blk_lock.specs.declared.known.Stamped.{Stamped}
 use Rattle.blk_lock.specs.declared.known.View.{View}
 use Rattle.blk_lock.specs.Rooms.{less}
-use Rattle.blk_lock.specs.Stamps.{has_actor, done_by}
+use Rattle.blk_lock.specs.Stamps.{has_actor, made_by_actor}
 use Rattle.blk_lock.proofs.Callers.{done_by_append, done_by_others}
 use Rattle.lock_probe.specs.declared.register.Entry.{Entry}
 use Rattle.lock_probe.specs.declared.register.Opening.{Opening}
@@ -27,11 +27,11 @@ less-less_one room some =
     λ i. record { entries = e i; bytes = b i }
 
 -- an event of an actor is its next entry
-pub done_after : (v w : View Entry Opening) (e : Entry) (answer : ℕ) → Makes v w e answer → has_actor v.actors e.actor ≡ true → done_by actor_of e.actor w.seen ≡ done_by actor_of e.actor v.seen ++ e ∷ []
+pub done_after : (v w : View Entry Opening) (e : Entry) (answer : ℕ) → Makes v w e answer → has_actor v.actors e.actor ≡ true → made_by_actor actor_of e.actor w.seen ≡ made_by_actor actor_of e.actor v.seen ++ e ∷ []
 done_after v w e answer m held =
     let stamp : Stamped Entry = record { entry = e; maker = v.name; took = Some one_entry } in
-    let own : done_by actor_of e.actor (stamp ∷ []) ≡ e ∷ [] = ap (λ b. cond (b || false) (e ∷ []) []) (eq-eqb e.actor e.actor refl) in
-    ap (done_by actor_of e.actor) m.made ∙ done_by_append actor_of e.actor m.before (stamp ∷ []) ∙ ap (λ l. done_by actor_of e.actor m.before ++ l) own
+    let own : made_by_actor actor_of e.actor (stamp ∷ []) ≡ e ∷ [] = ap (λ b. cond (b || false) (e ∷ []) []) (eq-eqb e.actor e.actor refl) in
+    ap (made_by_actor actor_of e.actor) m.made ∙ done_by_append actor_of e.actor m.before (stamp ∷ []) ∙ ap (λ l. made_by_actor actor_of e.actor m.before ++ l) own
     ∙ ap (λ l. l ++ e ∷ []) (done_by_others actor_of v.names v.actors e.actor v.seen m.before m.others held)
 
 -- what a pass keeps over one event it keeps over several

@@ -4,7 +4,7 @@ use mathlib.Core.Logic.{dite}
 use native.Mathlib.Decide.{ℕ_discrete}
 use Rattle.blk_base.specs.declared.memory.Room.{Room}
 use Rattle.blk_lock.specs.declared.known.View.{View}
-use Rattle.blk_lock.specs.Stamps.{has_actor, done_by, OthersAdd}
+use Rattle.blk_lock.specs.Stamps.{has_actor, made_by_actor, OthersAdd}
 use Rattle.blk_lock.specs.Plays.{after_split, split_off, after_join}
 use Rattle.blk_lock.proofs.Tests.{has_actor-left, has_actor-right, or_left}
 use Rattle.blk_lock.proofs.Callers.{done_by_others, kept_without}
@@ -54,6 +54,6 @@ all_have_run v w u n first count rounds some may run written is on on_other =
           (λ e. has_actor-right w.actors u.actors a (subst (λ (x : ℕ). has_actor u.actors x ≡ true) (sym e) mine))
           (λ ne. has_actor-left w.actors u.actors a (run.actors a (kept_without v.actors first a ne held))));
       own = λ a low high. dite (ℕ_discrete a first)
-          (λ e. subst (λ (x : ℕ). done_by actor_of x n.seen ≡ done_by actor_of x v.seen ++ script x rounds) (sym e) (done_by_others actor_of u.names u.actors first u.seen n.seen on_other mine ∙ written.own))
+          (λ e. subst (λ (x : ℕ). made_by_actor actor_of x n.seen ≡ made_by_actor actor_of x v.seen ++ script x rounds) (sym e) (done_by_others actor_of u.names u.actors first u.seen n.seen on_other mine ∙ written.own))
           (λ ne. done_by_others actor_of w.names w.actors a w.seen n.seen on (run.actors a (kept_without v.actors first a ne (may.actors a low high))) ∙ run.own a (omega arith) (omega arith));
     }

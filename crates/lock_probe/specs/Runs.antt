@@ -2,7 +2,7 @@
 use Rattle.std.specs.Prelude.{◌≡◌, ℕ, ◌+◌, ◌*◌, ◌<◌, ◌≤◌, ◌^◌, ◌++◌, true, None}
 use Rattle.blk_base.specs.declared.memory.Room.{Room}
 use Rattle.blk_lock.specs.declared.known.View.{View}
-use Rattle.blk_lock.specs.Stamps.{has_actor, done_by}
+use Rattle.blk_lock.specs.Stamps.{has_actor, made_by_actor}
 use Rattle.blk_lock.specs.Order.{first_view}
 use Rattle.lock_probe.specs.declared.register.Entry.{Entry}
 use Rattle.lock_probe.specs.declared.register.Opening.{Opening}
@@ -28,7 +28,7 @@ pub record HasRun (v w : View Entry Opening) (first count rounds : ℕ) : Type 0
   pub shares : w.shares ≡ v.shares
   pub actors : (a : ℕ) → has_actor v.actors a ≡ true → has_actor w.actors a ≡ true
   pub own : (a : ℕ) → first ≤ a → a < first + count
-      → done_by actor_of a w.seen ≡ done_by actor_of a v.seen ++ script a rounds
+      → made_by_actor actor_of a w.seen ≡ made_by_actor actor_of a v.seen ++ script a rounds
 
 -- the pass of one actor may write its script
 pub record MayWrite (v : View Entry Opening) (actor rounds : ℕ) : Type 0 where
@@ -39,4 +39,5 @@ pub record MayWrite (v : View Entry Opening) (actor rounds : ℕ) : Type 0 where
 -- the pass has written it, and changed in nothing but what it has seen and its room
 pub record HasWritten (v w : View Entry Opening) (actor rounds : ℕ) : Type 0 where
   pub same : w ≡ record v { seen = w.seen; room = w.room }
-  pub own : done_by actor_of actor w.seen ≡ done_by actor_of actor v.seen ++ script actor rounds
+  pub own : made_by_actor actor_of actor w.seen
+      ≡ made_by_actor actor_of actor v.seen ++ script actor rounds

@@ -42,13 +42,13 @@ seen_bitmap_name c = record {
 }
 
 -- a bitmap of the command's node by its name, or with its node
-abbrev pub source_of : Data → Source (List ℕ)
-source_of (string name) = source.Name name
-source_of d = source.Of (bitmap_name_in d)
+abbrev pub bitmap_source_in : Data → Source (List ℕ)
+bitmap_source_in (string name) = source.Name name
+bitmap_source_in d = source.Of (bitmap_name_in d)
 
 abbrev pub sources_of : Items → List (Source (List ℕ))
 sources_of no_items = []
-sources_of (item d ds) = source_of d ∷ sources_of ds
+sources_of (item d ds) = bitmap_source_in d ∷ sources_of ds
 
 abbrev pub sources_or : Option Data → List (Source (List ℕ))
 sources_or (Some (array ds)) = sources_of ds

@@ -3,7 +3,7 @@
 ghost use Rattle.std.specs.Prelude.{◌≡◌, IfOk, codes, map};
 ghost use Rattle.serde_json.specs.View.{view, items_view};
 ghost use Rattle.serde_json.specs.Find.{get};
-ghost use Rattle.qmp_codec.specs.Bitmaps.{seen_bitmap_add, bitmap_add_in, seen_bitmap_name, bitmap_name_in, seen_source, source_of, sources_of, sources_or, seen_bitmap_merge, bitmap_merge_in};
+ghost use Rattle.qmp_codec.specs.Bitmaps.{seen_bitmap_add, bitmap_add_in, seen_bitmap_name, bitmap_name_in, seen_source, bitmap_source_in, sources_of, sources_or, seen_bitmap_merge, bitmap_merge_in};
 
 use crate::fields::{Amount, maybe_amount, maybe_flag, text_at};
 use serde_json::Value;
@@ -63,7 +63,7 @@ pub(crate) fn read_bitmap_name(alloc: Global, object: &Value) -> Result<BitmapNa
 }
 
 fn read_source(alloc: Global, item: &Value) -> Result<Source, AllocError>
-    ensures { IfOk result (λ s. seen_source s ≡ source_of (view item.now)) }
+    ensures { IfOk result (λ s. seen_source s ≡ bitmap_source_in (view item.now)) }
 {
     match item {
         Value::String(name) => Ok(Source::Name(name.clone()?)),

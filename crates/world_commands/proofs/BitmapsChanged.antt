@@ -6,8 +6,8 @@ use Rattle.blk_base.specs.declared.fault.Outcome.{Outcome}
 use Rattle.blk_bitmaps.specs.declared.row.Bitmap.{Bitmap}
 use Rattle.blk_bitmaps.specs.declared.stop.BitmapStop.{BitmapStop}
 use Rattle.blk_bitmaps.specs.Calls.{with_first, with_source, without_first}
-use Rattle.blk_bitmaps.specs.Refusals.{add_refusal, busy_refusal, use_refusal, find as find_row, first as first_row}
-use Rattle.blk_bitmaps.specs.Rows.{dirty_below, is_granularity as may_have, is_named}
+use Rattle.blk_bitmaps.specs.Refusals.{add_refusal, busy_refusal, use_refusal, find as find_row, first_row}
+use Rattle.blk_bitmaps.specs.Rows.{dirty_below, is_granule_size as may_have, is_named}
 use Rattle.blk_graph.proofs.Members.{Contains-here, Contains-there}
 use Rattle.std.proofs.lemmas.List.{length-map, map_push, take_more}
 use Rattle.qmp_codec.specs.Commands.{Cmd, SeenSources}

@@ -5,7 +5,7 @@ use Rattle.blk_base.specs.declared.fault.Outcome.{Outcome}
 use Rattle.blk_bitmaps.specs.declared.row.Bitmap.{Bitmap}
 use Rattle.blk_bitmaps.specs.Calls.{with_first, without_first, with_source}
 use Rattle.blk_bitmaps.specs.Refusals.{find}
-use Rattle.blk_bitmaps.specs.Rows.{is_named, turned, emptied}
+use Rattle.blk_bitmaps.specs.Rows.{is_named, switched, emptied}
 use Rattle.qmp_codec.specs.Commands.{Cmd, SeenSources}
 use Rattle.qmp_codec.specs.declared.bitmaps.BitmapAdd.{BitmapAdd}
 use Rattle.qmp_codec.specs.declared.command.Command.TheVariants as command
@@ -58,9 +58,9 @@ bitmaps_after t (command.BitmapRemove c) new rows =
 bitmaps_after t (command.BitmapClear c) new rows =
     with_first (is_named (id_or 0 t (Some c.node)) c.name) emptied rows
 bitmaps_after t (command.BitmapEnable c) new rows =
-    with_first (is_named (id_or 0 t (Some c.node)) c.name) (turned true) rows
+    with_first (is_named (id_or 0 t (Some c.node)) c.name) (switched true) rows
 bitmaps_after t (command.BitmapDisable c) new rows =
-    with_first (is_named (id_or 0 t (Some c.node)) c.name) (turned false) rows
+    with_first (is_named (id_or 0 t (Some c.node)) c.name) (switched false) rows
 bitmaps_after t (command.BitmapMerge c) new rows = bitmaps_merged t c.node c.target c.bitmaps rows
 bitmaps_after t c new rows = rows
 

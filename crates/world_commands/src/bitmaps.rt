@@ -10,7 +10,7 @@ ghost use Rattle.qmp_rules.specs.Fitting.{AllChangesFit};
 ghost use Rattle.qmp_rules.specs.Room.{HasRoomForChanges};
 ghost use Rattle.blk_bitmaps.specs.Calls.{with_first, with_source, without_first};
 ghost use Rattle.blk_bitmaps.specs.Refusals.{add_refusal, find};
-ghost use Rattle.blk_bitmaps.specs.Rows.{emptied, is_named, turned};
+ghost use Rattle.blk_bitmaps.specs.Rows.{emptied, is_named, switched};
 ghost use Rattle.flat_machine.specs.Bitmaps.{AreBitmapsOf, FollowChanges, dirty_in};
 ghost use Rattle.flat_machine.specs.Marking.{dirty_bytes};
 ghost use Rattle.flat_machine.specs.State.{size_by_id};
@@ -261,7 +261,7 @@ fn turn(bitmaps: &mut Bitmaps, names: &Names, on: bool, c: &BitmapName)
     requires { AreFree bitmaps.old }
     ensures { bitmaps.new ≡ with_first
         (is_named (id_or 0 names.now.table (Some (seen_bitmap_name c.now).node))
-        (seen_bitmap_name c.now).name) (turned on) bitmaps.old }
+        (seen_bitmap_name c.now).name) (switched on) bitmaps.old }
 {
     let node = id_of(names, c.node.as_str());
     let _ = if on {

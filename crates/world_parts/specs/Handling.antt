@@ -1,7 +1,7 @@
 -- What is left of table, store and nodes by a command that opens and makes no file, with the text that answers it.
 use Rattle.std.specs.Prelude.{◌≡◌, ◌<◌, ℕ, Bool, true, false, List, [], ◌∷◌, Option, Some, None, Err}
 use Rattle.blk_bitmaps.specs.declared.row.Bitmap.{Bitmap}
-use Rattle.blk_bitmaps.specs.Calls.{after, RemoveAll}
+use Rattle.blk_bitmaps.specs.Calls.{rows_after_call, RemoveAll}
 use Rattle.qmp_codec.specs.Commands.{Cmd}
 use Rattle.qmp_codec.specs.declared.command.Command.TheVariants as command
 use Rattle.qmp_codec.specs.declared.nodes.DeviceAdd.{DeviceAdd}
@@ -59,7 +59,7 @@ IsDeletedBy t c old now = ⊥
 -- the bitmaps of nodes that go
 abbrev pub bitmaps_but : List ℕ → List Bitmap → List Bitmap
 bitmaps_but [] bitmaps = bitmaps
-bitmaps_but (node ∷ nodes) bitmaps = bitmaps_but nodes (after bitmaps (RemoveAll node))
+bitmaps_but (node ∷ nodes) bitmaps = bitmaps_but nodes (rows_after_call bitmaps (RemoveAll node))
 
 -- A deletion takes the bitmaps of the node with it, and those of the `file` node that goes too.
 abbrev pub bitmaps_named : RunTable → Option ℕ → List Bitmap → List Bitmap

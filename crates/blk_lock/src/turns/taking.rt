@@ -5,7 +5,7 @@ ghost use Rattle.blk_lock.specs.declared.known.Stage.TheVariants.{Rest, Waiting,
 ghost use Rattle.blk_lock.specs.Rooms.{IsWithinRoom, no_room, less};
 ghost use Rattle.blk_lock.specs.Stamps.{is_among, entries_of};
 ghost use Rattle.blk_lock.specs.Plays.{HasTaken, Takes, after_put, resting};
-ghost use Rattle.blk_lock.specs.Views.{view, lock_of, lock_id, mine, SeesMore, made_behind, BeginsWithSeen, HoldsActors, KeepsRoom, KeepsSpare};
+ghost use Rattle.blk_lock.specs.Views.{view, lock_of, lock_id, mine, SeesMore, made_behind, BeginsWithSeen, HoldsActors, KeepsRoom, KeepsSpareSinceTake};
 
 use super::{Owed, Turn, Turns};
 use crate::known::Known;
@@ -125,7 +125,7 @@ impl<W: Logged> Turns<W> {
         requires opened { IfSome (view pass.old).opening (W.comes turn.world) }
         requires room { KeepsRoom (view pass.old) (W.spare turn.world) }
         requires unspent { W.history turn.world ≡ entries_of (view pass.old).seen
-            → KeepsSpare (view pass.old) (W.spare turn.world) }
+            → KeepsSpareSinceTake (view pass.old) (W.spare turn.world) }
         requires actors { HoldsActors W.actor (view pass.old)
             (made_behind (view pass.old) (W.history turn.world)) }
         ensures lock { lock_of pass.new ≡ lock_of pass.old }

@@ -1,6 +1,6 @@
 use Rattle.std.proofs.Common.{◌≡◌, None, refl, ◌∙◌, get_or}
 use Rattle.std.specs.Prelude.{IsSomeAnd}
-use Rattle.job_core.specs.Jobs.{job_row_at, IsStep, moved}
+use Rattle.job_core.specs.Jobs.{job_row_at, IsStep, row_in_job_state}
 use Rattle.job_core.proofs.JobLemmas.{different_moved, read_slot}
 use Rattle.job_core.proofs.jobs.Jobs.advance.Goals as goal
 use Rattle.job_core.proofs.jobs.Jobs.advance.Goals.{in-Some, in_default}
@@ -14,7 +14,7 @@ invariant_of-self c =
     elim c.match-index_mut.branch [
       | in-Some w ↦ rw w.self-inside-is (record {
         count = c.self.invariant.count;
-        different = different_moved c.self.inside.slots.items c.args.slot w.in-Some.row (moved c.args.to w.in-Some.row) (read ∙ w.in-Some.is) c.self.invariant.different refl;
+        different = different_moved c.self.inside.slots.items c.args.slot w.in-Some.row (row_in_job_state c.args.to w.in-Some.row) (read ∙ w.in-Some.is) c.self.invariant.different refl;
       })
       | in_default w ↦ absurd (rw (read, w.in_default.is) at step)
     ]
