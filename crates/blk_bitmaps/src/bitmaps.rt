@@ -1,6 +1,6 @@
 //! The table and its calls.
 ghost use Rattle.std.specs.Prelude.{◌≡◌, ◌<◌, ◌==◌, [], ◌∷◌, ◌++◌, filter, vec_capacity, IfOk, IsOk, IfErr, OnOk, OnErr, Err, MatchOption, option_copied, length, nat_le, not, Some, None, if◌then◌else◌, is_some};
-ghost use Rattle.blk_bitmaps.specs.Rows.{added, is_named, is_granule_size, granule_count, IsCountable};
+ghost use Rattle.blk_bitmaps.specs.Rows.{added, is_named, granule_count, IsCountable};
 ghost use Rattle.blk_bitmaps.specs.Refusals.{find, add_refusal, use_refusal, merge_refusal};
 ghost use Rattle.blk_bitmaps.specs.Calls.{rows_after_call, with_source, Add, Remove, RemoveAll, Enable, Disable, Clear, Merge, NoteWrite, NoteAll, Freeze, Release};
 
@@ -201,7 +201,8 @@ impl Bitmaps {
     pub fn freeze(&mut self, node: NodeId, name: &str, job: u32) -> Result<(), BitmapStop>
         ensures answer { MatchOption (use_refusal (find self.old node name.now))
             (IfErr result (λ stop. stop ≡ BitmapStop.NoMemory)) (λ stop. result ≡ Err stop) }
-        ensures done { OnOk result (self.new ≡ rows_after_call self.old (Freeze node name.now job)) }
+        ensures done { OnOk result
+            (self.new ≡ rows_after_call self.old (Freeze node name.now job)) }
         ensures refused { OnErr result (self.new ≡ self.old) }
     {
         change::freeze(self.rows.as_mut_slice(), self.alloc, node, name, job)

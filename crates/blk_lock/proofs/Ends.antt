@@ -12,7 +12,7 @@ use Rattle.blk_lock.specs.declared.known.Stamped.{Stamped}
 use Rattle.blk_lock.specs.declared.known.Known.{Known}
 use Rattle.blk_lock.specs.declared.known.Stage.TheVariants.{Rest}
 use Rattle.blk_lock.specs.Rooms.{Measure, in_entries, in_bytes, amount, IsWithinRoom}
-use Rattle.blk_lock.specs.Stamps.{is_among, entries_of, room_taken, made_by, IsOthers}
+use Rattle.blk_lock.specs.Stamps.{is_among, entries_of, made_by, IsOthers}
 use Rattle.blk_lock.specs.Stages.{IsLive, has_world_out}
 use Rattle.blk_lock.specs.Order.{MayGive, IsSoundPass, Has, IsHome, first_known}
 use Rattle.blk_lock.proofs.Tests.{not_both, is_among-one}

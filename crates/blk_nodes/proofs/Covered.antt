@@ -3,7 +3,7 @@ use Rattle.std.proofs.Common.{◌≡◌, ◌≢◌, ℕ, ◌==◌, Bool, true, f
 use Rattle.std.specs.Prelude.{OnOk, OnErr}
 use Rattle.std.specs.Option.{option_map}
 use Rattle.std.proofs.lemmas.Bool.{eq-eqb, ne_eqb, cases_eq}
-use Rattle.blk_graph.specs.Edits.{child_of, child_after, stays, with_edge, with_over}
+use Rattle.blk_graph.specs.Edits.{child_of, child_after, stays, with_edge, with_over, child_moved}
 use Rattle.blk_graph.specs.Graph.{Graph, HasNode, IsSoundGraph}
 use Rattle.blk_graph.specs.Judged.{with_edges}
 use Rattle.blk_graph.specs.declared.stop.GraphStop.{GraphStop}
@@ -18,7 +18,7 @@ use Rattle.blk_graph.proofs.ChildLemmas.{child-kept}
 use Rattle.blk_graph.proofs.DraftLemmas.{children_put, child_put, children_replaced}
 use Rattle.blk_graph.proofs.RefreshLemmas.{child_of-refreshed}
 use Rattle.q2_image.specs.Image.{Known}
-use Rattle.blk_nodes.specs.Covering.{moved_child, IsCover}
+use Rattle.blk_nodes.specs.Covering.{IsCover}
 use Rattle.blk_nodes.specs.Joined.{IsFile, HasSize, HasBelow, IsJoined}
 use Rattle.blk_nodes.specs.Nodes.{Nodes, row_at, file_of, backing_of, driver_kind}
 use Rattle.blk_nodes.specs.declared.row.Driver.{Driver}
@@ -27,7 +27,7 @@ use Rattle.blk_nodes.specs.declared.row.Row.{Row}
 
 -- the edges of other nodes to one of them lead to the overlay
 pub record AreMoved (old new : List Edge) (node overlay : ℕ) : Type 0 where
-  pub others : (n : ℕ) (role : Role) → n ≢ overlay → child_of (Node n) role new ≡ option_map (moved_child node overlay) (child_of (Node n) role old)
+  pub others : (n : ℕ) (role : Role) → n ≢ overlay → child_of (Node n) role new ≡ option_map (child_moved node overlay) (child_of (Node n) role old)
   pub file : child_of (Node overlay) FileRole new ≡ child_of (Node overlay) FileRole old
   pub backing : child_of (Node overlay) BackingRole new ≡ Some node
 
@@ -41,7 +41,7 @@ map_id f each (Some c) = ap (λ (n : ℕ). Some n) (each c)
 
 -- the edges of a graph whose node was put under an overlay
 module _ (node overlay : ℕ) where
-  moves : (n c : ℕ) → n ≢ overlay → child_after node overlay (Some (Node overlay)) (Node n) c ≡ moved_child node overlay c
+  moves : (n c : ℕ) → n ≢ overlay → child_after node overlay (Some (Node overlay)) (Node n) c ≡ child_moved node overlay c
   moves n c apart = by_child (c == node)
     where
       leaves : stays (Some (Node overlay)) (Node n) ≡ false
@@ -70,7 +70,7 @@ module _ (node overlay : ℕ) where
         others = λ n role apart.
             child_of-refreshed kinds (Node n) role all ∙ children_replaced node overlay (Some (Node overlay)) backed (Node n) role
             ∙ map_same _ _ (λ c. moves n c apart) (child_of (Node n) role backed)
-            ∙ ap (option_map (moved_child node overlay)) (child-kept (Node n) role own edges (λ same. apart (let is : overlay ≡ n = cc in sym is)));
+            ∙ ap (option_map (child_moved node overlay)) (child-kept (Node n) role own edges (λ same. apart (let is : overlay ≡ n = cc in sym is)));
         file = child_of-refreshed kinds (Node overlay) FileRole all
             ∙ children_replaced node overlay (Some (Node overlay)) backed (Node overlay) FileRole
             ∙ map_id _ remains (child_of (Node overlay) FileRole backed)
@@ -85,10 +85,10 @@ module _ (nodes : Nodes) (edges : List Edge) (node overlay : ℕ) (joined : IsJo
   abbrev pub over : Nodes
   over = record nodes { graph = record nodes.graph { edges = edges } }
 
-  pub moved-other : (c : ℕ) → c ≢ node → moved_child node overlay c ≡ c
+  pub moved-other : (c : ℕ) → c ≢ node → child_moved node overlay c ≡ c
   moved-other c apart = rw (ne_eqb c node apart) refl
 
-  pub moved-node : moved_child node overlay node ≡ overlay
+  pub moved-node : child_moved node overlay node ≡ overlay
   moved-node = rw (eq-eqb node node refl) refl
 
   file_over : (n : ℕ) → IsFile nodes n → IsFile over n
@@ -110,7 +110,7 @@ module _ (nodes : Nodes) (edges : List Edge) (node overlay : ℕ) (joined : IsJo
         is = size ∙ sym same.is ∙ ap (λ (r : Row). r.size) (sym rows) ∙ has.is;
       }
 
-  moved_size : (c size : ℕ) → HasSize nodes c size → HasSize over (moved_child node overlay c) size
+  moved_size : (c size : ℕ) → HasSize nodes c size → HasSize over (child_moved node overlay c) size
   moved_size c size has = elim (cases_eq c node) [
     | inl same ↦ rw (same, moved-node) (overlay_size size (subst (λ (n : ℕ). HasSize nodes n size) same has))
     | inr apart ↦ rw (moved-other c apart) (size_over c size has)
@@ -122,7 +122,7 @@ module _ (nodes : Nodes) (edges : List Edge) (node overlay : ℕ) (joined : IsJo
     | inl same ↦ ap (file_of over) same ∙ moved.file ∙ ap (file_of nodes) (sym same) ∙ edge
     | inr apart ↦
         let other : file ≢ node = λ is. format (cover.files n row there (edge ∙ ap (λ (f : ℕ). Some f) is)) in
-        moved.others n FileRole apart ∙ ap (option_map (moved_child node overlay)) edge ∙ ap (λ (f : ℕ). Some f) (moved-other file other)
+        moved.others n FileRole apart ∙ ap (option_map (child_moved node overlay)) edge ∙ ap (λ (f : ℕ). Some f) (moved-other file other)
   ]
 
   -- a backing node is the one before, moved, or the overlay's
@@ -135,10 +135,10 @@ module _ (nodes : Nodes) (edges : List Edge) (node overlay : ℕ) (joined : IsJo
     | inr apart ↦ by_old (backing_of nodes n) refl (sym (moved.others n BackingRole apart) ∙ edge)
   ]
     where
-      by_old : (found : Option ℕ) → backing_of nodes n ≡ found → option_map (moved_child node overlay) (backing_of nodes n) ≡ Some next → HasSize over next size
-      by_old None is now = let bad = ap (option_map (moved_child node overlay)) (sym is) ∙ now in absurd (cc bad)
+      by_old : (found : Option ℕ) → backing_of nodes n ≡ found → option_map (child_moved node overlay) (backing_of nodes n) ≡ Some next → HasSize over next size
+      by_old None is now = let bad = ap (option_map (child_moved node overlay)) (sym is) ∙ now in absurd (cc bad)
       by_old (Some b) is now =
-          let to : moved_child node overlay b ≡ next = cc (ap (option_map (moved_child node overlay)) (sym is) ∙ now) in
+          let to : child_moved node overlay b ≡ next = cc (ap (option_map (child_moved node overlay)) (sym is) ∙ now) in
           subst (λ (m : ℕ). HasSize over m size) to (moved_size b size (before b is))
 
   below_over : (n : ℕ) (row : Row) (driver : Driver) → row_at nodes n ≡ Some row → row.driver ≡ driver → HasBelow nodes n row.size driver
@@ -169,8 +169,8 @@ module _ (nodes : Nodes) (edges : List Edge) (node overlay : ℕ) (joined : IsJo
         let bad : CopyOnRead ≡ Qcow2 cover.image = sym driver ∙ ap (λ (r : Row). r.driver) rows ∙ cover.driver in
         absurd (cc bad)
     | inr apart ↦ record {
-      child = moved_child node overlay is.child;
-      edge = moved.others n FileRole apart ∙ ap (option_map (moved_child node overlay)) is.edge;
+      child = child_moved node overlay is.child;
+      edge = moved.others n FileRole apart ∙ ap (option_map (child_moved node overlay)) is.edge;
       same = moved_size is.child row.size is.same;
     }
   ]

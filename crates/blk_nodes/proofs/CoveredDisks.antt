@@ -4,7 +4,7 @@ use Rattle.std.specs.Prelude.{◌==◌, OnOk}
 use Rattle.std.specs.Option.{option_map}
 use Rattle.std.proofs.lemmas.Bool.{eq-eqb, ne_eqb, cases_eq}
 use Rattle.std.proofs.lemmas.List.{ext_get_or}
-use Rattle.blk_graph.specs.Edits.{child_of, with_over}
+use Rattle.blk_graph.specs.Edits.{child_of, with_over, child_moved}
 use Rattle.blk_graph.specs.Graph.{Graph}
 use Rattle.blk_graph.specs.Judged.{with_edges}
 use Rattle.blk_graph.specs.Refreshed.{refreshed}
@@ -23,7 +23,7 @@ use Rattle.q2_image.specs.Image.{Known, IsImageOf, clusters_in, entry_in}
 use Rattle.q2_image.proofs.Guests.{guest_unallocated, length-image_disk}
 use Rattle.q2_image.proofs.Mapped.{entry_of_file}
 use Rattle.blk_nodes.specs.Contents.{bytes_of, file_node_disk, disk_under, disk_by, disk_down, disk_of}
-use Rattle.blk_nodes.specs.Covering.{moved_child, IsClear, IsCover, ReadCovered}
+use Rattle.blk_nodes.specs.Covering.{IsClear, IsCover, ReadCovered}
 use Rattle.blk_nodes.specs.Joined.{IsOverlay, HasBelow, IsJoined}
 use Rattle.blk_nodes.specs.Nodes.{Nodes, AreTold, row_at, node_size, file_of, backing_of}
 use Rattle.blk_nodes.specs.declared.row.Driver.{Driver}
@@ -139,10 +139,10 @@ module _ (nodes : Nodes) (edges : List Edge) (node overlay : ℕ) (joined : IsJo
   Rest turns = (c : ℕ) → (StartsAt edges turns c → ⊥) → disk_down turns then' c ≡ disk_of nodes (source c)
 
   -- where an edge leads, the same is read as before
-  same_source : (n c : ℕ) → HasEdge nodes.graph.edges (Node n) c → source (moved_child node overlay c) ≡ c
+  same_source : (n c : ℕ) → HasEdge nodes.graph.edges (Node n) c → source (child_moved node overlay c) ≡ c
   same_source n c edge = elim (cases_eq c node) [
     | inl same ↦
-        ap (λ (x : ℕ). source (moved_child node overlay x)) same
+        ap (λ (x : ℕ). source (child_moved node overlay x)) same
         ∙ ap source (moved-node nodes edges node overlay joined cover moved) ∙ source-own ∙ sym same
     | inr other ↦
         ap source (moved-other nodes edges node overlay joined cover moved c other)
@@ -155,13 +155,13 @@ module _ (nodes : Nodes) (edges : List Edge) (node overlay : ℕ) (joined : IsJo
     where
       by_child : (found : Option ℕ) → child_of (Node n) role nodes.graph.edges ≡ found
           → disk_under (disk_down turns then') (child_of (Node n) role edges) ≡ disk_under (disk_of nodes) found
-      by_child None is = ap (disk_under (disk_down turns then')) (moved.others n role apart ∙ ap (option_map (moved_child node overlay)) is)
+      by_child None is = ap (disk_under (disk_down turns then')) (moved.others n role apart ∙ ap (option_map (child_moved node overlay)) is)
       by_child (Some c) is =
-          let new : child_of (Node n) role edges ≡ Some (moved_child node overlay c)
-          = moved.others n role apart ∙ ap (option_map (moved_child node overlay)) is in
-          let to = child-edge (Node n) role edges (moved_child node overlay c) new in
+          let new : child_of (Node n) role edges ≡ Some (child_moved node overlay c)
+          = moved.others n role apart ∙ ap (option_map (child_moved node overlay)) is in
+          let to = child-edge (Node n) role edges (child_moved node overlay c) new in
           ap (disk_under (disk_down turns then')) new
-          ∙ rest (moved_child node overlay c) (λ starts. none (to.edge, to.there, to.from, rw to.to starts))
+          ∙ rest (child_moved node overlay c) (λ starts. none (to.edge, to.there, to.from, rw to.to starts))
           ∙ ap (disk_of nodes) (same_source n c (child-edge (Node n) role nodes.graph.edges c is))
 
   other_covered : (turns n : ℕ) (row : Row) (driver : Driver) → row_at nodes n ≡ Some row → row.driver ≡ driver → HasBelow nodes n row.size driver

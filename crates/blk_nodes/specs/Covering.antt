@@ -11,10 +11,6 @@ use Rattle.blk_nodes.specs.Overlays.{IsFresh}
 use Rattle.blk_nodes.specs.declared.row.Driver.TheVariants.{Qcow2, CopyOnRead}
 use Rattle.blk_nodes.specs.declared.row.Row.{Row}
 
--- where an edge leads afterwards
-abbrev pub moved_child : ℕ → ℕ → ℕ → ℕ
-moved_child node overlay child = if child == node then overlay else child
-
 -- the nodes with an overlay over one of them
 abbrev pub covered : ℕ → ℕ → Nodes → Nodes
 covered node overlay nodes =

@@ -13,10 +13,11 @@ use Rattle.qmp_rules.specs.declared.rows.Device.{Device}
 use Rattle.qmp_rules.specs.declared.rows.NodeRecord.{NodeRecord}
 use Rattle.qmp_rules.specs.Table.{RunTable, child, device_by_number, node_by_id}
 use Rattle.qmp_rules.specs.Chains.{disk_from, disk_node, filter_role, filtered}
+use Rattle.qmp_rules.specs.Queries.{bytes_of_node}
 use Rattle.blk_history.specs.Disk.{span_of}
 use Rattle.blk_history.specs.Fold.{With}
 use Rattle.flat_machine.specs.Agreement.{HasDisk}
-use Rattle.flat_machine.specs.State.{Guest as GuestRow, disk_of_guest, drive_of, filename_of, size_by_id}
+use Rattle.flat_machine.specs.State.{Guest as GuestRow, disk_of_guest, drive_of, filename_of}
 use Rattle.world_parts.specs.Coherent.{AreOnDisks, AreWithin, HaveDrives}
 
 -- what stays of a row that was there
@@ -154,7 +155,7 @@ module _ (t t' : RunTable) (new but : ℕ) (change : NodeRecord → NodeRecord) 
         own = ap filter_role (grows.stays row).kind ∙ disk.own;
       }
 
-  size-same : (id : ℕ) → id ≢ new → size_by_id t' id ≡ size_by_id t id
+  size-same : (id : ℕ) → id ≢ new → bytes_of_node t' id ≡ bytes_of_node t id
   size-same id other = ap (λ (found : Option NodeRecord). unwrap_or (option_map (λ (row : NodeRecord). row.size) found) 0) (grows.rows id other) ∙ by_row (node_by_id t id)
     where
       by_row : (found : Option NodeRecord) → unwrap_or (option_map (λ (row : NodeRecord). row.size) (option_map change found)) 0 ≡ unwrap_or (option_map (λ (row : NodeRecord). row.size) found) 0
@@ -171,8 +172,8 @@ module _ (t t' : RunTable) (new but : ℕ) (change : NodeRecord → NodeRecord) 
   pub within-grown : (guests : List GuestRow) → AreWithin t guests → AreWithin t' guests
   within-grown guests within g f flies = by_drive (drive_of t g) refl (within g f flies)
     where
-      by_drive : (found : Option ℕ) → drive_of t g ≡ found → With (option_map (disk_node t) found) (λ node. end_of (span_of f.op) ≤ size_by_id t node)
-          → With (disk_of_guest t' g) (λ node. end_of (span_of f.op) ≤ size_by_id t' node)
+      by_drive : (found : Option ℕ) → drive_of t g ≡ found → With (option_map (disk_node t) found) (λ node. end_of (span_of f.op) ≤ bytes_of_node t node)
+          → With (disk_of_guest t' g) (λ node. end_of (span_of f.op) ≤ bytes_of_node t' node)
       by_drive None e is = absurd is
       by_drive (Some node) e is =
           let on : drive_of t' g ≡ Some node = drive-same g ∙ e in

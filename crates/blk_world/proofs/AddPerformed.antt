@@ -12,11 +12,10 @@ use Rattle.blk_nodes.specs.Contents.{disk_under, bytes_by, bytes_of, disk_down, 
 use Rattle.blk_nodes.specs.Joined.{IsJoined}
 use Rattle.blk_nodes.specs.Nodes.{DeviceSeen, Nodes, device_in, row_at}
 use Rattle.blk_nodes.specs.declared.row.Row.{Row}
-use Rattle.qmp_rules.specs.Asks.{stands_for}
+use Rattle.qmp_rules.specs.Asks.{stands_for, name_of_file}
 use Rattle.qmp_rules.specs.Table.{RunTable, node_by_id}
 use Rattle.qmp_rules.specs.declared.change.Change.TheVariants.{AddFile, AddFilter, AddFormat}
 use Rattle.qmp_rules.specs.declared.rows.NodeRecord.{NodeRecord}
-use Rattle.flat_machine.specs.Changed.{filename_or}
 use Rattle.flat_machine.specs.Performing.{Performed, Puts, backing_reads, format_as, held_bytes}
 use Rattle.flat_machine.specs.State.{State, filename_of}
 use Rattle.flat_machine.proofs.Finds.{same-bytes_eq}
@@ -170,7 +169,7 @@ module _ (w v : WorldSeen) (joined : IsJoined w.nodes) (record' : NodeRecord) (r
     nodes = λ node other. reads-same w.nodes v.nodes record'.id row joined after disks node other;
     files = λ name but. held-filed name;
     reads_as =
-        let bytes : held_bytes (contents_of w) (filename_or record') ≡ told device.content =
+        let bytes : held_bytes (contents_of w) (name_of_file record') ≡ told device.content =
         ap (λ (f : Option (List ℕ)). held_bytes (contents_of w) (unwrap_or f [])) named
         ∙ ap (λ (b : Option (List ℕ)). unwrap_or b []) (held-own ∙ sym content) ∙ told-is device.content in
         disk ∙ ap (λ (n : ℕ). file_disk n (told device.content)) (sym size) ∙ ap (file_disk record'.size) (sym bytes);

@@ -34,7 +34,7 @@ use Rattle.qmp_rules.specs.declared.change.Change.TheVariants.{AddFile, AddFilte
 use Rattle.qmp_rules.specs.declared.rows.NodeRecord.{NodeRecord}
 use Rattle.qmp_asks.specs.declared.look.Look.TheVariants as look
 use Rattle.qmp_rules.specs.declared.told.Told.{Told}
-use Rattle.flat_machine.specs.Wiring.{AreApart}
+use Rattle.flat_machine.specs.Wiring.{HaveDistinctIds}
 use Rattle.flat_machine.proofs.Accepted.{free_fresh, next_fresh}
 use Rattle.flat_machine.proofs.Asked.{lone-node, room-left}
 use Rattle.flat_machine.proofs.Tables.{refreshed-old}
@@ -84,7 +84,7 @@ lone-then t row away edge there = λ same.
 -- ---- by the driver
 
 module _ (t : RunTable) (told : Told) (c : Adding) (none : refusal_to t told (command.BlockdevAdd c) ≡ None) (old now : StoreInRun)
-    (before nodes new : Nodes) (p : Progress) (was : Middle t nodes old.opened p) (out_before : AreOut t before old.opened) (apart : AreApart t)
+    (before nodes new : Nodes) (p : Progress) (was : Middle t nodes old.opened p) (out_before : AreOut t before old.opened) (apart : HaveDistinctIds t)
     (joined : IsJoined nodes) where
   -- what is known of the device of a command, by the file that it names
   abbrev pub FreshFor : FileRef (List ℕ) → Option Taken → Type 0

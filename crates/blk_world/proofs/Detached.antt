@@ -27,11 +27,12 @@ use Rattle.qmp_rules.specs.declared.change.Change.{Change}
 use Rattle.qmp_rules.specs.declared.change.Change.TheVariants.{RemoveDevice}
 use Rattle.qmp_rules.specs.declared.rows.Device.{Device}
 use Rattle.qmp_rules.specs.declared.rows.NodeRecord.{NodeRecord}
+use Rattle.qmp_rules.specs.Queries.{bytes_of_node}
 use Rattle.flat_machine.specs.Agreement.{HasDisk}
 use Rattle.flat_machine.specs.Legal.{IsForbidden}
 use Rattle.flat_machine.specs.Marks.{AreCalm, IsCalm, device_disk, ids_of}
 use Rattle.flat_machine.specs.Performing.{AllPerformed, IsQuiet}
-use Rattle.flat_machine.specs.State.{Guest, disk_of_guest, drive_of, filename_of, size_by_id}
+use Rattle.flat_machine.specs.State.{Guest, disk_of_guest, drive_of, filename_of}
 use Rattle.flat_machine.specs.Suiting.{IsThere}
 use Rattle.flat_machine.specs.Wiring.{TableStands}
 use Rattle.flat_machine.proofs.DevicesGone.{device_left, drive_left, gone_grow}
@@ -113,7 +114,7 @@ module _ (w : WorldSeen) (whole : IsWholeWorld w) (joined : IsJoined w.nodes) (i
   same_filename : (node : ℕ) → filename_of u node ≡ filename_of w.table node
   same_filename node = ap (option_and_then (λ (r : NodeRecord). r.filename)) (same_at node)
 
-  same_size : (node : ℕ) → size_by_id u node ≡ size_by_id w.table node
+  same_size : (node : ℕ) → bytes_of_node u node ≡ bytes_of_node w.table node
   same_size node = ap (λ (found : Option NodeRecord). unwrap_or (option_map (λ (r : NodeRecord). r.size) found) 0) (same_at node)
 
   -- ---- drives
@@ -179,7 +180,7 @@ module _ (w : WorldSeen) (whole : IsWholeWorld w) (joined : IsJoined w.nodes) (i
       at = subst (λ (n : ℕ). flight_at w.progress.guests n ≡ Some f) same flies
 
       by_drive : (found : Option ℕ) → drive_of w.table number ≡ found
-          → With (option_map (disk_node w.table) found) (λ node. end_of (span_of f.op) ≤ size_by_id w.table node) → ⊥
+          → With (option_map (disk_node w.table) found) (λ node. end_of (span_of f.op) ≤ bytes_of_node w.table node) → ⊥
       by_drive None on bad = bad
       by_drive (Some drive) on fits =
           let row = flying_row w.progress.guests number f at in
@@ -219,12 +220,12 @@ module _ (w : WorldSeen) (whole : IsWholeWorld w) (joined : IsJoined w.nodes) (i
   are_within g f flies = by_drive (drive_of w.table g) refl (another g f flies) (was.within g f flies)
     where
       by_drive : (found : Option ℕ) → drive_of w.table g ≡ found → g ≢ number
-          → With (option_map (disk_node w.table) found) (λ other. end_of (span_of f.op) ≤ size_by_id w.table other)
-          → With (disk_of_guest u g) (λ other. end_of (span_of f.op) ≤ size_by_id u other)
+          → With (option_map (disk_node w.table) found) (λ other. end_of (span_of f.op) ≤ bytes_of_node w.table other)
+          → With (disk_of_guest u g) (λ other. end_of (span_of f.op) ≤ bytes_of_node u other)
       by_drive None on apart bad = absurd bad
       by_drive (Some other) on apart fits =
-          subst (λ (found : Option ℕ). With (option_map (disk_node u) found) (λ n. end_of (span_of f.op) ≤ size_by_id u n)) (sym (other_drive g apart ∙ on))
-          (subst (λ (n : ℕ). end_of (span_of f.op) ≤ size_by_id u n) (sym (disk_is other (drive_there g other on)))
+          subst (λ (found : Option ℕ). With (option_map (disk_node u) found) (λ n. end_of (span_of f.op) ≤ bytes_of_node u n)) (sym (other_drive g apart ∙ on))
+          (subst (λ (n : ℕ). end_of (span_of f.op) ≤ bytes_of_node u n) (sym (disk_is other (drive_there g other on)))
           (subst (λ (n : ℕ). end_of (span_of f.op) ≤ n) (sym (same_size (disk_node w.table other))) fits))
 
   are_allowed : AreAllowed u w.progress.guests

@@ -18,13 +18,14 @@ use Rattle.qmp_rules.specs.Chains.{filter_role, filtered, disk_node}
 use Rattle.qmp_rules.specs.Table.{RunTable, node_by_id, device_by_number, child}
 use Rattle.qmp_rules.specs.declared.rows.Device.{Device}
 use Rattle.qmp_rules.specs.declared.rows.NodeRecord.{NodeRecord}
+use Rattle.qmp_rules.specs.Queries.{bytes_of_node}
 use Rattle.blk_history.specs.Disk.{span_of, piece, is_write}
 use Rattle.blk_history.specs.Fold.{With}
 use Rattle.blk_history.specs.Machine.{Flight}
 use Rattle.flat_machine.specs.Agreement.{HasDisk}
 use Rattle.flat_machine.specs.Legal.{IsForbidden}
 use Rattle.flat_machine.specs.Machine.{copies_through}
-use Rattle.flat_machine.specs.State.{drive_of, disk_of_guest, size_by_id}
+use Rattle.flat_machine.specs.State.{drive_of, disk_of_guest}
 use Rattle.flat_machine.specs.Wiring.{LeadsToFile, IsUnderOne, IsDiskOf, TableStands}
 use Rattle.flat_machine.specs.Writing.{ReadsWritten}
 use Rattle.blk_nodes.specs.Contents.{disk_under, disk_by, disk_of, Unfolds}
@@ -359,7 +360,7 @@ module _ (t : RunTable) (nodes : Nodes) (joined : IsJoined nodes) (stands : Tabl
           let disk : IsDiskOf t top d.row = with-at (node_by_id t (disk_node t d.drive)) d.row (IsDiskOf t top) at (stands.reads d.drive top is) in
           disk.writable (or-left (not top.read_only) (copies_through t top.id) (ap not writable))
 
-  pub size_there : (g node : ℕ) (d : IsGuestDisk t nodes g node) → size_by_id t node ≡ node_size nodes node
+  pub size_there : (g node : ℕ) (d : IsGuestDisk t nodes g node) → bytes_of_node t node ≡ node_size nodes node
   size_there g node d =
       ap (λ (found : Option NodeRecord). unwrap_or (option_map (λ (r : NodeRecord). r.size) found) 0) d.at
       ∙ d.alike.size ∙ sym (ap size_by d.own_at)
@@ -414,7 +415,7 @@ module _ (t : RunTable) (nodes : Nodes) (p : Progress) (joined : IsJoined nodes)
 
     pub can_transfer : HasNext f → CanTransfer nodes drive (disk_node t drive) f.op (part_of f)
     can_transfer next =
-        let within = with-at (disk_of_guest t g) (disk_node t drive) (λ node. end_of (span_of f.op) ≤ size_by_id t node) node_on (was.within g f flies) in
+        let within = with-at (disk_of_guest t g) (disk_node t drive) (λ node. end_of (span_of f.op) ≤ bytes_of_node t node) node_on (was.within g f flies) in
         let size = size_there t nodes joined was.table.stands was.alike g (disk_node t drive) disk_is in
         let piece_in = piece_inside f.op f.next next.next in
         let inside : end_of (part_of f) ≤ node_size nodes (disk_node t drive) = omega (arith, within, size, piece_in) in

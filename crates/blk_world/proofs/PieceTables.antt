@@ -19,9 +19,10 @@ use Rattle.qmp_rules.specs.Chains.{filter_role, filtered, disk_node, is_over, un
 use Rattle.qmp_rules.specs.Table.{RunTable, node_by_id, device_by_number, child}
 use Rattle.qmp_rules.specs.declared.rows.Device.{Device}
 use Rattle.qmp_rules.specs.declared.rows.NodeRecord.{NodeRecord}
+use Rattle.qmp_rules.specs.Queries.{bytes_of_node}
 use Rattle.flat_machine.specs.Agreement.{HasDisk}
 use Rattle.flat_machine.specs.Legal.{IsForbidden}
-use Rattle.flat_machine.specs.State.{drive_of, disk_of_guest, size_by_id}
+use Rattle.flat_machine.specs.State.{drive_of, disk_of_guest}
 use Rattle.flat_machine.specs.Wiring.{TableAtRest}
 use Rattle.flat_machine.proofs.Rows.{disk_node-same}
 use Rattle.flat_machine.proofs.TableRests.{written_rests}
@@ -70,7 +71,7 @@ module _ (t now : RunTable) (e : IsEased t now) where
   pub disk_same : (id : ℕ) → disk_node now id ≡ disk_node t id
   disk_same id = disk_node-same t now (λ n. Unit {0}) (λ n here. filtered_same n) (λ n c here at. tt) id tt
 
-  pub size_same : (id : ℕ) → size_by_id now id ≡ size_by_id t id
+  pub size_same : (id : ℕ) → bytes_of_node now id ≡ bytes_of_node t id
   size_same id = ap (λ (size : Option ℕ). unwrap_or size 0) (found_same (λ r. r.size) (λ r. refl) id)
 
   pub guest_disk_same : (g : ℕ) → disk_of_guest now g ≡ disk_of_guest t g
@@ -80,7 +81,7 @@ module _ (t now : RunTable) (e : IsEased t now) where
       by_drive None = refl
       by_drive (Some node) = ap Some (disk_same node)
 
-  within_same : (disk : Option ℕ) (end : ℕ) → With disk (λ node. end ≤ size_by_id t node) → With disk (λ node. end ≤ size_by_id now node)
+  within_same : (disk : Option ℕ) (end : ℕ) → With disk (λ node. end ≤ bytes_of_node t node) → With disk (λ node. end ≤ bytes_of_node now node)
   within_same None end never = absurd never
   within_same (Some node) end fits = subst (λ size. end ≤ size) (sym (size_same node)) fits
 
@@ -101,7 +102,7 @@ module _ (t now : RunTable) (e : IsEased t now) where
           subst (λ (row : Option NodeRecord). With row (λ r. r.read_only ≡ false)) (sym (eased_at t now e node))
           (writable_same (node_by_id t node) (was.writable g node device (sym (device_same g) ∙ there) writes (sym (drive_same g) ∙ on)));
       within = λ g f flies.
-          subst (λ (disk : Option ℕ). With disk (λ node. end_of (span_of f.op) ≤ size_by_id now node)) (sym (guest_disk_same g))
+          subst (λ (disk : Option ℕ). With disk (λ node. end_of (span_of f.op) ≤ bytes_of_node now node)) (sym (guest_disk_same g))
           (within_same (disk_of_guest t g) (end_of (span_of f.op)) (was.within g f flies));
       allowed = λ g f flies.
           subst (λ (device : Option Device). With device (λ d. IsForbidden f.op d.read_only → ⊥)) (sym (device_same g)) (was.allowed g f flies);

@@ -49,7 +49,7 @@ use Rattle.qmp_rules.specs.Answers.{unbuilt, out_of_turn, refusal_to, command_ed
 use Rattle.blk_history.specs.Fold.{With}
 use Rattle.flat_machine.specs.State.{State, Content, Bytes, Blank, Unknown, content_in}
 use Rattle.flat_machine.specs.Contents.{file_bytes}
-use Rattle.flat_machine.specs.Changed.{stepped, put, name_file, add_file, filename_or}
+use Rattle.flat_machine.specs.Changed.{stepped, put, name_file, add_file}
 use Rattle.flat_machine.specs.Sights.{told_for, MayStop, may_be_large, is_opened}
 use Rattle.flat_machine.specs.Agreement.{HasDisk}
 use Rattle.flat_machine.specs.Performing.{IsWholly, IsReadable, IsBacking, CanAddFile, Can, AllCan}
@@ -333,9 +333,9 @@ pub added_files : (row : NodeRecord) (s : State) → (add_file row s).files ≡ 
 added_files row s = by_flag row.read_only
   where
     with_disk : State
-    with_disk = put row.id (file_bytes row.size (content_in s.files (filename_or row))) s
+    with_disk = put row.id (file_bytes row.size (content_in s.files (name_of_file row))) s
 
-    by_flag : (b : Bool) → (cond b with_disk (name_file (filename_or row) with_disk)).files ≡ s.files
+    by_flag : (b : Bool) → (cond b with_disk (name_file (name_of_file row) with_disk)).files ≡ s.files
     by_flag true = refl
     by_flag false = refl
 

@@ -23,7 +23,8 @@ use Rattle.qmp_rules.specs.declared.change.Change.{Change}
 use Rattle.qmp_rules.specs.declared.change.Change.TheVariants as change
 use Rattle.qmp_rules.specs.Changes.{changed, all_changed, bitmap_changed, bitmaps_but_of, without_bitmap}
 use Rattle.qmp_rules.specs.Changes as table
-use Rattle.flat_machine.specs.State.{Dirty, size_by_id}
+use Rattle.qmp_rules.specs.Queries.{bytes_of_node}
+use Rattle.flat_machine.specs.State.{Dirty}
 use Rattle.flat_machine.specs.Marking.{is_dirty_of, dirty_at, clean, marked, where_recording, merge_from, dirty_bytes}
 use Rattle.flat_machine.specs.Marking as marking
 use Rattle.flat_machine.specs.Machine.{noted}
@@ -359,7 +360,7 @@ module _ (t : RunTable) (rows : List Bitmap) (was : AreBitmapsOf t.bitmaps rows)
 
 -- a new one
 pub follow-added : (t : RunTable) (rows : List Bitmap) → AreBitmapsOf t.bitmaps rows → (new : Bitmap) → find (is_bitmap new.node new.name.bytes) t.bitmaps ≡ None
-    → IsFreeBitmap new → dirty_in new ≡ clean (bitmap_of new) (size_by_id t new.node) → FollowChanges t rows (rows ++ new ∷ []) (change.AddBitmap (bitmap_of new) ∷ [])
+    → IsFreeBitmap new → dirty_in new ≡ clean (bitmap_of new) (bytes_of_node t new.node) → FollowChanges t rows (rows ++ new ∷ []) (change.AddBitmap (bitmap_of new) ∷ [])
 unfolding changed
 follow-added t rows was new fresh free is_clean = record {
   listed = pushed-bitmaps t.bitmaps rows was new fresh free;

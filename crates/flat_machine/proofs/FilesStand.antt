@@ -17,7 +17,7 @@ use Rattle.qmp_rules.specs.Changes.{changed, node_changed, unsettled, lost_with}
 use Rattle.flat_machine.specs.State.{State, Content, Bytes, Unknown, Left, content_in}
 use Rattle.flat_machine.specs.Contents.{with_content, formatted}
 use Rattle.flat_machine.specs.Changed.{stepped, format_name}
-use Rattle.flat_machine.specs.Wiring.{AreApart, StandsFor, IsUnder, LeadsToFile, TableStands}
+use Rattle.flat_machine.specs.Wiring.{HaveDistinctIds, StandsFor, IsUnder, LeadsToFile, TableStands}
 use Rattle.flat_machine.specs.Standing.{IsLostBy, IsOfState, IsOpenlyKnown, IsUsedUp, WritingStands, Stands}
 use Rattle.flat_machine.specs.Suiting.{IsThere, HasNoNode, FormattingSuits}
 use Rattle.flat_machine.proofs.Finds.{content_in-with, content_in-with_other, cases_name, name_differs}
@@ -284,7 +284,7 @@ format_stands s node name size backing_file backing_fmt suits h =
     tt (λ is. (suits.row, suits.stands)) (rows_table s.table now.table rows refl refl refl h.table)
     (files_writing s now name Formatted content rows refl files h refl refl refl (λ n named. has_name-grows name n s.named named) (inr refl) (inr spared)) h
   where
-    one_file : (t : RunTable) → AreApart t → FormattingSuits t node name → (row : NodeRecord) (other : List ℕ) → StandsFor t other row
+    one_file : (t : RunTable) → HaveDistinctIds t → FormattingSuits t node name → (row : NodeRecord) (other : List ℕ) → StandsFor t other row
         → row.id ≡ node → other ≡ name
     one_file t apart suits row other over same =
         let is : row ≡ suits.row = same_row t apart suits.row row suits.stands.there over.there (same ∙ sym suits.is_node) in

@@ -19,9 +19,10 @@ use Rattle.qmp_rules.specs.declared.rows.NodeRecord.{NodeRecord}
 use Rattle.qmp_rules.specs.Table.{RunTable, node_by_id, child, kinds_of}
 use Rattle.qmp_rules.specs.Chains.{filter_role}
 use Rattle.qmp_rules.specs.Changes.{changed, node_changed, unsettled, writable, with_writable, with_unsettled, without_record, lost_with, stands_over, device_edge}
+use Rattle.qmp_rules.specs.Asks.{name_of_file}
 use Rattle.flat_machine.specs.State.{State, Image, Left, Content, Unknown, Mapped, content_in, filename_of}
 use Rattle.flat_machine.specs.Contents.{mapped_in, file_bytes}
-use Rattle.flat_machine.specs.Changed.{put, name_file, name_if, add_file, filename_or, know_if, note_image, content_under, bytes_by_format, left_disk, leave, own_filename, overlay_file, stepped, all_stepped}
+use Rattle.flat_machine.specs.Changed.{put, name_file, name_if, add_file, know_if, note_image, content_under, bytes_by_format, left_disk, leave, own_filename, overlay_file, stepped, all_stepped}
 use Rattle.flat_machine.specs.Sights.{AgreesWith}
 use Rattle.flat_machine.specs.Agreement.{Contents, AreAsKnown, Agrees}
 use Rattle.flat_machine.specs.Performing.{HeldSame, Nothing, Can, Performed, AllCan, AllPerformed}
@@ -95,9 +96,9 @@ added_images : (row : NodeRecord) (s : State) → (add_file row s).images ≡ s.
 added_images row s = by_flag row.read_only
   where
     with_disk : State
-    with_disk = put row.id (file_bytes row.size (content_in s.files (filename_or row))) s
+    with_disk = put row.id (file_bytes row.size (content_in s.files (name_of_file row))) s
 
-    by_flag : (b : Bool) → (cond b with_disk (name_file (filename_or row) with_disk)).images ≡ s.images
+    by_flag : (b : Bool) → (cond b with_disk (name_file (name_of_file row) with_disk)).images ≡ s.images
     by_flag true = refl
     by_flag false = refl
 

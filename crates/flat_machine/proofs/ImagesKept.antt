@@ -16,7 +16,7 @@ use Rattle.flat_machine.specs.Changed.{own_filename}
 use Rattle.flat_machine.specs.Sights.{AgreesWith, mapped_at}
 use Rattle.flat_machine.specs.Agreement.{Contents}
 use Rattle.flat_machine.specs.Writing.{written_file}
-use Rattle.flat_machine.specs.Wiring.{AreApart, AreFileNodes, TableStands}
+use Rattle.flat_machine.specs.Wiring.{HaveDistinctIds, AreFileNodes, TableStands}
 use Rattle.flat_machine.specs.Standing.{IsOpenlyKnown}
 use Rattle.flat_machine.specs.Imaging.{maps_some, image_at, is_qcow2, is_qcow2_at, ImagesAreSound, ShowsImage, ShowsImages, StayInFiles}
 use Rattle.flat_machine.proofs.Finds.{find-map}
@@ -235,7 +235,7 @@ pub record IsImageIn (t : RunTable) (node : ℕ) (name : List ℕ) : Type 0 wher
   pub role : edge.role ≡ File
   pub to : edge.child ≡ under.id
 
-pub image_in_file : (t : RunTable) → AreApart t → AreFileNodes t → (node : ℕ) (name : List ℕ) → is_qcow2_at t node ≡ true → written_file t node ≡ Some name
+pub image_in_file : (t : RunTable) → HaveDistinctIds t → AreFileNodes t → (node : ℕ) (name : List ℕ) → is_qcow2_at t node ≡ true → written_file t node ≡ Some name
     → IsImageIn t node name
 image_in_file t apart drivers node name is file =
     let of = writes_file t node name file in

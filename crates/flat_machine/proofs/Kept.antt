@@ -19,10 +19,11 @@ use Rattle.qmp_rules.specs.declared.change.Change.TheVariants as change
 use Rattle.qmp_rules.specs.Table.{RunTable, node_by_id, child}
 use Rattle.qmp_rules.specs.Chains.{filter_role, filtered, disk_from, disk_node}
 use Rattle.qmp_rules.specs.Changes.{changed, node_changed, unsettled, writable, with_unsettled, stands_over, lost_with}
+use Rattle.qmp_rules.specs.Asks.{name_of_file}
 use Rattle.blk_history.specs.Fold.{With}
 use Rattle.flat_machine.specs.State.{State, Content, Bytes, Blank, Unknown, Left, Mapped, bytes_in, bytes_at_node, content_in, filename_of}
 use Rattle.flat_machine.specs.Contents.{file_bytes, image_bytes, formatted, length_in, mapped_in, with_content}
-use Rattle.flat_machine.specs.Changed.{put, make, name_file, name_if, stepped, all_stepped, filename_or, content_under, bytes_below, bytes_by_format, format_name, know_if, note_image, with_bytes_of, leave, left_in, left_disk, own_filename, overlay_file}
+use Rattle.flat_machine.specs.Changed.{put, make, name_file, name_if, stepped, all_stepped, content_under, bytes_below, bytes_by_format, format_name, know_if, note_image, with_bytes_of, leave, left_in, left_disk, own_filename, overlay_file}
 use Rattle.flat_machine.specs.Final.{IsDiskIn}
 use Rattle.flat_machine.specs.Agreement.{Contents, HasDisk, ReadAsDisks, IsBlank, IsAsKnown, AreAsKnown, AreAbsent, IsLeftAs, Agrees}
 use Rattle.flat_machine.specs.Performing.{ReadSame, HeldSame, Nothing, IsQuiet, Puts, Removes, ChangesFileAlone, IsWholly, IsReadable, CanFileBeRead, IsBacking, CanAddFile, CanAddFormat, CanAddFilter, Can, Performed, AllCan, AllPerformed, held_bytes, backing_reads, format_as, IsFormatted}
@@ -77,13 +78,13 @@ module _ (opening : List ℕ → Option (List ℕ)) where
       rw (whole.1, held) refl
 
   file_keeps : (s : State) (row : NodeRecord) (t : RunTable) (old new : Contents) → t.nodes ≡ s.table.nodes ++ row ∷ [] → CanAddFile s row
-      → Puts row.id (file_disk row.size (held_bytes old (filename_or row))) old new → Agrees opening s old
-      → Agrees opening (record (put row.id (file_bytes row.size (content_in s.files (filename_or row))) s) { table = t }) new
+      → Puts row.id (file_disk row.size (held_bytes old (name_of_file row))) old new → Agrees opening s old
+      → Agrees opening (record (put row.id (file_bytes row.size (content_in s.files (name_of_file row))) s) { table = t }) new
   file_keeps s row t old new nodes can adds h =
-      let now : State = record (put row.id (file_bytes row.size (content_in s.files (filename_or row))) s) { table = t } in
-      let reads = file_reads s old row.size (filename_or row) (content_in s.files (filename_or row)) h.known refl can.known in
+      let now : State = record (put row.id (file_bytes row.size (content_in s.files (name_of_file row))) s) { table = t } in
+      let reads = file_reads s old row.size (name_of_file row) (content_in s.files (name_of_file row)) h.known refl can.known in
       record {
-        disks = disks_put s now old new row.id (file_bytes row.size (content_in s.files (filename_or row)))
+        disks = disks_put s now old new row.id (file_bytes row.size (content_in s.files (name_of_file row)))
             (rows_pushed s now row nodes) refl adds.nodes (adds.reads_as ∙ reads) h.disks;
         known = known_kept s now old new refl adds.files h.known;
         absent = absent_kept s now old new refl adds.files h.absent;
@@ -108,12 +109,12 @@ module _ (opening : List ℕ → Option (List ℕ)) where
       by_flag row.read_only (file_keeps s row (changed s.table (change.AddFile row)) old new refl can did h)
     where
       added : State
-      added = put row.id (file_bytes row.size (content_in s.files (filename_or row))) s
+      added = put row.id (file_bytes row.size (content_in s.files (name_of_file row))) s
 
       by_flag : (b : Bool) → Agrees opening (record added { table = changed s.table (change.AddFile row) }) new
-          → Agrees opening (record (cond b added (name_file (filename_or row) added)) { table = changed s.table (change.AddFile row) }) new
+          → Agrees opening (record (cond b added (name_file (name_of_file row) added)) { table = changed s.table (change.AddFile row) }) new
       by_flag true k = k
-      by_flag false k = name_keeps (record added { table = changed s.table (change.AddFile row) }) new (filename_or row) k
+      by_flag false k = name_keeps (record added { table = changed s.table (change.AddFile row) }) new (name_of_file row) k
 
   -- ---- a filter: it says nothing by itself
 

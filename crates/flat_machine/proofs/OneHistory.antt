@@ -23,6 +23,8 @@ use Rattle.qmp_rules.specs.declared.rows.NodeRecord.{NodeRecord}
 use Rattle.qmp_rules.specs.Table.{device_by_number, node_by_id}
 use Rattle.qmp_rules.specs.Chains.{disk_node}
 use Rattle.qmp_rules.specs.Answers.{line_text, line_answer, answer_data}
+use Rattle.qmp_rules.specs.Queries.{bytes_of_node}
+use Rattle.qmp_rules.specs.Asks.{name_of_file}
 use Rattle.blk_history.specs.Fold.{With}
 use Rattle.blk_history.specs.Disk.{piece, done_in}
 use Rattle.blk_history.specs.Machine.{Flight, done_by}
@@ -38,9 +40,9 @@ use Rattle.blk_history.proofs.Folds.{with-some, with-at, length-change, slice-th
 use Rattle.blk_history.proofs.Lines.{IsLine, IsWord, words_then, after-verb, first-word, same-word, last-word, name-word, text-line}
 use Rattle.blk_history.proofs.Outcomes.{one-outcome, one-told}
 use Rattle.blk_history.proofs.Verbs.{IsOfNoJob, verb_of, verb_in, verb-told, line-there}
-use Rattle.flat_machine.specs.State.{State, Guest, Content, Unknown, Left, Mapped, guest_at, drive_of, disk_of_guest, size_by_id, content_in, filename_of}
+use Rattle.flat_machine.specs.State.{State, Guest, Content, Unknown, Left, Mapped, guest_at, drive_of, disk_of_guest, content_in, filename_of}
 use Rattle.flat_machine.specs.Contents.{file_bytes, mapped_in}
-use Rattle.flat_machine.specs.Changed.{stepped, all_stepped, name_if, leave, know_if, note_image, add_file, put, name_file, filename_or, content_under, bytes_by_format, left_disk, overlay_file}
+use Rattle.flat_machine.specs.Changed.{stepped, all_stepped, name_if, leave, know_if, note_image, add_file, put, name_file, content_under, bytes_by_format, left_disk, overlay_file}
 use Rattle.flat_machine.specs.Jobs.{unsure}
 use Rattle.flat_machine.specs.Machine.{after, admitted, finished, past_piece, with_disk, node_written, with_part, with_piece, flight_of, path, note, noted, is_noted, read_through, copies_through}
 use Rattle.flat_machine.specs.Replies.{edits_by, command_read, IsAnswer}
@@ -181,9 +183,9 @@ file-guests : (row : NodeRecord) (s : State) → (add_file row s).guests ≡ s.g
 file-guests row s = by_flag row.read_only
   where
     added : State
-    added = put row.id (file_bytes row.size (content_in s.files (filename_or row))) s
+    added = put row.id (file_bytes row.size (content_in s.files (name_of_file row))) s
 
-    by_flag : (b : Bool) → (if b then added else name_file (filename_or row) added).guests ≡ s.guests
+    by_flag : (b : Bool) → (if b then added else name_file (name_of_file row) added).guests ≡ s.guests
     by_flag true = refl
     by_flag false = refl
 
@@ -302,14 +304,14 @@ module _ (o : Opening) (guests : AreGuests o.guests) (s : State) (c : Course) (a
       (is-guest g (λ row. IsNext row n) fe.1.1) (is-guest g2 (λ row. IsNext row n2) ff.1.1) words in
       let number = next-number (guest_at s g) n n2 fe.1.1 (subst (λ x. With (guest_at s x) (λ row. IsNext row n2)) (sym w.0) ff.1.1) in
       let asked : op ≡ op2 = next-op c g op op2 oe (subst (λ x. IsNextOf c x op2) (sym w.0) of) in
-      let moved = subst (λ x. With (device_by_number s.table x) (λ device. With (disk_of_guest s.table x) (λ node. IsRefusedFor op2 device.read_only (size_by_id s.table node) why2)))
+      let moved = subst (λ x. With (device_by_number s.table x) (λ device. With (disk_of_guest s.table x) (λ node. IsRefusedFor op2 device.read_only (bytes_of_node s.table node) why2)))
       (sym w.0) ff.1.2 in
-      let moved_op = subst (λ p. With (device_by_number s.table g) (λ device. With (disk_of_guest s.table g) (λ node. IsRefusedFor p device.read_only (size_by_id s.table node) why2)))
+      let moved_op = subst (λ p. With (device_by_number s.table g) (λ device. With (disk_of_guest s.table g) (λ node. IsRefusedFor p device.read_only (bytes_of_node s.table node) why2)))
       (sym asked) moved in
       let cause : why ≡ why2 = judged-same (device_by_number s.table g) (disk_of_guest s.table g)
-      (λ device node. IsRefusedFor op device.read_only (size_by_id s.table node) why)
-      (λ device node. IsRefusedFor op device.read_only (size_by_id s.table node) why2) (why ≡ why2)
-      (λ device node h k. one-cause op device.read_only (size_by_id s.table node) why why2 h k) fe.1.2 moved_op in
+      (λ device node. IsRefusedFor op device.read_only (bytes_of_node s.table node) why)
+      (λ device node. IsRefusedFor op device.read_only (bytes_of_node s.table node) why2) (why ≡ why2)
+      (λ device node h k. one-cause op device.read_only (bytes_of_node s.table node) why why2 h k) fe.1.2 moved_op in
       let same = w.0 in
       cc
   same-entry (Piece g n k outcome got) (Piece g2 n2 k2 outcome2 got2) verbs plain fe ff oe of se sf r q e =

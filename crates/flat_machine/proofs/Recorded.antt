@@ -13,11 +13,12 @@ use Rattle.qmp_rules.specs.declared.rows.NodeRecord.{NodeRecord}
 use Rattle.qmp_rules.specs.Table.{node_by_id}
 use Rattle.qmp_rules.specs.Chains.{disk_node}
 use Rattle.qmp_rules.specs.Changes.{changed}
+use Rattle.qmp_rules.specs.Asks.{name_of_file}
 use Rattle.blk_history.specs.Disk.{done_in}
 use Rattle.blk_history.specs.Machine.{done_by}
 use Rattle.flat_machine.specs.State.{State, Content, Left, Mapped, Unknown, content_in, filename_of}
 use Rattle.flat_machine.specs.Contents.{mapped_in, file_bytes}
-use Rattle.flat_machine.specs.Changed.{stepped, all_stepped, put, name_file, name_if, know_if, add_file, note_image, bytes_by_format, content_under, leave, left_disk, filename_or, overlay_file}
+use Rattle.flat_machine.specs.Changed.{stepped, all_stepped, put, name_file, name_if, know_if, add_file, note_image, bytes_by_format, content_under, leave, left_disk, overlay_file}
 use Rattle.flat_machine.specs.Machine.{note, is_noted, noted, path, read_through, copies_through, with_disk, node_written, with_part}
 use Rattle.flat_machine.specs.Jobs.{unsure}
 use Rattle.flat_machine.specs.Recording.{dirty_beside, dirty_after, dirty_by}
@@ -44,9 +45,9 @@ file-dirty : (row : NodeRecord) (s : State) → (add_file row s).dirty ≡ s.dir
 file-dirty row s = by_flag row.read_only
   where
     added : State
-    added = put row.id (file_bytes row.size (content_in s.files (filename_or row))) s
+    added = put row.id (file_bytes row.size (content_in s.files (name_of_file row))) s
 
-    by_flag : (b : Bool) → (cond b added (name_file (filename_or row) added)).dirty ≡ s.dirty
+    by_flag : (b : Bool) → (cond b added (name_file (name_of_file row) added)).dirty ≡ s.dirty
     by_flag true = refl
     by_flag false = refl
 

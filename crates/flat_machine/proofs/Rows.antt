@@ -12,7 +12,7 @@ use Rattle.qmp_rules.specs.Table.{RunTable, node_by_id}
 use Rattle.qmp_rules.specs.Changes.{node_changed, unsettled, lost_with, stands_over}
 use Rattle.qmp_rules.specs.Chains.{filtered, disk_from, disk_node, is_over, unsettled_over}
 use Rattle.flat_machine.specs.Machine.{path_from, path, copies_at, is_copying, copies_through}
-use Rattle.flat_machine.specs.Wiring.{AreApart, HasEnds, EdgesHaveEnds, IsUnder}
+use Rattle.flat_machine.specs.Wiring.{HaveDistinctIds, HasEnds, EdgesHaveEnds, IsUnder}
 use Rattle.flat_machine.proofs.Finds.{find-map, bytes_eq-other}
 use Rattle.flat_machine.proofs.Tables.{refreshed-old, refreshed-new}
 
@@ -68,10 +68,10 @@ like-itself row = record {
 pub record SameRows (t now : RunTable) : Type 0 where
   pub back : (later : NodeRecord) → Contains now.nodes later → (row : NodeRecord) × (Contains t.nodes row × IsLike row later)
   pub forth : (row : NodeRecord) → Contains t.nodes row → (later : NodeRecord) × (Contains now.nodes later × IsLike row later)
-  pub apart : AreApart now
+  pub apart : HaveDistinctIds now
   pub there : (node : ℕ) → IsSome (node_by_id t node) → IsSome (node_by_id now node)
 
-pub rows-same : (t now : RunTable) → now.nodes ≡ t.nodes → AreApart t → SameRows t now
+pub rows-same : (t now : RunTable) → now.nodes ≡ t.nodes → HaveDistinctIds t → SameRows t now
 rows-same t now is apart = record {
   back = λ row there. (row, (subst (λ rows. Contains rows row) is there, like-itself row));
   forth = λ row there. (row, (subst (λ rows. Contains rows row) (sym is) there, like-itself row));
@@ -80,7 +80,7 @@ rows-same t now is apart = record {
   there = λ node h. subst (λ rows. IsSome (find (λ r. r.id == node) rows)) (sym is) h;
 }
 
-pub rows-mapped : (t now : RunTable) (f : NodeRecord → NodeRecord) → ((row : NodeRecord) → IsLike row (f row)) → now.nodes ≡ map f t.nodes → AreApart t
+pub rows-mapped : (t now : RunTable) (f : NodeRecord → NodeRecord) → ((row : NodeRecord) → IsLike row (f row)) → now.nodes ≡ map f t.nodes → HaveDistinctIds t
     → SameRows t now
 rows-mapped t now f like is apart = record {
   back = λ later there.
@@ -104,14 +104,14 @@ rows-mapped t now f like is apart = record {
     still (Some row) h = refl
 
 -- rows of one id are one row
-pub same_row : (t : RunTable) → AreApart t → (row later : NodeRecord) → Contains t.nodes row → Contains t.nodes later → later.id ≡ row.id → later ≡ row
+pub same_row : (t : RunTable) → HaveDistinctIds t → (row later : NodeRecord) → Contains t.nodes row → Contains t.nodes later → later.id ≡ row.id → later ≡ row
 same_row t apart row later there there_later same =
     let a = apart row there in
     let b = subst (λ n. node_by_id t n ≡ Some later) same (apart later there_later) in
     cc
 
 -- a row of changed ones is that of the row with its id
-pub changed_row : (t : RunTable) (f : NodeRecord → NodeRecord) → ((row : NodeRecord) → IsLike row (f row)) → AreApart t → (row later : NodeRecord)
+pub changed_row : (t : RunTable) (f : NodeRecord → NodeRecord) → ((row : NodeRecord) → IsLike row (f row)) → HaveDistinctIds t → (row later : NodeRecord)
     → Contains t.nodes row → Contains (map f t.nodes) later → later.id ≡ row.id → later ≡ f row
 changed_row t f like apart row later there there_later same =
     let from = Contains-map f t.nodes later there_later in

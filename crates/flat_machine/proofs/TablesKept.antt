@@ -27,7 +27,7 @@ use Rattle.qmp_rules.specs.Chains.{filter_role, filtered, disk_from, disk_node}
 use Rattle.qmp_rules.specs.Changes.{node_changed, unsettled, with_unsettled, without_record, with_backing_edge, with_format_edges, device_edge}
 use Rattle.blk_history.specs.Fold.{With}
 use Rattle.flat_machine.specs.Machine.{copies_at, copies_through, is_copying, path, path_from}
-use Rattle.flat_machine.specs.Wiring.{AreApart, EdgesHaveEnds, StandsFor, IsFileOf, LeadsToFile, HasOwnName, IsUnderOne, IsDiskOf, AreNumbered, HasDeviceNumber, TableStands, writes_through}
+use Rattle.flat_machine.specs.Wiring.{HaveDistinctIds, EdgesHaveEnds, StandsFor, IsFileOf, LeadsToFile, HasOwnName, IsUnderOne, IsDiskOf, AreNumbered, HasDeviceNumber, TableStands, writes_through}
 use Rattle.flat_machine.specs.Suiting.{IsThere, IsAlone, SuitsFile, SuitsFormat, SuitsFilter, SuitsDevice}
 use Rattle.flat_machine.proofs.Finds.{find-filter}
 use Rattle.flat_machine.proofs.Fresh.{found-longer, found-new}
@@ -44,7 +44,7 @@ goes_there t ends node below role is =
     let e = child-edge (Node node) role t.edges below is in
     subst (IsThere t) e.to (ends e.edge e.there).child
 
-there-row : (t : RunTable) → AreApart t → (row : NodeRecord) → Contains t.nodes row → IsThere t row.id
+there-row : (t : RunTable) → HaveDistinctIds t → (row : NodeRecord) → Contains t.nodes row → IsThere t row.id
 there-row t apart row there = subst IsSome (sym (apart row there)) refl
 
 pub not-there : (t : RunTable) (node : ℕ) → node_by_id t node ≡ None → IsThere t node → ⊥
@@ -314,7 +314,7 @@ pub new_parent : (t : RunTable) (id : ℕ) → EdgesHaveEnds t → node_by_id t 
 new_parent t id ends fresh e there same = not-there t id fresh ((ends e there).parent id (sym same))
 
 -- the row of a `file` node that a format node was put over
-pub taken-row : (t : RunTable) (file : ℕ) (under : NodeRecord) → AreApart t → node_by_id t file ≡ Some under → (later : NodeRecord)
+pub taken-row : (t : RunTable) (file : ℕ) (under : NodeRecord) → HaveDistinctIds t → node_by_id t file ≡ Some under → (later : NodeRecord)
     → Contains (with_unsettled file t.nodes) later → later.id ≡ file → later ≡ unsettled under
 taken-row t file under apart found later there is =
     let from = Contains-map (node_changed file unsettled) t.nodes later there in

@@ -16,7 +16,7 @@ use Rattle.qmp_rules.specs.Table.{RunTable, node_by_id, child}
 use Rattle.qmp_rules.specs.Chains.{filter_role, filtered, disk_node}
 use Rattle.blk_history.specs.Fold.{With}
 use Rattle.flat_machine.specs.Machine.{copies_at, is_copying, copies_through}
-use Rattle.flat_machine.specs.Wiring.{AreApart, HasEnds, StandsFor, IsFileOf, LeadsToFile, HasOwnName, IsUnderOne, IsDiskOf, AreNumbered, TableStands}
+use Rattle.flat_machine.specs.Wiring.{HaveDistinctIds, HasEnds, StandsFor, IsFileOf, LeadsToFile, HasOwnName, IsUnderOne, IsDiskOf, AreNumbered, TableStands}
 use Rattle.flat_machine.proofs.Tables.{HasLike}
 use Rattle.flat_machine.proofs.Rows.{IsLike, BothAt, disk_node-same, disk_node-there, copies-at, copies-same}
 
@@ -39,7 +39,7 @@ pub record OldEdge (t : RunTable) (P : ℕ → Type 0) (e : Edge) : Type 0 where
 pub record Grows (t now : RunTable) (P : ℕ → Type 0) (IsNewRow : NodeRecord → Type 0) (IsNewEdge : Edge → Type 0) : Type 0 where
   pub rows : (later : NodeRecord) → Contains now.nodes later → OldRow t P later ⊎ IsNewRow later
   pub stays : (node : ℕ) → P node → BothAt t now node
-  pub apart : AreApart now
+  pub apart : HaveDistinctIds now
   pub others : (row : NodeRecord) → IsNewRow row → P row.id → ⊥
   pub one : (a b : NodeRecord) → IsNewRow a → IsNewRow b → a.id ≡ b.id
   pub edges : (e : Edge) → Contains now.edges e → OldEdge t P e ⊎ IsNewEdge e

@@ -26,10 +26,11 @@ use Rattle.qmp_rules.specs.declared.rows.FileState.TheVariants.{Used}
 use Rattle.qmp_rules.specs.Table.{RunTable, node_by_id, child, device_by_number, file_state, has_name, kinds_of}
 use Rattle.qmp_rules.specs.Chains.{filter_role}
 use Rattle.qmp_rules.specs.Changes.{changed, unsettled, with_unsettled, without_record, device_edge, with_backing_edge, with_format_edges}
+use Rattle.qmp_rules.specs.Asks.{name_of_file}
 use Rattle.blk_history.specs.Fold.{With}
 use Rattle.flat_machine.specs.State.{State, Disk, Left, Unknown, content_in, filename_of, drive_of}
 use Rattle.flat_machine.specs.Contents.{with_content, mapped_in, file_bytes}
-use Rattle.flat_machine.specs.Changed.{stepped, put, name_file, add_file, filename_or, with_bytes_of, know_if, content_under, bytes_by_format, left_disk, left_in, leave, own_filename}
+use Rattle.flat_machine.specs.Changed.{stepped, put, name_file, add_file, with_bytes_of, know_if, content_under, bytes_by_format, left_disk, left_in, leave, own_filename}
 use Rattle.flat_machine.specs.Wiring.{StandsFor, IsUnder, LeadsToFile, EdgesHaveEnds}
 use Rattle.flat_machine.specs.Standing.{HasBytes, IsUsedUp, MayGuestWrite, WritingStands, Stands}
 use Rattle.flat_machine.specs.Suiting.{IsThere, FileSuits, FormatSuits, SuitsFilter, RemovalSuits, DeviceSuits}
@@ -126,28 +127,28 @@ record IsWithFile (s now : State) (row : NodeRecord) : Type 0 where
   files : now.files ≡ s.files
   left : now.left ≡ s.left
   names : (name : List ℕ) → has_name name s.named ≡ true → has_name name now.named ≡ true
-  own : row.read_only ≡ false → has_name (filename_or row) now.named ≡ true
+  own : row.read_only ≡ false → has_name (name_of_file row) now.named ≡ true
 
 with_file_node : (row : NodeRecord) (s : State) → IsWithFile s (add_file row s) row
 with_file_node row s = by_flag row.read_only refl
   where
     added : State
-    added = put row.id (file_bytes row.size (content_in s.files (filename_or row))) s
+    added = put row.id (file_bytes row.size (content_in s.files (name_of_file row))) s
 
-    by_flag : (b : Bool) → row.read_only ≡ b → IsWithFile s (cond b added (name_file (filename_or row) added)) row
+    by_flag : (b : Bool) → row.read_only ≡ b → IsWithFile s (cond b added (name_file (name_of_file row) added)) row
     by_flag true e = record {
-      disks = (file_bytes row.size (content_in s.files (filename_or row)), refl);
+      disks = (file_bytes row.size (content_in s.files (name_of_file row)), refl);
       files = refl;
       left = refl;
       names = λ name h. h;
       own = λ writes. absurd cc;
     }
     by_flag false e = record {
-      disks = (file_bytes row.size (content_in s.files (filename_or row)), refl);
+      disks = (file_bytes row.size (content_in s.files (name_of_file row)), refl);
       files = refl;
       left = refl;
-      names = λ name h. has_name-grows (filename_or row) name s.named h;
-      own = λ writes. has_name-own (filename_or row) s.named;
+      names = λ name h. has_name-grows (name_of_file row) name s.named h;
+      own = λ writes. has_name-own (name_of_file row) s.named;
     }
 
 pub file_writing : (s : State) (row : NodeRecord) → FileSuits s row → Stands s → WritingStands (stepped s (change.AddFile row))
@@ -158,7 +159,7 @@ file_writing s row suits h =
       names = same.names;
       names_new = λ name r is named writes.
           let mine : row.filename ≡ Some name = sym (ap (λ x. x.filename) is) ∙ named in
-          let or_is : filename_or row ≡ name = ap (λ f. unwrap_or f []) mine in
+          let or_is : name_of_file row ≡ name = ap (λ f. unwrap_or f []) mine in
           subst (λ n. has_name n now.named ≡ true) or_is (same.own (sym (ap (λ x. x.read_only) is) ∙ writes));
       known = λ name over under f is known. subst (λ fs. content_in fs name ≡ Some Unknown) (sym same.files) known;
       known_new = λ name over under f never. absurd never;

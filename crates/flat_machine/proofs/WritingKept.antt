@@ -24,7 +24,7 @@ use Rattle.blk_history.specs.Fold.{With}
 use Rattle.flat_machine.specs.State.{State, Unknown, Left, content_in, filename_of, drive_of}
 use Rattle.flat_machine.specs.Changed.{own_filename}
 use Rattle.flat_machine.specs.Writing.{IsGuestWritable, written_file}
-use Rattle.flat_machine.specs.Wiring.{AreApart, StandsFor, LeadsToFile, writes_through}
+use Rattle.flat_machine.specs.Wiring.{HaveDistinctIds, StandsFor, LeadsToFile, writes_through}
 use Rattle.flat_machine.specs.Standing.{HasBytes, IsUsedUp, MayGuestWrite, WritingStands}
 use Rattle.flat_machine.proofs.Rows.{BothAt, disk_node-there}
 use Rattle.flat_machine.proofs.Wired.{OldRow, Grows, was_file, stood_for, same_disk, disk_there, same_copies}
@@ -63,7 +63,7 @@ pub record IsEntered (t : RunTable) (node : ℕ) : Type 0 where
   pub child : edge.child ≡ node
   pub from : (over : NodeRecord) → Contains t.nodes over → edge.parent ≡ Node over.id → IsSome (filter_role over.kind)
 
-filtered-enters : (t : RunTable) → AreApart t → (node below : ℕ) → filtered t node ≡ Some below → IsEntered t below
+filtered-enters : (t : RunTable) → HaveDistinctIds t → (node below : ℕ) → filtered t node ≡ Some below → IsEntered t below
 filtered-enters t apart node below = by_row (node_by_id t node) refl
   where
     by_row : (found : Option NodeRecord) → node_by_id t node ≡ found
@@ -97,7 +97,7 @@ drive-enters t g drive is =
       from = λ over there parent. absurd (let both = sym parent ∙ to.from in cc);
     }
 
-pub disk-enters : (t : RunTable) → AreApart t → (drive : ℕ) → IsEntered t drive → IsEntered t (disk_node t drive)
+pub disk-enters : (t : RunTable) → HaveDistinctIds t → (drive : ℕ) → IsEntered t drive → IsEntered t (disk_node t drive)
 disk-enters t apart drive here =
     disk_node-there t t (IsEntered t) (λ node h. refl) (λ node below h is. filtered-enters t apart node below is) drive here
 
@@ -249,7 +249,7 @@ module _ (s now : State) (P : ℕ → Type 0) (IsNewRow : NodeRecord → Type 0)
         ⊎ With (drive_of now.table number) (MayGuestWrite now device)
     pub drives : (number drive : ℕ) → drive_of s.table number ≡ Some drive → P drive
 
-  drive_still : Leaves → AreApart s.table → (device : Device) (number : ℕ) (found : Option ℕ) → drive_of s.table number ≡ found
+  drive_still : Leaves → HaveDistinctIds s.table → (device : Device) (number : ℕ) (found : Option ℕ) → drive_of s.table number ≡ found
       → With found (MayGuestWrite s device) → With found (MayGuestWrite now device)
   drive_still keeps apart device number None is may = may
   drive_still keeps apart device number (Some drive) is may =
@@ -266,7 +266,7 @@ module _ (s now : State) (P : ℕ → Type 0) (IsNewRow : NodeRecord → Type 0)
       })
       may
 
-  pub grown_writing : Leaves → AreApart s.table → WritingStands s → WritingStands now
+  pub grown_writing : Leaves → HaveDistinctIds s.table → WritingStands s → WritingStands now
   grown_writing keeps apart h = record {
     named = λ name row over writes. elim (g.rows row over.there) [
       | inl old ↦

@@ -1,5 +1,5 @@
 -- What each kind of change of the table does to disks, files and bitmaps.
-use Rattle.std.specs.Prelude.{ℕ, ◌==◌, ◌&&◌, not, if◌then◌else◌, List, [], ◌∷◌, ◌++◌, filter, replicate, bytes_eq, codes, Option, Some, None, is_none, option_map, option_and_then, unwrap_or}
+use Rattle.std.specs.Prelude.{ℕ, ◌==◌, ◌&&◌, not, if◌then◌else◌, List, [], ◌∷◌, ◌++◌, filter, replicate, bytes_eq, codes, Option, Some, None, is_none, option_map, option_and_then}
 use Rattle.q2_format.specs.Contents.{raw_disk}
 use Rattle.q2_format.specs.Created.{creation_of}
 use Rattle.blk_graph.specs.declared.kind.Kind.{Kind}
@@ -16,8 +16,10 @@ use Rattle.qmp_rules.specs.declared.change.Change.{Change}
 use Rattle.qmp_rules.specs.declared.change.Change.TheVariants as change
 use Rattle.qmp_rules.specs.Table.{RunTable, node_by_id, child}
 use Rattle.qmp_rules.specs.Changes.{changed}
+use Rattle.qmp_rules.specs.Queries.{bytes_of_node}
+use Rattle.qmp_rules.specs.Asks.{name_of_file}
 use Rattle.blk_history.specs.Fold.{run}
-use Rattle.flat_machine.specs.State.{State, Disk, Left, Content, Bytes, Unknown, Mapped, bytes_in, bytes_at_node, content_in, filename_of, size_by_id}
+use Rattle.flat_machine.specs.State.{State, Disk, Left, Content, Bytes, Unknown, Mapped, bytes_in, bytes_at_node, content_in, filename_of}
 use Rattle.flat_machine.specs.Contents.{with_content, formatted, mapped_in, file_bytes, image_bytes}
 use Rattle.flat_machine.specs.Marking.{clean, made_clean, is_dirty_of, dirty_at, where_dirty, merge_from}
 
@@ -54,14 +56,11 @@ make name content s = name_file name (know name content (forget_left name s))
 
 -- ---- nodes that are added
 
-abbrev pub filename_or : NodeRecord → List ℕ
-filename_or row = unwrap_or row.filename []
-
 -- a `file` node reads as its file, and names it for writing where it may be written
 abbrev pub add_file : NodeRecord → State → State
 add_file row s =
-    let added = put row.id (file_bytes row.size (content_in s.files (filename_or row))) s in
-    if row.read_only then added else name_file (filename_or row) added
+    let added = put row.id (file_bytes row.size (content_in s.files (name_of_file row))) s in
+    if row.read_only then added else name_file (name_of_file row) added
 
 -- what is known of the file under a format node
 abbrev pub content_under : State → ℕ → Option Content
@@ -137,7 +136,7 @@ remove_node node s =
 -- ---- bitmaps
 
 abbrev pub add_bitmap : BitmapRow → State → State
-add_bitmap row s = record s { dirty = s.dirty ++ clean row (size_by_id s.table row.node) ∷ [] }
+add_bitmap row s = record s { dirty = s.dirty ++ clean row (bytes_of_node s.table row.node) ∷ [] }
 
 -- ---- jobs
 

@@ -2,9 +2,10 @@
 use Rattle.std.specs.Prelude.{◌≡◌, ℕ, Bool, true, List, [], ◌∷◌, map, length, All, Option, Some, None}
 use Rattle.qmp_rules.specs.declared.rows.JobRecord.{JobRecord}
 use Rattle.qmp_rules.specs.Table.{job_at}
+use Rattle.qmp_rules.specs.Queries.{bytes_of_node}
 use Rattle.blk_history.specs.Fold.{run, change}
 use Rattle.blk_history.specs.Names.{JobLine, RowNames, no_job}
-use Rattle.flat_machine.specs.State.{State, Guest, size_by_id}
+use Rattle.flat_machine.specs.State.{State, Guest}
 use Rattle.flat_machine.specs.Machine.{after, replay, admitted, finished, past_piece}
 use Rattle.flat_machine.specs.Legal.{Legal, IsAtRest}
 use Rattle.flat_machine.specs.Marks.{NoneSplits}
@@ -26,7 +27,7 @@ job_line_of s None = no_job
 job_line_of s (Some row) = record {
   id = row.id;
   kind = row.kind;
-  size = size_by_id s.table row.source;
+  size = bytes_of_node s.table row.source;
 }
 
 -- the jobs that a history starts, in order

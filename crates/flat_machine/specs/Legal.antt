@@ -8,9 +8,10 @@ use Rattle.qmp_codec.specs.declared.event.JobKind.TheVariants.{Mirror}
 use Rattle.qmp_rules.specs.declared.rows.Asked.TheVariants as asked
 use Rattle.qmp_rules.specs.declared.rows.JobRecord.{JobRecord}
 use Rattle.qmp_rules.specs.Table.{device_by_number, job_at, job_named}
+use Rattle.qmp_rules.specs.Queries.{bytes_of_node}
 use Rattle.blk_history.specs.Fold.{Each, With}
 use Rattle.blk_history.specs.Disk.{span_of, is_write}
-use Rattle.flat_machine.specs.State.{State, Guest, Ending, guest_at, flat_disk_of, disk_of_guest, size_by_id}
+use Rattle.flat_machine.specs.State.{State, Guest, Ending, guest_at, flat_disk_of, disk_of_guest}
 use Rattle.blk_history.specs.Machine.{Flight}
 use Rattle.blk_history.specs.Legal.{IsNextPiece, IsOver}
 use Rattle.flat_machine.specs.Jobs.{can_be_ready, is_success, is_cause, has_others, had_cause}
@@ -57,7 +58,7 @@ abbrev pub IsNextJudged : State → ℕ → ℕ → (Bool → ℕ → Type 0) �
 IsNextJudged s g r P = IsNotDone s (g + 1) × With (guest_at s g) (λ row. IsNext row r)
     × With (device_by_number s.table g)
     (λ device. With (disk_of_guest s.table g)
-    (λ node. P device.read_only (size_by_id s.table node)))
+    (λ node. P device.read_only (bytes_of_node s.table node)))
 
 abbrev pub guest_disk : State → ℕ → Option (List ℕ)
 guest_disk s g = option_and_then (flat_disk_of s) (disk_of_guest s.table g)
@@ -93,7 +94,7 @@ MayEnd s row (Cancelled RunEnd) = AllDone s × (row.is_ready ≡ true) × (row.a
 -- the source's size once the job was ready and at an end without error, and else 0
 abbrev pub offset_at_end : State → JobRecord → JobEnd → ℕ
 offset_at_end s row outcome =
-    if row.is_ready || is_success outcome then size_by_id s.table row.source else 0
+    if row.is_ready || is_success outcome then bytes_of_node s.table row.source else 0
 
 -- members of a group end without error side by side or not at all
 abbrev pub IsLike : Option Ending → JobEnd → Type 0

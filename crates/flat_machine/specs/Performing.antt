@@ -10,9 +10,10 @@ use Rattle.qmp_rules.specs.declared.change.Change.{Change}
 use Rattle.qmp_rules.specs.declared.change.Change.TheVariants as change
 use Rattle.qmp_rules.specs.Table.{node_by_id, child}
 use Rattle.qmp_rules.specs.Chains.{filter_role}
+use Rattle.qmp_rules.specs.Asks.{name_of_file}
 use Rattle.blk_history.specs.Fold.{With}
 use Rattle.flat_machine.specs.State.{State, Content, Bytes, Blank, content_in, filename_of}
-use Rattle.flat_machine.specs.Changed.{content_under, own_filename, filename_or, format_name, stepped}
+use Rattle.flat_machine.specs.Changed.{content_under, own_filename, format_name, stepped}
 use Rattle.flat_machine.specs.Final.{IsDiskIn}
 use Rattle.flat_machine.specs.Agreement.{Contents, HasDisk}
 
@@ -30,7 +31,7 @@ IsWholly content = (bytes : List ℕ) × (content ≡ Bytes bytes)
 pub record CanAddFile (s : State) (row : NodeRecord) : Type 0 where
   pub fresh : IsNewNode s row
   pub driver : row.kind ≡ Protocol
-  pub known : With (content_in s.files (filename_or row)) IsWholly
+  pub known : With (content_in s.files (name_of_file row)) IsWholly
 
 -- a backing node has a flat disk of its own
 abbrev pub IsBacking : State → Option ℕ → Type 0
@@ -125,7 +126,7 @@ format_as s c row file backing driver = []
 
 abbrev pub Performed : State → Change → Contents → Contents → Type 0
 Performed s (change.AddFile row) old new =
-    Puts row.id (file_disk row.size (held_bytes old (filename_or row))) old new
+    Puts row.id (file_disk row.size (held_bytes old (name_of_file row))) old new
 Performed s (change.AddFormat row file backing) old new =
     Puts row.id (format_as s old row file backing row.kind) old new
 Performed s (change.AddFilter row node) old new = Puts row.id (old.reads node) old new

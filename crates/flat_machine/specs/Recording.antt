@@ -8,14 +8,15 @@ use Rattle.qmp_rules.specs.declared.change.Change.{Change}
 use Rattle.qmp_rules.specs.declared.change.Change.TheVariants as change
 use Rattle.qmp_rules.specs.Table.{RunTable}
 use Rattle.qmp_rules.specs.Changes.{changed}
-use Rattle.flat_machine.specs.State.{Dirty, size_by_id}
+use Rattle.qmp_rules.specs.Queries.{bytes_of_node}
+use Rattle.flat_machine.specs.State.{Dirty}
 use Rattle.flat_machine.specs.Machine.{is_noted, noted, path}
 use Rattle.flat_machine.specs.Marking.{clean, made_clean, is_dirty_of, dirty_at, where_dirty, merge_from}
 
 -- ---- changes of commands
 
 abbrev pub dirty_beside : RunTable → List Dirty → Change → List Dirty
-dirty_beside t ds (change.AddBitmap row) = ds ++ clean row (size_by_id t row.node) ∷ []
+dirty_beside t ds (change.AddBitmap row) = ds ++ clean row (bytes_of_node t row.node) ∷ []
 dirty_beside t ds (change.RemoveBitmap node name) = filter (λ d. not (is_dirty_of node name d)) ds
 dirty_beside t ds (change.ClearBitmap node name) = where_dirty (is_dirty_of node name) made_clean ds
 dirty_beside t ds (change.MergeBitmap node name source_node source) =

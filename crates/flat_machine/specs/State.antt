@@ -1,5 +1,5 @@
 -- What the flat machine keeps: the table of names, and for each node a flat disk.
-use Rattle.std.specs.Prelude.{ℕ, ◌==◌, Bool, List, [], ◌∷◌, bytes_eq, find, slice_get, Option, Some, None, option_map, option_and_then, unwrap_or, if◌then◌else◌}
+use Rattle.std.specs.Prelude.{ℕ, ◌==◌, Bool, List, [], ◌∷◌, bytes_eq, find, slice_get, Option, Some, None, option_map, option_and_then, if◌then◌else◌}
 use Rattle.blk_graph.specs.declared.kind.Kind.{Kind}
 use Rattle.blk_graph.specs.declared.edge.Parent.TheVariants.{Guest as GuestOf}
 use Rattle.blk_graph.specs.declared.edge.Role.TheVariants.{Drive}
@@ -126,6 +126,3 @@ content_in files name =
 -- the file of the store that a `file` node stands for
 abbrev pub filename_of : RunTable → ℕ → Option (List ℕ)
 filename_of t node = option_and_then (λ row. row.filename) (node_by_id t node)
-
-abbrev pub size_by_id : RunTable → ℕ → ℕ
-size_by_id t node = unwrap_or (option_map (λ row. row.size) (node_by_id t node)) 0

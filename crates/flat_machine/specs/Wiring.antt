@@ -17,8 +17,8 @@ use Rattle.flat_machine.specs.Machine.{copies_through}
 -- ---- rows
 
 -- no two rows have one id
-abbrev pub AreApart : RunTable → Type 0
-AreApart t = (row : NodeRecord) → Contains t.nodes row → node_by_id t row.id ≡ Some row
+abbrev pub HaveDistinctIds : RunTable → Type 0
+HaveDistinctIds t = (row : NodeRecord) → Contains t.nodes row → node_by_id t row.id ≡ Some row
 
 -- a row of a node that stands for the file
 pub record StandsFor (t : RunTable) (name : List ℕ) (row : NodeRecord) : Type 0 where
@@ -148,7 +148,7 @@ AreNumbered t = (device : Device) → Contains t.devices device → HasDeviceNum
 
 -- what each change keeps
 pub record TableStands (t : RunTable) : Type 0 where
-  pub apart : AreApart t
+  pub apart : HaveDistinctIds t
   pub drivers : AreFileNodes t
   pub names : HaveNames t
   pub own_names : HaveOwnNames t

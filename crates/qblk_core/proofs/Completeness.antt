@@ -16,7 +16,7 @@ use Rattle.q2_image.specs.Opening.{refusal_of}
 use Rattle.qblk_core.specs.Completeness.{HasInputs, HasStood, NoneRises}
 use Rattle.qblk_core.specs.Format.{IsGoodImage}
 use Rattle.qblk_core.specs.ImageNodes.{device_faults}
-use Rattle.qblk_core.specs.Run.{Outside, HasImage, HasTrace, IsBadBytes, IsBadImage, IsFlawInTrace, IsImageOrTraceRefused, IsTraceFileRefused, FailsToFlush, FailsToOpen, Answers}
+use Rattle.qblk_core.specs.Run.{Outside, HasImage, HasTrace, IsBadBytes, IsBadImage, IsFlawInTrace, IsImageOrTraceRefused, IsTraceFileRefused, FailsToFlushIo, FailsToOpen, AnswersIo}
 use Rattle.qblk_core.specs.declared.status.InputWhy.{InputWhy}
 use Rattle.qblk_core.specs.declared.status.InputWhy.TheVariants as why
 use Rattle.qblk_core.specs.declared.status.Status.{Status}
@@ -130,7 +130,7 @@ opening-fails : (format : Format) (image : List ℕ) (old new : Outside) (count 
 opening-fails format image old new count none fails =
     not-rose fails.device.faults fails.behind.faults count (none.device fails.device fails.behind.faults fails.opened) fails.stopped.rose fails.stopped.now
 
-flush-fails : (format : Format) (image trace : List ℕ) (old new : Outside) (count : ℕ) → NoneRises image old new → FailsToFlush format image trace old new count → ⊥
+flush-fails : (format : Format) (image trace : List ℕ) (old new : Outside) (count : ℕ) → NoneRises image old new → FailsToFlushIo format image trace old new count → ⊥
 flush-fails format image trace old new count none fails =
     let run = fails.4.run in
     let before = fails.2 in
@@ -149,7 +149,7 @@ flush-fails format image trace old new count none fails =
     omega arith
 
 pub is-done : (format : Format) (image trace : List ℕ) (ops : List Op) (old new : Outside) (status : Status) → HasInputs format image trace ops old
-    → NoneRises image old new → Answers format image trace old new status → (status ≡ Done) ⊎ (status ≡ NoMemory)
+    → NoneRises image old new → AnswersIo format image trace old new status → (status ≡ Done) ⊎ (status ≡ NoMemory)
 is-done format image trace ops old new Done inputs none answers = inl refl
 is-done format image trace ops old new NoMemory inputs none answers = inr refl
 is-done format image trace ops old new Usage inputs none answers = absurd answers
@@ -162,7 +162,7 @@ is-done format image trace ops old new (Fault Sink count) inputs none answers =
     absurd (not-rose old.sink_faults new.sink_faults count none.sink answers.6 answers.7)
 is-done format image trace ops old new (Fault (Dev dev) count) inputs none answers = by_call answers.1
   where
-    by_call : FailsToOpen format image old new count ⊎ FailsToFlush format image trace old new count
+    by_call : FailsToOpen format image old new count ⊎ FailsToFlushIo format image trace old new count
         → ((Fault (Dev dev) count) ≡ Done) ⊎ ((Fault (Dev dev) count) ≡ NoMemory)
     by_call (inl fails) = absurd (opening-fails format image old new count none fails)
     by_call (inr fails) = absurd (flush-fails format image trace old new count none fails)

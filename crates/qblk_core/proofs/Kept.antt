@@ -22,7 +22,7 @@ use Rattle.blk_history.specs.declared.event.Event.TheVariants.{Admit, Refuse, Pi
 use Rattle.blk_history.proofs.Folds.{run-push, each-push}
 use Rattle.blk_nodes.specs.Nodes.{Nodes, kind_in, node_size}
 use Rattle.qblk_core.specs.Along.{CountsOutcome, IsStepOf, HaveNodes, ShowsOf, FitsUnread}
-use Rattle.qblk_core.specs.Face.{SessionSeen, new_guest, state_with, state_of, machine_on}
+use Rattle.qblk_core.specs.Face.{SessionSeen, new_io_guest, state_with, state_of, machine_on}
 use Rattle.qblk_core.specs.ImageNodes.{told_disk, device_faults, HaveShapeOf}
 use Rattle.qblk_core.specs.Steps.{admitted_or_refused, IsRequestJudged, after_retirement, CanPiece, PutsPiece}
 use Rattle.qblk_core.specs.Comes.{NameAllRises, HasLine, HaveLines, ComesFrom}
@@ -244,7 +244,7 @@ pub piece-made : (w v : SessionSeen) (outcome : Outcome) → With w.guest.flight
 piece-made w v outcome can puts = piece-of w v outcome w.guest.flight refl can puts
 
 -- a run begins with its nodes
-pub comes-start : (first : Nodes) (log : Recorded) → log.events ≡ [] → ComesFrom first (record { nodes = first; guest = new_guest; log = log })
+pub comes-start : (first : Nodes) (log : Recorded) → log.events ≡ [] → ComesFrom first (record { nodes = first; guest = new_io_guest; log = log })
 comes-start first log empty = record {
   faults = omega arith;
   shape = shape-same first;

@@ -42,7 +42,7 @@ use Rattle.blk_nodes.specs.declared.row.Driver.TheVariants as drivers
 use Rattle.blk_nodes.specs.declared.row.Row.{Row}
 use Rattle.blk_nodes.specs.declared.stop.AddStop.{AddStop}
 use Rattle.blk_nodes.specs.declared.stop.AddStop.TheVariants as adding
-use Rattle.qblk_core.specs.Face.{state_with, new_guest, machine_on}
+use Rattle.qblk_core.specs.Face.{state_with, new_io_guest, machine_on}
 use Rattle.qblk_core.specs.Format.{disk_by_format, IsGoodImage, IsSoundAs}
 use Rattle.qblk_core.specs.ImageNodes.{file_name, image_name, only_device, file_node_alone, with_raw, asked_image, IsImageNodeOver, AreMadeOf, IsOnFile, HaveOneImage, HaveShapeOf, content_of, told_disk}
 use Rattle.qblk_core.specs.Run.{machine_of}
@@ -347,9 +347,9 @@ made-good format d nodes bytes made disks told-as sized =
     let over = over-as format d made.over made.image in
     let file : node_size nodes 0 ≡ length bytes = ap (λ (n : Nodes). node_size n 0) made.drive ∙ file-size-of format made.over made.image ∙ sized in (
       small-image format d made.over bytes sized made.image is.2,
-      ap (λ (n : ℕ). state_with n (node_size nodes 1) new_guest (told_disk nodes)) file
-          ∙ ap (λ (n : ℕ). state_with (length bytes) n new_guest (told_disk nodes)) is.1
-          ∙ ap (state_with (length bytes) (length (disk_by_format format bytes)) new_guest) disk,
+      ap (λ (n : ℕ). state_with n (node_size nodes 1) new_io_guest (told_disk nodes)) file
+          ∙ ap (λ (n : ℕ). state_with (length bytes) n new_io_guest (told_disk nodes)) is.1
+          ∙ ap (state_with (length bytes) (length (disk_by_format format bytes)) new_io_guest) disk,
     )
   where
     file-size-of : (f : Format) (over : Nodes) → IsImageNodeOver f (file_node_alone d) over → node_size over 0 ≡ d.size

@@ -29,7 +29,7 @@ use Rattle.qblk_core.specs.Along.{HaveNodes, IsStepOf, IsPieceStep}
 use Rattle.qblk_core.specs.Completeness.{HasStood, WriteHasRoom, ZerosHaveRoom, HasRoomOn, HasRoomForEntry, HaveRoomAlong, IsGoodIfPiece, ArePiecesGood}
 use Rattle.qblk_core.specs.Face.{machine_on}
 use Rattle.qblk_core.specs.ImageNodes.{IsOnFile, capacity_of}
-use Rattle.qblk_core.specs.Run.{Outside, IsRun}
+use Rattle.qblk_core.specs.Run.{Outside, IsIoRun}
 use Rattle.qblk_core.specs.declared.words.Format.{Format}
 use Rattle.qblk_core.proofs.Made.{made-one}
 use Rattle.qblk_core.proofs.OneImage.{StandsAlone, stands-alone, none-met-alone, alone-after}
@@ -172,7 +172,7 @@ all-good s old new was now (e ∷ es) along on alone room none =
     )
 
 pub pieces-good : (format : Format) (image : List ℕ) (ops : List Op) (flushed : Bool) (old new : Outside) (h : List Event) (before now : ℕ)
-    → (run : IsRun format image ops flushed old new h before now) → HasStood before now
+    → (run : IsIoRun format image ops flushed old new h before now) → HasStood before now
     → HaveRoomAlong (machine_on run.first) run.first h run.left run.on.along → ArePiecesGood h
 pieces-good format image ops flushed old new h before now run stood room =
     let one = made-one format run.device run.first run.on.made in

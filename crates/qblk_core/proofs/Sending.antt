@@ -12,7 +12,7 @@ use Rattle.blk_history.specs.declared.event.Event.TheVariants.{Admit, Refuse, Pi
 use Rattle.qblk_core.specs.Comes.{HasLine, HaveLines}
 use Rattle.qblk_core.specs.Run.{guest_names}
 use Rattle.blk_base.specs.declared.fault.FaultAt.{FaultAt}
-use Rattle.qblk_core.specs.Session.{EndsAs, ended_as, failed_as}
+use Rattle.qblk_core.specs.Session.{EndsIoAs, io_ended_as, failed_as}
 use Rattle.qblk_core.specs.Output.{LineFits, AllLinesFit, SendsPart, SendsFront}
 
 -- a put that failed sent a front
@@ -179,10 +179,10 @@ rest-failed names memory es n old mid new line a b c is part front same =
     subst P (append-nil (lines names (take n es)) ∙ take-every names es n is) all
 
 -- the status tells how it ended
-pub ends-well : (fault : Option FaultAt) (old new : Option (List ℕ)) (whole : List ℕ) (before now : ℕ) → new ≡ option_map (λ s. s ++ whole) old → now ≡ before → EndsAs fault old new whole before now (ended_as fault)
+pub ends-well : (fault : Option FaultAt) (old new : Option (List ℕ)) (whole : List ℕ) (before now : ℕ) → new ≡ option_map (λ s. s ++ whole) old → now ≡ before → EndsIoAs fault old new whole before now (io_ended_as fault)
 ends-well None old new whole before now sent quiet = (sent, quiet)
 ends-well (Some fault) old new whole before now sent quiet = (refl, refl, whole, [], append-nil whole, sent, inl (refl, quiet))
 
-pub ends-badly : (fault : Option FaultAt) (old new : Option (List ℕ)) (whole : List ℕ) (before now : ℕ) → SendsFront old new whole before now → EndsAs fault old new whole before now (failed_as fault now)
+pub ends-badly : (fault : Option FaultAt) (old new : Option (List ℕ)) (whole : List ℕ) (before now : ℕ) → SendsFront old new whole before now → EndsIoAs fault old new whole before now (failed_as fault now)
 ends-badly None old new whole before now front = (refl, front, refl)
 ends-badly (Some fault) old new whole before now front = (refl, refl, front.part.0, front.part.1, front.part.2, front.part.3, inr front.rose)

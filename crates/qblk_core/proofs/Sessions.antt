@@ -15,7 +15,7 @@ use Rattle.q2_format.specs.declared.header.TheConstants.{MIN_HEADER_LENGTH}
 use Rattle.qblk_core.specs.Format.{HasGoodLength}
 use Rattle.qblk_core.specs.declared.words.Format.{Format}
 use Rattle.qblk_core.specs.declared.words.Format.TheVariants.{Raw, Qcow2}
-use Rattle.qblk_core.specs.Face.{SessionSeen, new_guest}
+use Rattle.qblk_core.specs.Face.{SessionSeen, new_io_guest}
 use Rattle.qblk_core.specs.ImageNodes.{file_node_alone, IsImageNodeOver, AreMadeOf, HaveOneImage}
 use Rattle.qblk_core.specs.Requests.{RequestsDone}
 use Rattle.blk_base.specs.Counts.{Rose}
@@ -34,7 +34,7 @@ use Rattle.qblk_core.proofs.OneDevice.{first-found, head-same}
 
 -- what an engine shows before its first request
 abbrev pub begun : Nodes → Recorded → SessionSeen
-begun first log = record { nodes = first; guest = new_guest; log = log }
+begun first log = record { nodes = first; guest = new_io_guest; log = log }
 
 asked-all : (e w : SessionSeen) (ops : List Op) → e.log.events ≡ [] → RequestsDone e w ops → asked_by 0 w.log.events ≡ ops
 asked-all e w ops empty made = made.asked ∙ ap (λ es. asked_by 0 es ++ ops) empty

@@ -39,8 +39,8 @@ use Rattle.qblk_core.proofs.Closed.{IsFlushed, HasClosed, closed-facts}
 use Rattle.qblk_core.proofs.Made.{made-one, made-kind, made-devices, image-as, told-as-disk}
 use Rattle.qblk_core.proofs.OneDevice.{head-same, faults-is, capacity-is}
 use Rattle.qblk_core.proofs.OneImage.{told-is}
-use Rattle.qblk_core.specs.Run.{Outside, machine_of, guest_names, closed_opening, IsRunOn, IsOverFile, TellsDisk, IsImageCause, IsTraceCause, IsBackQuietly, IsOpenedQuietlyFor, SpeaksOfInput, HasImage, HasTrace, IsFlawInTrace, IsBadBytes, IsBadImage, IsTraceFileRefused, IsImageOrTraceRefused, WasRun, StoreStands, SinkStands, FailsToOpen, FailsToFlush, IsFaulty, Answers}
-use Rattle.qblk_core.specs.Session.{IsTraceRead, IsStoreStop, IsOpenStop, AreRequestsMade, IsGoodDevice, IsRefusedRead, IsRefusedImage, IsRunStop, EndsAs}
+use Rattle.qblk_core.specs.Run.{Outside, machine_of, guest_names, closed_opening, IsRunOn, IsOverFile, TellsDisk, IsImageCause, IsTraceCause, IsBackQuietly, IsOpenedQuietlyFor, SpeaksOfInput, HasImage, HasTrace, IsFlawInTrace, IsBadBytes, IsBadImage, IsTraceFileRefused, IsImageOrTraceRefused, WasIoRun, StoreStands, SinkStands, FailsToOpen, FailsToFlushIo, IsFaultyIo, AnswersIo}
+use Rattle.qblk_core.specs.Session.{IsTraceRead, IsStoreStop, IsOpenStop, AreRequestsMade, IsGoodDevice, IsRefusedRead, IsRefusedImage, IsRunStop, EndsIoAs}
 use Rattle.qblk_core.specs.declared.input.TraceRead.{TraceRead}
 use Rattle.qblk_core.specs.declared.input.TraceRead.TheVariants as reads
 use Rattle.qblk_core.specs.declared.status.InputWhy.{InputWhy}
@@ -179,7 +179,7 @@ pub was-run : (format : Format) (image trace bytes : List ℕ) (read : TraceRead
     → new.files ≡ files_with_returned image n.content n.capacity n.is_flushed old.files
     → new.opened ≡ given_back image n.faults (old.opened ++ open_opening image d ∷ [])
     → new.sent ≡ option_map (λ s. s ++ take k (transcript guest_names w.log.events)) old.sent
-    → WasRun format image trace flushed old new (asked_by 0 w.log.events) w.log.events d.faults n.faults k
+    → WasIoRun format image trace flushed old new (asked_by 0 w.log.events) w.log.events d.faults n.faults k
 was-run format image trace bytes read d n w fault flushed old new k flag sized none device read-is is made files opened sent =
     let last = made.comes.licensed.last in
     let facts = closed-of format bytes d n w fault made in
@@ -252,8 +252,8 @@ pub ends : (format : Format) (image trace bytes : List ℕ) (read : TraceRead) (
     → IfTold old.files (IsTraceRead trace read) → read ≡ reads.Whole bytes → AreRequestsMade format bytes d n w fault
     → new.files ≡ files_with_returned image n.content n.capacity n.is_flushed old.files
     → new.opened ≡ given_back image n.faults (old.opened ++ open_opening image d ∷ [])
-    → EndsAs fault old.sent new.sent (transcript guest_names w.log.events) old.sink_faults new.sink_faults status
-    → Answers format image trace old new status
+    → EndsIoAs fault old.sent new.sent (transcript guest_names w.log.events) old.sink_faults new.sink_faults status
+    → AnswersIo format image trace old new status
 ends format image trace bytes read d n w None old new Done sized none device read-is is made files opened end = (
   asked_by 0 w.log.events,
   w.log.events,
@@ -263,7 +263,7 @@ ends format image trace bytes read d n w None old new Done sized none device rea
 )
 ends format image trace bytes read d n w None old new (Fault from count) sized none device read-is is made files opened end =
     let front = end.1.part in
-    let faulty : IsFaulty format image trace old new Sink count = (
+    let faulty : IsFaultyIo format image trace old new Sink count = (
       asked_by 0 w.log.events,
       w.log.events,
       d.faults,
@@ -273,18 +273,18 @@ ends format image trace bytes read d n w None old new (Fault from count) sized n
       (let rose = end.1.rose in let same = end.2 in omega arith),
       end.2,
     ) in
-    let F : FaultFrom → Type 0 = λ f. IsFaulty format image trace old new f count in
+    let F : FaultFrom → Type 0 = λ f. IsFaultyIo format image trace old new f count in
     subst F (sym end.0) faulty
 ends format image trace bytes read d n w (Some fault) old new (Fault from count) sized none device read-is is made files opened end =
     let flushed = (closed-of format bytes d n w (Some fault) made).flushed in
     let start = faults-is made.first d (made-devices format d made.first made.made) made.made.node in
-    let F : FaultFrom → Type 0 = λ f. IsFaulty format image trace old new f count in
+    let F : FaultFrom → Type 0 = λ f. IsFaultyIo format image trace old new f count in
     let same : count ≡ n.faults = end.1 ∙ flushed.2 in
-    let R : ℕ → Type 0 = λ c. WasRun format image trace false old new (asked_by 0 w.log.events) w.log.events d.faults c (length end.2) in
+    let R : ℕ → Type 0 = λ c. WasIoRun format image trace false old new (asked_by 0 w.log.events) w.log.events d.faults c (length end.2) in
     let run = was-run format image trace bytes read d n w (Some fault) false old new (length end.2) refl sized none device read-is is made files opened (front-taken old.sent new.sent end.2 end.3 _ end.4 end.5) in
     let last = rw start at made.comes.licensed.last in
     let S : List ℕ → Type 0 = λ cs. RoseSince cs (Some (record { dev = 0; count = count })) in
-    let failed : FailsToFlush format image trace old new count = (
+    let failed : FailsToFlushIo format image trace old new count = (
       asked_by 0 w.log.events,
       w.log.events,
       d.faults,
@@ -293,7 +293,7 @@ ends format image trace bytes read d n w (Some fault) old new (Fault from count)
       subst S (sym last) (omega arith, (let rose = flushed.1 in let named = end.1 in omega arith)),
       all-of end.2 end.3 _ old.sink_faults new.sink_faults end.4 end.6,
     ) in
-    let faulty : IsFaulty format image trace old new (Dev (record { 0 = 0 })) count = (refl, inr failed) in
+    let faulty : IsFaultyIo format image trace old new (Dev (record { 0 = 0 })) count = (refl, inr failed) in
     subst F (sym (end.0 ∙ flushed.0)) faulty
 ends format image trace bytes read d n w fault old new status sized none device read-is is made files opened end = absurd end
 
@@ -319,7 +319,7 @@ sink-stands before now (Stuck actor waits) is = is
 sink-stands before now NoMemory is = is
 
 pub ends-stands : (n : DeviceSeen) (faults : ℕ) (fault : Option FaultAt) (old new : Option (List ℕ)) (whole : List ℕ) (before now : ℕ) (status : Status)
-    → IsFlushed n faults fault → EndsAs fault old new whole before now status → SinkStands status before now
+    → IsFlushed n faults fault → EndsIoAs fault old new whole before now status → SinkStands status before now
 ends-stands n faults None old new whole before now Done flushed end = end.1
 ends-stands n faults None old new whole before now (Fault from count) flushed end =
     let S : FaultFrom → Type 0 = λ f. SinkStands (Fault f count) before now in
@@ -421,7 +421,7 @@ pub stops : (format : Format) (image trace : List ℕ) (read : TraceRead) (d n :
     → new.files ≡ files_with_returned image n.content n.capacity n.is_flushed old.files
     → new.opened ≡ given_back image n.faults (old.opened ++ open_opening image d ∷ [])
     → new.sent ≡ old.sent → new.sink_faults ≡ old.sink_faults
-    → Answers format image trace old new status
+    → AnswersIo format image trace old new status
 stops format image trace read d n old new NoMemory number sized none device read-is stop same files opened sent sink =
     (record { files = files ∙ left image d n old.files sized device same; sent = sent }, inr (d, opened-quietly image d n old new none stop opened))
 stops format image trace read d n old new (Input name line cause) number sized none device read-is stop same files opened sent sink = (
@@ -434,7 +434,7 @@ stops format image trace read d n old new (Input name line cause) number sized n
     why-of None device read-is = tt
     why-of (Some told) device read-is = refused-by format image trace read d told name.bytes line cause (told-as image d told sized device) read-is stop.1
 stops format image trace read d n old new (Fault from count) number sized none device read-is stop same files opened sent sink =
-    let F : FaultFrom → Type 0 = λ f. IsFaulty format image trace old new f count in
+    let F : FaultFrom → Type 0 = λ f. IsFaultyIo format image trace old new f count in
     let fails : FailsToOpen format image old new count = record {
       reads = stop.0;
       nothing = record { files = files ∙ left image d n old.files sized device same; sent = sent };
@@ -447,7 +447,7 @@ stops format image trace read d n old new (Fault from count) number sized none d
       told = over-file old.files device;
       sink = sink;
     } in
-    let faulty : IsFaulty format image trace old new (Dev (record { 0 = 0 })) count = (refl, inl fails) in
+    let faulty : IsFaultyIo format image trace old new (Dev (record { 0 = 0 })) count = (refl, inl fails) in
     subst F (sym stop.1) faulty
   where
     over-file : (fs : Option (List File)) → IsDeviceOf fs image d.content d.capacity d.is_flushed → IfTold fs (λ files. HasFile image (IsOverFile d) files)
@@ -459,14 +459,14 @@ stops format image trace read d n old new status number sized none device read-i
 
 -- a store whose call failed, or want of memory
 pub store-stops : (format : Format) (image trace : List ℕ) (old new : Outside) (status : Status) → IsStoreStop old.store_faults new.store_faults status
-    → new.files ≡ old.files → new.opened ≡ old.opened → new.sent ≡ old.sent → Answers format image trace old new status
+    → new.files ≡ old.files → new.opened ≡ old.opened → new.sent ≡ old.sent → AnswersIo format image trace old new status
 store-stops format image trace old new NoMemory stop files opened sent = (record { files = files; sent = sent }, inl opened)
 store-stops format image trace old new (Fault Store count) stop files opened sent = (record { files = files; sent = sent }, opened, stop.0, stop.1)
 store-stops format image trace old new status stop files opened sent = absurd stop
 
 -- an image that isn't opened
 pub open-stops : (format : Format) (image trace : List ℕ) (old new : Outside) (before : ℕ) (status : Status) → IsOpenStop image old.files before new.store_faults status
-    → before ≡ old.store_faults → new.files ≡ old.files → new.opened ≡ old.opened → new.sent ≡ old.sent → Answers format image trace old new status
+    → before ≡ old.store_faults → new.files ≡ old.files → new.opened ≡ old.opened → new.sent ≡ old.sent → AnswersIo format image trace old new status
 open-stops format image trace old new before NoMemory stop same files opened sent = (record { files = files; sent = sent }, inl opened)
 open-stops format image trace old new before (Fault Store count) stop same files opened sent =
     (record { files = files; sent = sent }, opened, subst (λ (n : ℕ). Rose n count) same stop.0, stop.1)

@@ -56,9 +56,9 @@ abbrev pub state_of : SessionSeen → IoState
 state_of w = state_on w.nodes w.guest
 
 -- before its first request
-abbrev pub new_guest : IoGuest
-new_guest = record { node = 1; is_read_only = false; done = 0; flight = None }
+abbrev pub new_io_guest : IoGuest
+new_io_guest = record { node = 1; is_read_only = false; done = 0; flight = None }
 
 -- the machine before the first request
 abbrev pub machine_on : Nodes → IoState
-machine_on nodes = state_on nodes new_guest
+machine_on nodes = state_on nodes new_io_guest

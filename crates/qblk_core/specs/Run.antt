@@ -36,7 +36,7 @@ use Rattle.qblk_inputs.specs.Inputs.{IsTraceFlaw, most_text}
 use Rattle.qblk_inputs.specs.declared.stop.InputFlaw.{InputFlaw}
 use Rattle.qblk_inputs.specs.declared.stop.InputFlaw.TheVariants as flaws
 use Rattle.qblk_core.specs.Along.{CountsOutcome, HaveNodes, GoesInTurn}
-use Rattle.qblk_core.specs.Face.{state_with, new_guest, machine_on}
+use Rattle.qblk_core.specs.Face.{state_with, new_io_guest, machine_on}
 use Rattle.qblk_core.specs.ImageNodes.{AreMadeOf, device_faults, only_device}
 use Rattle.blk_pieces.specs.Pieces.{FlushesPart}
 use Rattle.qblk_core.specs.declared.status.InputWhy.{InputWhy}
@@ -56,7 +56,7 @@ pub record Outside : Type 0 where
 abbrev pub machine_of : Format → List ℕ → IoState
 machine_of format bytes =
     let disk = disk_by_format format bytes
-    in state_with (length bytes) (length disk) new_guest (Some disk)
+    in state_with (length bytes) (length disk) new_io_guest (Some disk)
 
 -- the one guest is called `disk`
 abbrev pub guest_names : RowNames
@@ -123,7 +123,7 @@ closed_opening image device count = record {
 }
 
 -- a history of these requests on that image: each stands once, in order
-pub record IsRun (format : Format) (image : List ℕ) (ops : List Op) (flushed : Bool)
+pub record IsIoRun (format : Format) (image : List ℕ) (ops : List Op) (flushed : Bool)
     (old new : Outside) (h : List Event) (before now : ℕ) : Type 0 where
   pub asked : asked_by 0 h ≡ ops
   -- so that its transcript is that of no other
@@ -247,34 +247,34 @@ SpeaksOfInput format image trace old new name line why =
     ⊎ ((name ≡ trace) × IsTraceCause why line × IsOpenedWell format image old new)
 
 -- nothing was written: neither to a file nor to the sink
-pub record NothingWritten (old new : Outside) : Type 0 where
+pub record NothingWrittenIo (old new : Outside) : Type 0 where
   pub files : new.files ≡ old.files
   pub sent : new.sent ≡ old.sent
 
 -- and no call of a device failed
 abbrev pub NothingDone : List ℕ → Outside → Outside → Type 0
-NothingDone image old new = NothingWritten old new
+NothingDone image old new = NothingWrittenIo old new
     × ((new.opened ≡ old.opened) ⊎ IsOpenedQuietly image old new)
 
 -- the requests were made, and of the transcript the first n bytes went out
-pub record WasRun (format : Format) (image trace : List ℕ) (flushed : Bool) (old new : Outside)
+pub record WasIoRun (format : Format) (image trace : List ℕ) (flushed : Bool) (old new : Outside)
     (ops : List Op) (h : List Event) (before now n : ℕ) : Type 0 where
   pub inputs : IfTold old.files (λ files. HasImage format image files × HasTrace trace ops files)
-  pub run : IsRun format image ops flushed old new h before now
+  pub run : IsIoRun format image ops flushed old new h before now
   pub sent : new.sent ≡ option_map (λ s. s ++ take n (transcript guest_names h)) old.sent
 
 -- all of it went out
 abbrev pub IsDone : Format → List ℕ → List ℕ → Outside → Outside → Type 0
 IsDone format image trace old new =
     (ops : List Op) × (h : List Event) × (before : ℕ) × (now : ℕ)
-    × WasRun format image trace true old new ops h before now (length (transcript guest_names h))
+    × WasIoRun format image trace true old new ops h before now (length (transcript guest_names h))
 
 -- The device failed while a qcow2 image was opened. It was opened so, and is given back as the opening left it, which only read:
 -- its count rose, and all else stayed. One that is too short for a header isn't read.
 pub record FailsToOpen (format : Format) (image : List ℕ) (old new : Outside) (count : ℕ) : Type 0
   where
     pub reads : format ≡ Qcow2
-    pub nothing : NothingWritten old new
+    pub nothing : NothingWrittenIo old new
     pub device : DeviceSeen
     pub behind : DeviceSeen
     pub opened : new.opened ≡ old.opened ++ closed_opening image device behind.faults ∷ []
@@ -285,25 +285,25 @@ pub record FailsToOpen (format : Format) (image : List ℕ) (old new : Outside) 
     pub sink : new.sink_faults ≡ old.sink_faults
 
 -- the device failed in the last flush, after which the transcript goes out nevertheless: a rise that no entry names
-abbrev pub FailsToFlush : Format → List ℕ → List ℕ → Outside → Outside → ℕ → Type 0
-FailsToFlush format image trace old new count =
+abbrev pub FailsToFlushIo : Format → List ℕ → List ℕ → Outside → Outside → ℕ → Type 0
+FailsToFlushIo format image trace old new count =
     (ops : List Op) × (h : List Event) × (before : ℕ) × (n : ℕ)
-    × WasRun format image trace false old new ops h before count n
+    × WasIoRun format image trace false old new ops h before count n
     × RoseSince (counted (before ∷ []) h) (Some (record { dev = 0; count = count }))
     × (((n ≡ length (transcript guest_names h)) × (new.sink_faults ≡ old.sink_faults))
     ⊎ Rose old.sink_faults new.sink_faults)
 
 -- the first fault: while the inputs were read, while the image was opened, in the last flush, or while the transcript went out
-abbrev pub IsFaulty : Format → List ℕ → List ℕ → Outside → Outside → FaultFrom → ℕ → Type 0
-IsFaulty format image trace old new Store count =
-    NothingWritten old new × (new.opened ≡ old.opened) × Rose old.store_faults count
+abbrev pub IsFaultyIo : Format → List ℕ → List ℕ → Outside → Outside → FaultFrom → ℕ → Type 0
+IsFaultyIo format image trace old new Store count =
+    NothingWrittenIo old new × (new.opened ≡ old.opened) × Rose old.store_faults count
     × (count ≡ new.store_faults)
-IsFaulty format image trace old new (Dev dev) count =
+IsFaultyIo format image trace old new (Dev dev) count =
     (dev.0 ≡ 0) × (FailsToOpen format image old new count
-    ⊎ FailsToFlush format image trace old new count)
-IsFaulty format image trace old new Sink count =
+    ⊎ FailsToFlushIo format image trace old new count)
+IsFaultyIo format image trace old new Sink count =
     (ops : List Op) × (h : List Event) × (before : ℕ) × (now : ℕ) × (n : ℕ)
-    × WasRun format image trace true old new ops h before now n × Rose old.sink_faults count
+    × WasIoRun format image trace true old new ops h before now n × Rose old.sink_faults count
     × (count ≡ new.sink_faults)
 
 -- The store's count of faults stands, but where the status names the store; the sink's, but where it names the sink, or a last
@@ -323,13 +323,13 @@ pub record TellsFaults (old new : Outside) (status : Status) : Type 0 where
   pub sink : SinkStands status old.sink_faults new.sink_faults
 
 -- why a run on an image ended so
-abbrev pub Answers : Format → List ℕ → List ℕ → Outside → Outside → Status → Type 0
-Answers format image trace old new Done = IsDone format image trace old new
-Answers format image trace old new Usage = ⊥
-Answers format image trace old new (Input name line why) =
-    NothingWritten old new × SpeaksOfInput format image trace old new name.bytes line why
+abbrev pub AnswersIo : Format → List ℕ → List ℕ → Outside → Outside → Status → Type 0
+AnswersIo format image trace old new Done = IsDone format image trace old new
+AnswersIo format image trace old new Usage = ⊥
+AnswersIo format image trace old new (Input name line why) =
+    NothingWrittenIo old new × SpeaksOfInput format image trace old new name.bytes line why
     × IfTold old.files (IsImageOrTraceRefused format image trace name.bytes line why)
-Answers format image trace old new (Fault from count) =
-    IsFaulty format image trace old new from count
-Answers format image trace old new (Stuck actor waits) = ⊥
-Answers format image trace old new NoMemory = NothingDone image old new
+AnswersIo format image trace old new (Fault from count) =
+    IsFaultyIo format image trace old new from count
+AnswersIo format image trace old new (Stuck actor waits) = ⊥
+AnswersIo format image trace old new NoMemory = NothingDone image old new

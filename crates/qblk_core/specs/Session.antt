@@ -142,22 +142,22 @@ IsRunStop format image trace read before now (Stuck actor waits) = ⊥
 IsRunStop format image trace read before now NoMemory = now.faults ≡ before.faults
 
 -- A transcript went out whole, or a front of it did, and a put failed. The fault of the last flush is named before that.
-abbrev pub EndsAs : Option FaultAt → Option (List ℕ) → Option (List ℕ) → List ℕ → ℕ → ℕ → Status
+abbrev pub EndsIoAs : Option FaultAt → Option (List ℕ) → Option (List ℕ) → List ℕ → ℕ → ℕ → Status
     → Type 0
-EndsAs None old new whole before now Done =
+EndsIoAs None old new whole before now Done =
     (new ≡ option_map (λ s. s ++ whole) old) × (now ≡ before)
-EndsAs None old new whole before now (Fault from count) =
+EndsIoAs None old new whole before now (Fault from count) =
     (from ≡ Sink) × SendsFront old new whole before now × (count ≡ now)
-EndsAs (Some fault) old new whole before now (Fault from count) =
+EndsIoAs (Some fault) old new whole before now (Fault from count) =
     (from ≡ fault.from) × (count ≡ fault.count)
     × (front : List ℕ) × (rest : List ℕ) × (front ++ rest ≡ whole)
     × (new ≡ option_map (λ s. s ++ front) old)
     × (((rest ≡ []) × (now ≡ before)) ⊎ Rose before now)
-EndsAs fault old new whole before now status = ⊥
+EndsIoAs fault old new whole before now status = ⊥
 
-abbrev pub ended_as : Option FaultAt → Status
-ended_as None = Done
-ended_as (Some fault) = Fault fault.from fault.count
+abbrev pub io_ended_as : Option FaultAt → Status
+io_ended_as None = Done
+io_ended_as (Some fault) = Fault fault.from fault.count
 
 abbrev pub failed_as : Option FaultAt → ℕ → Status
 failed_as None count = Fault Sink count

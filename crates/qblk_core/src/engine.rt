@@ -141,7 +141,7 @@ fn make_piece<D: Device>(
 impl<D: Device> Engine<D> {
     ghost use Rattle.blk_base.specs.declared.fault.Outcome.{Outcome};
     ghost use Rattle.blk_nodes.specs.Nodes.{Nodes as SeenNodes};
-    ghost use Rattle.qblk_core.specs.Face.{new_guest};
+    ghost use Rattle.qblk_core.specs.Face.{new_io_guest};
     ghost use Rattle.qblk_core.specs.ImageNodes.{HaveOneImage, seen_device};
     ghost use Rattle.qblk_core.specs.Session.{AreNodesClosed};
     ghost use Rattle.std.specs.Prelude.{◌≡◌, ◌+◌, ◌<◌, ◌≤◌, ◌^◌, ℕ, List, None};
@@ -156,7 +156,7 @@ impl<D: Device> Engine<D> {
         requires image { image ≡ 1 }
         requires one { HaveOneImage nodes }
         requires block { length buffer.items ≡ 65536 }
-        ensures { result ≡ record { nodes = nodes; guest = new_guest; log = history } }
+        ensures { result ≡ record { nodes = nodes; guest = new_io_guest; log = history } }
     {
         Engine {
             nodes,

@@ -8,7 +8,7 @@ ghost use Rattle.blk_nodes.specs.Nodes.{Nodes};
 ghost use Rattle.qblk_core.specs.Completeness.{ArePiecesGood, HasInputs, HasStood, HaveRoomAlong, NoneRises};
 ghost use Rattle.qblk_core.specs.Face.{machine_on};
 ghost use Rattle.qblk_core.specs.Printed.{PrintsInTurn};
-ghost use Rattle.qblk_core.specs.Run.{Answers, IsRun, Outside, machine_of, guest_names};
+ghost use Rattle.qblk_core.specs.Run.{AnswersIo, IsIoRun, Outside, machine_of, guest_names};
 ghost use Rattle.qblk_core.specs.declared.status.Status.{Status};
 ghost use Rattle.qblk_core.specs.declared.words.Format.{Format};
 
@@ -29,7 +29,7 @@ pub fn runs_in_turn_have_one_history()
 pub fn runs_on_good_images_are_done()
     ensures { (format : Format) (image trace : List ℕ) (ops : List Op) (old new : Outside)
         (status : Status) → HasInputs format image trace ops old → NoneRises image old new
-        → Answers format image trace old new status
+        → AnswersIo format image trace old new status
         → (status ≡ Status.Done) ⊎ (status ≡ Status.NoMemory) }
 {}
 
@@ -38,7 +38,7 @@ pub fn runs_on_good_images_are_done()
 pub fn runs_with_space_are_good()
     ensures { (format : Format) (image : List ℕ) (ops : List Op) (flushed : Bool)
         (old new : Outside) (h : List Event) (before now : ℕ)
-        → (run : IsRun format image ops flushed old new h before now) → HasStood before now
+        → (run : IsIoRun format image ops flushed old new h before now) → HasStood before now
         → HaveRoomAlong (machine_on run.first) run.first h run.left run.on.along
         → ArePiecesGood h }
 {}

@@ -2,7 +2,7 @@
 ghost use Rattle.std.specs.Prelude.{◌≡◌, List, ℕ};
 ghost use Rattle.qblk_inputs.specs.Words.{texts_in};
 ghost use Rattle.qblk_core.specs.Words.{IsIo};
-ghost use Rattle.qblk_core.specs.Run.{Answers, TellsFaults};
+ghost use Rattle.qblk_core.specs.Run.{AnswersIo, TellsFaults};
 ghost use Rattle.qblk_core.specs.declared.words.Format.{Format};
 ghost use Rattle.qblk_inputs.specs.Reading.{NoneOut};
 
@@ -24,7 +24,7 @@ pub fn run_io<S: Store, K: Sink>(
         × IsIo (texts_in words.now) format image trace }
     requires none_out { NoneOut (S.opened store) }
     ensures ended { (format : Format) (image trace : List ℕ)
-        → IsIo (texts_in words.now) format image trace → Answers format image trace
+        → IsIo (texts_in words.now) format image trace → AnswersIo format image trace
         (record {
           files = S.files store;
           opened = S.opened store;
@@ -74,7 +74,7 @@ pub fn qblk<S: Store, K: Sink>(alloc: Global, words: &[Text], store: S, out: &mu
 
     // `io FORMAT IMAGE TRACE`
     ensures io { (format : Format) (image trace : List ℕ)
-        → IsIo (texts_in words.now) format image trace → Answers format image trace
+        → IsIo (texts_in words.now) format image trace → AnswersIo format image trace
         (record {
           files = S.files store;
           opened = S.opened store;

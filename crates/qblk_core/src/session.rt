@@ -4,14 +4,14 @@ ghost use Rattle.blk_base.specs.Device.{opened_now};
 ghost use Rattle.blk_base.specs.Files.{IfTold};
 ghost use Rattle.blk_base.specs.Stored.{IsDeviceOf};
 ghost use Rattle.qblk_inputs.specs.Reading.{NoneOut};
-ghost use Rattle.qblk_core.specs.Session.{IsTraceRead, IsStoreStop, IsOpenStop, AreRequestsMade, IsRunStop, EndsAs, ended_as, failed_as};
+ghost use Rattle.qblk_core.specs.Session.{IsTraceRead, IsStoreStop, IsOpenStop, AreRequestsMade, IsRunStop, EndsIoAs, io_ended_as, failed_as};
 ghost use Rattle.blk_nodes.specs.Reading.{HasRisen};
 ghost use Rattle.qblk_core.specs.Opened.{IsImageStatus};
 ghost use Rattle.blk_history.specs.Transcript.{transcript};
 ghost use Rattle.qblk_core.specs.Comes.{HaveLines};
 ghost use Rattle.qblk_core.specs.Face.{SessionSeen};
 ghost use Rattle.qblk_core.specs.ImageNodes.{seen_device};
-ghost use Rattle.qblk_core.specs.Run.{guest_names, Answers, StoreStands, TellsFaults};
+ghost use Rattle.qblk_core.specs.Run.{guest_names, AnswersIo, StoreStands, TellsFaults};
 
 use crate::closing::device_of;
 use crate::engine::Engine;
@@ -156,7 +156,7 @@ fn write_out<K: Sink>(made: Made, out: &mut K) -> Status
     requires named { made.names ≡ guest_names }
     requires empty { made.line.bytes ≡ [] }
     requires room { 393476 ≤ made.line.spare }
-    ensures { EndsAs made.fault (K.sent out.old) (K.sent out.new)
+    ensures { EndsIoAs made.fault (K.sent out.old) (K.sent out.new)
         (transcript guest_names made.history.events) (K.faults out.old) (K.faults out.new) result }
 {
     let Made {
@@ -173,7 +173,7 @@ fn write_out<K: Sink>(made: Made, out: &mut K) -> Status
 
 /// How a run ended whose transcript is out.
 fn ended(fault: Option<FaultAt>) -> Status
-    ensures { result ≡ ended_as fault }
+    ensures { result ≡ io_ended_as fault }
 {
     match fault {
         None => Status::Done,
@@ -205,7 +205,7 @@ pub(crate) fn run_on<S: Store, K: Sink>(
     out: &mut K,
 ) -> Status
     requires { NoneOut (S.opened store.old) }
-    ensures ended { Answers format image.now trace.now
+    ensures ended { AnswersIo format image.now trace.now
         (record {
           files = S.files store.old;
           opened = S.opened store.old;

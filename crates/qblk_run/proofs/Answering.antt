@@ -27,10 +27,11 @@ use Rattle.world_parts.specs.Steps.{IsOpeningOf, new_world}
 use Rattle.qblk_core.specs.Output.{SendsFront}
 use Rattle.qblk_core.specs.declared.status.Status.{Status}
 use Rattle.qblk_core.specs.declared.status.Status.TheVariants.{Done, Fault, Stuck, NoMemory}
+use Rattle.qblk_core.specs.Session.{failed_as}
 use Rattle.qblk_inputs.specs.Inputs.{Work, HasWork}
 use Rattle.qblk_inputs.specs.Words.{Cast, guests_of}
 use Rattle.qblk_run.specs.Beginning.{new_tasks}
-use Rattle.qblk_run.specs.Ending.{EndsAs, ended_as, failed_as, WentOut}
+use Rattle.qblk_run.specs.Ending.{EndsAs, ended_as, WentOut}
 use Rattle.qblk_run.specs.Run.{Setting, Account, IsRun, WasRun, HasRunStopped, IsFaulty, Answers, history_room, whole_transcript, seen_waits}
 use Rattle.qblk_run.specs.Session.{IsPlayed}
 use Rattle.qblk_run.specs.Tasks.{CanHaveLines, KeepsTo, guests_only}

@@ -17,7 +17,7 @@ use Rattle.flat_machine.specs.Courses.{course_of, course_after, past_waits, rest
 use Rattle.world_parts.specs.Face.{WorldSeen, seen_state}
 use Rattle.world_parts.specs.Progress.{Progress, answered_in}
 use Rattle.qblk_inputs.specs.Room.{bytes_for}
-use Rattle.qblk_run.specs.Tasks.{Task, ScriptTask, Tasks, IsTaskOf, IsTaskIn, IsFlying, IsScriptIn, AreDrainsOf, CanGoOn, KeepsTo, IsRestOf, Halts, IsGiving, IsPutOffFor, Rests, ScriptHalts, ScriptRests, entries_of, entries_of_script, steps_of, steps_of_all, flight_entries, entries_in_flight}
+use Rattle.qblk_run.specs.Tasks.{Task, ScriptTask, Tasks, IsTaskOf, IsTaskIn, IsFlying, IsScriptIn, AreDrainsOf, CanGoOn, KeepsTo, IsRestOf, Halts, IsGiving, IsPutOffFor, Rests, ScriptHalts, ScriptRests, entries_to_come, entries_of_script, steps_of, steps_of_all, flight_entries, entries_in_flight}
 use Rattle.qblk_run.specs.Turns.{StaysIn, DrainsAfter, IsOwnOrder, IsScriptPutOff, IsScriptTurn}
 use Rattle.qblk_run.specs.Rounds.{Continues, GuestsHalt, AllRest, Goes, HasTurn}
 use Rattle.qblk_run.proofs.Lists.{same_or_not, get-below, below-get, get-set, get-set-other, with-at, with-map, with-some}
@@ -37,7 +37,7 @@ pub record Passes (a : List ℕ) (before after : Task) : Type 0 where
   pub left : after.left ≡ before.left
   pub is_done : after.is_done ≡ before.is_done
 
-pub entries-same : (a : List ℕ) (before after : Task) → Passes a before after → entries_of after ≡ entries_of before
+pub entries-same : (a : List ℕ) (before after : Task) → Passes a before after → entries_to_come after ≡ entries_to_come before
 entries-same a before after passes =
     let n = entries-past a before.wishes in
     rw (passes.wishes, passes.is_done, n) refl

@@ -12,12 +12,13 @@ use Rattle.qmp_codec.specs.Lines.{command_at}
 use Rattle.qmp_rules.specs.declared.change.Change.{Change}
 use Rattle.qmp_rules.specs.declared.change.Change.TheVariants as change
 use Rattle.qmp_rules.specs.declared.rows.NodeRecord.{NodeRecord}
+use Rattle.qmp_rules.specs.Asks.{name_of_file}
 use Rattle.blk_history.specs.Fold.{With}
 use Rattle.blk_history.specs.declared.event.Event.{Event}
 use Rattle.blk_history.specs.declared.event.Event.TheVariants.{Admit, Refuse, Piece, Retire, Reply, Reached, Start, Ready, End, Done}
 use Rattle.flat_machine.specs.State.{State, Content, Left, Mapped, content_in}
 use Rattle.flat_machine.specs.Contents.{file_bytes}
-use Rattle.flat_machine.specs.Changed.{put, name_file, name_if, know_if, note_image, leave, filename_or, add_file, add_format, remove_node, beside, stepped, all_stepped}
+use Rattle.flat_machine.specs.Changed.{put, name_file, name_if, know_if, note_image, leave, add_file, add_format, remove_node, beside, stepped, all_stepped}
 use Rattle.flat_machine.specs.Comes.{IsHistoryOf}
 use Rattle.flat_machine.specs.Courses.{Course, onward}
 use Rattle.flat_machine.specs.Entries.{starts_of, new_jobs, IsEvent, AreEvents, all_of, FallsIntoEvents}
@@ -54,8 +55,8 @@ only-starts false name s = refl
 
 file-starts : (row : NodeRecord) (s : State) → (add_file row s).starts ≡ s.starts
 file-starts row s =
-    let put_so : State = put row.id (file_bytes row.size (content_in s.files (filename_or row))) s in
-    only-starts row.read_only (filename_or row) put_so
+    let put_so : State = put row.id (file_bytes row.size (content_in s.files (name_of_file row))) s in
+    only-starts row.read_only (name_of_file row) put_so
 
 format-starts : (row : NodeRecord) (file : ℕ) (backing : Option ℕ) (s : State) → (add_format row file backing s).starts ≡ s.starts
 format-starts row file backing s =

@@ -32,7 +32,7 @@ use Rattle.world_commands.specs.Piecing.{IsPieceMade, HasPieceLicence, shown_in_
 use Rattle.world_parts.specs.Progress.{Progress, ended_in, answered_in, requests_done, flight_at, with_piece_entry, with_retirement, IsFree, HasNext, CanShow, HasRoomFor}
 use Rattle.world_parts.specs.Steps.{with_history, after_admission, after_actor_end, IsAnswered, IsActorIdle}
 use Rattle.qblk_inputs.specs.Room.{entries_for, bytes_for, HaveNumbers}
-use Rattle.qblk_run.specs.Tasks.{Task, IsTaskOf, IsTaskIn, HasPiecesLeft, IsFlying, flight_entries, entries_of, steps_of, end_entries}
+use Rattle.qblk_run.specs.Tasks.{Task, IsTaskOf, IsTaskIn, HasPiecesLeft, IsFlying, flight_entries, entries_to_come, steps_of, end_entries}
 use Rattle.qblk_run.specs.Turns.{IsOwnMove, MakesMove, IsTurn}
 use Rattle.qblk_run.proofs.Lists.{with-at, at-with, with-some, get-change, none-has, below-get}
 use Rattle.qblk_run.proofs.Waits.{through, grows-same, entries-past, bytes-past}
@@ -91,11 +91,11 @@ is-idle p g task is none =
 pub row-known : (p : Progress) (g : ℕ) (task : Task) → IsTaskIn p g task → g + 1 ≤ length p.guests
 row-known p g task is = let below = below-get p.guests g _ (row-of p g task is).1 in omega arith
 
-pub end-room : (p : Progress) (task : Task) → task.is_done ≡ false → entries_of task ≤ p.spare.entries → 0 < p.spare.entries
+pub end-room : (p : Progress) (task : Task) → task.is_done ≡ false → entries_to_come task ≤ p.spare.entries → 0 < p.spare.entries
 end-room p task going entries = let one : end_entries task.is_done ≡ 1 = ap end_entries going in omega arith
 
 pub has-room : (p : Progress) (g : ℕ) (task : Task) (op : Op) (rest : List Wish) → IsTaskIn p g task → task.wishes ≡ Ask op ∷ rest
-    → entries_of task ≤ p.spare.entries → bytes_for task.wishes ≤ p.spare.bytes → HasRoomFor op p.spare
+    → entries_to_come task ≤ p.spare.entries → bytes_for task.wishes ≤ p.spare.bytes → HasRoomFor op p.spare
 has-room p g task op rest is first entries bytes =
     let row = row-of p g task is in
     let numbers : HaveNumbers (Ask op ∷ rest) = rw first at row.2.numbers in
@@ -214,7 +214,7 @@ module _ (w v : WorldSeen) (g : ℕ) (before after : Task) (is : IsTaskIn w.prog
       now-less true e = let is = good e in omega arith
       now-less false e = let is = bad e in omega arith
 
-  pub end-move : before.left ≡ None → before.is_done ≡ false → before.wishes ≡ [] → entries_of before ≤ w.progress.spare.entries
+  pub end-move : before.left ≡ None → before.is_done ≡ false → before.wishes ≡ [] → entries_to_come before ≤ w.progress.spare.entries
       → v ≡ after_actor_end w (g + 1) → after.wishes ≡ [] → after.left ≡ None → after.is_done ≡ true → MakesMove w.progress v.progress g before after
   end-move idle going used room kept wishes left done =
       let row = row-of w.progress g before is in
@@ -222,7 +222,7 @@ module _ (w v : WorldSeen) (g : ℕ) (before after : Task) (is : IsTaskIn w.prog
       let none : flight_entries after.left ≡ 0 = ap flight_entries left in
       let was : flight_entries before.left ≡ 0 = ap flight_entries idle in
       let size : length after.wishes ≡ 0 = ap length wishes in
-      let entries : entries_of before ≡ 1 = rw (used, going) refl in (
+      let entries : entries_to_come before ≡ 1 = rw (used, going) refl in (
         Done (g + 1),
         rw kept (record {
           own = (refl, record { used = ap (past_waits (answered_in w.progress.log.events)) used; wishes = wishes; is_done = done });
@@ -335,7 +335,7 @@ pub move-passed : (p q : Progress) (g : ℕ) (before mid after : Task) → Passe
 move-passed p q g before mid after passes (e, move) =
     let n = entries-past (answered_in p.log.events) before.wishes in
     let m = bytes-past (answered_in p.log.events) before.wishes in
-    let entries : entries_of mid ≡ entries_of before = rw (passes.wishes, passes.is_done, n) refl in
+    let entries : entries_to_come mid ≡ entries_to_come before = rw (passes.wishes, passes.is_done, n) refl in
     let bytes : bytes_for mid.wishes ≡ bytes_for before.wishes = ap bytes_for passes.wishes ∙ m in
     let steps : steps_of mid ≡ steps_of before = rw (passes.wishes, passes.is_done, passes.left, n) refl in
     let had_entries = move.entries in
@@ -397,7 +397,7 @@ same-task a b x y z =
 
 -- room for the request that comes first
 pub ask-room : (p : Progress) (g : ℕ) (before mid : Task) (op : Op) (rest : List Wish) → Passes (answered_in p.log.events) before mid → IsTaskIn p g before
-    → mid.wishes ≡ Ask op ∷ rest → entries_of before ≤ p.spare.entries → bytes_for before.wishes ≤ p.spare.bytes → HasRoomFor op p.spare
+    → mid.wishes ≡ Ask op ∷ rest → entries_to_come before ≤ p.spare.entries → bytes_for before.wishes ≤ p.spare.bytes → HasRoomFor op p.spare
 ask-room p g before mid op rest passes is first entries bytes =
     has-room p g mid op rest (passed-task p (answered_in p.log.events) g before mid passes is) first
     (let same = entries-same (answered_in p.log.events) before mid passes in omega arith)

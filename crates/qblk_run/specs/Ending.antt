@@ -2,11 +2,11 @@
 use Rattle.std.specs.Prelude.{◌≡◌, ◌⊎◌, ℕ, List, ◌++◌, Option, Some, None, option_map}
 use Rattle.blk_base.specs.Written.{Written}
 use Rattle.blk_base.specs.declared.fault.FaultAt.{FaultAt}
-use Rattle.blk_base.specs.declared.fault.FaultFrom.TheVariants.{Sink}
 use Rattle.trace_codec.specs.declared.waits.Waits.{Waits}
 use Rattle.qblk_core.specs.Output.{SendsFront}
 use Rattle.qblk_core.specs.declared.status.Status.{Status}
 use Rattle.qblk_core.specs.declared.status.Status.TheVariants.{Done, Fault, Stuck, NoMemory}
+use Rattle.qblk_core.specs.Session.{failed_as}
 
 -- by its first fault, where one came; else by whether an actor is not done
 abbrev pub stopped_as : Option (ℕ × Waits Written) → Status
@@ -16,10 +16,6 @@ stopped_as (Some r) = Stuck r.0 r.1
 abbrev pub ended_as : Option FaultAt → Option (ℕ × Waits Written) → Status
 ended_as None waiting = stopped_as waiting
 ended_as (Some fault) waiting = Fault fault.from fault.count
-
-abbrev pub failed_as : Option FaultAt → ℕ → Status
-failed_as None count = Fault Sink count
-failed_as (Some fault) count = Fault fault.from fault.count
 
 -- the whole transcript went out
 pub record WentOut (old new : Option (List ℕ)) (whole : List ℕ) (before now : ℕ) : Type 0 where

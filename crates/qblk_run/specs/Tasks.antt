@@ -43,12 +43,12 @@ abbrev pub end_entries : Bool → ℕ
 end_entries is_done = if is_done then 0 else 1
 
 -- entries for which no room is set aside yet
-abbrev pub entries_of : Task → ℕ
-entries_of task = entries_for task.wishes + end_entries task.is_done
+abbrev pub entries_to_come : Task → ℕ
+entries_to_come task = entries_for task.wishes + end_entries task.is_done
 
 abbrev pub entries_of_all : List Task → ℕ
 entries_of_all [] = 0
-entries_of_all (task ∷ tasks) = entries_of task + entries_of_all tasks
+entries_of_all (task ∷ tasks) = entries_to_come task + entries_of_all tasks
 
 abbrev pub entries_of_script : ScriptTask → ℕ
 entries_of_script script = length script.orders + end_entries script.is_done
@@ -66,7 +66,7 @@ entries_in_flight None = 0
 entries_in_flight (Some left) = left + 1
 
 abbrev pub steps_of : Task → ℕ
-steps_of task = entries_of task + entries_in_flight task.left
+steps_of task = entries_to_come task + entries_in_flight task.left
 
 abbrev pub steps_of_all : List Task → ℕ
 steps_of_all [] = 0

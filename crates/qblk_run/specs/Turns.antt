@@ -13,7 +13,7 @@ use Rattle.flat_machine.specs.Marks.{after_reply}
 use Rattle.world_parts.specs.Face.{WorldSeen}
 use Rattle.world_parts.specs.Progress.{Progress, answered_in}
 use Rattle.qblk_inputs.specs.Room.{bytes_for}
-use Rattle.qblk_run.specs.Tasks.{Task, ScriptTask, IsTaskOf, entries_of, steps_of, Halts, ScriptRests}
+use Rattle.qblk_run.specs.Tasks.{Task, ScriptTask, IsTaskOf, entries_to_come, steps_of, Halts, ScriptRests}
 use Rattle.qblk_run.specs.Worlds.{IsPutOffBy}
 
 -- the world of the same run: its store tells as much, and began with the same count and openings
@@ -68,7 +68,7 @@ pub record IsMove (p q : Progress) (g : ℕ) (before after : Task) (e : Event) :
   pub events : q.log.events ≡ p.log.events ++ e ∷ []
   pub guests : q.guests ≡ guest_step p.guests e
   pub task : With (slice_get q.guests g) (λ row. IsTaskOf row after)
-  pub entries : p.spare.entries + entries_of after ≤ q.spare.entries + entries_of before
+  pub entries : p.spare.entries + entries_to_come after ≤ q.spare.entries + entries_to_come before
   pub bytes : p.spare.bytes + bytes_for after.wishes ≤ q.spare.bytes + bytes_for before.wishes
   pub steps : steps_of after < steps_of before
   pub shown : length (shown_by e) ≤ 65536

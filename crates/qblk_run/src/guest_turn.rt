@@ -4,7 +4,7 @@ ghost use Rattle.blk_base.specs.Outcomes.{is_good};
 ghost use Rattle.flat_machine.specs.Courses.{past_waits};
 ghost use Rattle.world_parts.specs.Progress.{answered_in};
 ghost use Rattle.qblk_inputs.specs.Room.{bytes_for};
-ghost use Rattle.qblk_run.specs.Tasks.{entries_of, IsTaskIn};
+ghost use Rattle.qblk_run.specs.Tasks.{entries_to_come, IsTaskIn};
 ghost use Rattle.qblk_run.specs.Turns.{StaysIn, GuestMoves, IsTurn, waited_in, is_over_in};
 ghost use Rattle.qblk_run.specs.Worlds.{ComesOnBeside};
 
@@ -89,7 +89,7 @@ fn end<W: Events>(world: &mut W, guest: u32, task: &mut Task)
     requires idle { task.old.left ≡ None }
     requires runs { task.old.is_done ≡ false }
     requires used { task.old.wishes ≡ [] }
-    requires entries { entries_of task.old ≤ (W.face world.old).progress.spare.entries }
+    requires entries { entries_to_come task.old ≤ (W.face world.old).progress.spare.entries }
     ensures moved { GuestMoves (W.face world.old) (W.face world.new) guest task.old task.new }
     ensures stays { StaysIn (W.face world.old) (W.face world.new) }
     ensures comes { ComesOnBeside (W.face world.old) (W.face world.new) }
@@ -104,7 +104,7 @@ fn ask<W: Events>(world: &mut W, guest: u32, task: &mut Task) -> bool
     requires task { IsTaskIn (W.face world.old).progress guest task.old }
     requires idle { task.old.left ≡ None }
     requires runs { task.old.is_done ≡ false }
-    requires entries { entries_of task.old ≤ (W.face world.old).progress.spare.entries }
+    requires entries { entries_to_come task.old ≤ (W.face world.old).progress.spare.entries }
     requires bytes { bytes_for task.old.wishes ≤ (W.face world.old).progress.spare.bytes }
     ensures turn { IsTurn (W.face world.old) (W.face world.new) guest task.old task.new result }
     ensures stays { StaysIn (W.face world.old) (W.face world.new) }
@@ -145,7 +145,7 @@ fn ask<W: Events>(world: &mut W, guest: u32, task: &mut Task) -> bool
 pub(crate) fn guest_turn<W: Events>(world: &mut W, guest: u32, task: &mut Task) -> bool
     requires numbered { guest + 1 < 2 ^ 32 }
     requires task { IsTaskIn (W.face world.old).progress guest task.old }
-    requires entries { entries_of task.old ≤ (W.face world.old).progress.spare.entries }
+    requires entries { entries_to_come task.old ≤ (W.face world.old).progress.spare.entries }
     requires bytes { bytes_for task.old.wishes ≤ (W.face world.old).progress.spare.bytes }
     ensures turn { IsTurn (W.face world.old) (W.face world.new) guest task.old task.new result }
     ensures stays { StaysIn (W.face world.old) (W.face world.new) }

@@ -2,7 +2,8 @@
 ghost use Rattle.std.specs.Prelude.{◌≡◌, ◌≤◌, ◌++◌, ℕ, List};
 ghost use Rattle.blk_base.specs.Written.{Written};
 ghost use Rattle.blk_history.specs.Transcript.{transcript};
-ghost use Rattle.qblk_run.specs.Ending.{EndsAs, ended_as, failed_as};
+ghost use Rattle.qblk_core.specs.Session.{failed_as};
+ghost use Rattle.qblk_run.specs.Ending.{EndsAs, ended_as};
 ghost use Rattle.qblk_run.specs.Tasks.{CanHaveLines, guests_only};
 
 use crate::session::Made;

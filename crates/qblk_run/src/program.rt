@@ -1,11 +1,11 @@
 //! What the words of the program ask for.
 ghost use Rattle.std.specs.Prelude.{◌≡◌, ℕ, List};
-ghost use Rattle.qblk_core.specs.Run.{Answers, TellsFaults};
+ghost use Rattle.qblk_core.specs.Run.{AnswersIo, TellsFaults};
 ghost use Rattle.qblk_core.specs.Words.{IsIo};
 ghost use Rattle.qblk_core.specs.declared.words.Format.{Format};
 ghost use Rattle.qblk_inputs.specs.Reading.{NoneOut};
 ghost use Rattle.qblk_inputs.specs.Words.{Cast, IsRunOf, texts_in};
-ghost use Rattle.qblk_run.specs.Run.{Answers as RunAnswers, setting, outside};
+ghost use Rattle.qblk_run.specs.Run.{Answers, setting, outside};
 
 use crate::run::run_script;
 use blk_base::{Sink, Store, Text};
@@ -20,7 +20,7 @@ pub fn qblk<S: Store, K: Sink>(alloc: Global, words: &[Text], store: S, out: &mu
 
     // `io FORMAT IMAGE TRACE`
     ensures io { (format : Format) (image trace : List ℕ)
-        → IsIo (texts_in words.now) format image trace → Answers format image trace
+        → IsIo (texts_in words.now) format image trace → AnswersIo format image trace
         (outside (S.files store) (S.opened store) (S.faults store) (K.sent out.old)
         (K.faults out.old))
         (outside (S.files result.1) (S.opened result.1) (S.faults result.1) (K.sent out.new)
@@ -28,7 +28,7 @@ pub fn qblk<S: Store, K: Sink>(alloc: Global, words: &[Text], store: S, out: &mu
         result.0 }
 
     // `run 1 SCRIPT GUEST=TRACE ..`
-    ensures run { (cast : Cast) → IsRunOf (texts_in words.now) cast → RunAnswers cast
+    ensures run { (cast : Cast) → IsRunOf (texts_in words.now) cast → Answers cast
         (setting (S.files store) (S.opened store) (S.room store) (S.faults store)
         (K.sent out.old) (K.faults out.old))
         (setting (S.files result.1) (S.opened result.1) (S.room result.1) (S.faults result.1)

@@ -32,10 +32,11 @@ use Rattle.qmp_rules.specs.declared.change.Change.{Change}
 use Rattle.qmp_rules.specs.declared.change.Change.TheVariants.{AddDevice}
 use Rattle.qmp_rules.specs.declared.rows.Device.{Device}
 use Rattle.qmp_rules.specs.declared.rows.NodeRecord.{NodeRecord}
+use Rattle.qmp_rules.specs.Queries.{bytes_of_node}
 use Rattle.flat_machine.specs.Agreement.{HasDisk}
 use Rattle.flat_machine.specs.Legal.{IsForbidden}
 use Rattle.flat_machine.specs.Performing.{AllPerformed, IsQuiet}
-use Rattle.flat_machine.specs.State.{disk_of_guest, drive_of, filename_of, size_by_id}
+use Rattle.flat_machine.specs.State.{disk_of_guest, drive_of, filename_of}
 use Rattle.flat_machine.specs.Suiting.{IsThere}
 use Rattle.flat_machine.specs.Wiring.{TableStands, IsDiskOf}
 use Rattle.flat_machine.proofs.TableSuited.{device-suits}
@@ -114,7 +115,7 @@ module _ (w : WorldSeen) (whole : IsWholeWorld w) (joined : IsJoined w.nodes)
   same_filename : (id : ℕ) → filename_of u id ≡ filename_of w.table id
   same_filename id = ap (option_and_then (λ (r : NodeRecord). r.filename)) (same_at id)
 
-  same_size : (id : ℕ) → size_by_id u id ≡ size_by_id w.table id
+  same_size : (id : ℕ) → bytes_of_node u id ≡ bytes_of_node w.table id
   same_size id = ap (λ (found : Option NodeRecord). unwrap_or (option_map (λ (r : NodeRecord). r.size) found) 0) (same_at id)
 
   -- ---- drives
@@ -251,12 +252,12 @@ module _ (w : WorldSeen) (whole : IsWholeWorld w) (joined : IsJoined w.nodes)
         let apart = another g f flies in
         by_drive (drive_of w.table g) refl apart (was.within g f flies)
       where
-        by_drive : (found : Option ℕ) → drive_of w.table g ≡ found → g ≢ device.number → With (option_map (disk_node w.table) found) (λ other. end_of (span_of f.op) ≤ size_by_id w.table other)
-            → With (disk_of_guest u g) (λ other. end_of (span_of f.op) ≤ size_by_id u other)
+        by_drive : (found : Option ℕ) → drive_of w.table g ≡ found → g ≢ device.number → With (option_map (disk_node w.table) found) (λ other. end_of (span_of f.op) ≤ bytes_of_node w.table other)
+            → With (disk_of_guest u g) (λ other. end_of (span_of f.op) ≤ bytes_of_node u other)
         by_drive None on apart bad = absurd bad
         by_drive (Some other) on apart fits =
-            subst (λ (found : Option ℕ). With (option_map (disk_node u) found) (λ n. end_of (span_of f.op) ≤ size_by_id u n)) (sym (other_drive g apart ∙ on))
-            (subst (λ (n : ℕ). end_of (span_of f.op) ≤ size_by_id u n) (sym (disk_is other (drive_there g other on)))
+            subst (λ (found : Option ℕ). With (option_map (disk_node u) found) (λ n. end_of (span_of f.op) ≤ bytes_of_node u n)) (sym (other_drive g apart ∙ on))
+            (subst (λ (n : ℕ). end_of (span_of f.op) ≤ bytes_of_node u n) (sym (disk_is other (drive_there g other on)))
             (subst (λ (n : ℕ). end_of (span_of f.op) ≤ n) (sym (same_size (disk_node w.table other))) fits))
 
     are_allowed : AreAllowed u w.progress.guests

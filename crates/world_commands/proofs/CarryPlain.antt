@@ -37,8 +37,9 @@ use Rattle.qmp_asks.specs.CommandAsks.{asks_of, is_built, command_name, negotiat
 use Rattle.qmp_rules.specs.Changes.{changed, all_changed}
 use Rattle.qmp_rules.specs.Edits.{edits_of, node_ids, merges}
 use Rattle.qmp_rules.specs.Answers.{answer, answer_by, told_none, unbuilt, out_of_turn, refusal_to, refusal_behind, conflict_after, conflict_in, conflict_refusal, rewires, command_edits, left_by}
+use Rattle.qmp_rules.specs.Queries.{bytes_of_node}
 use Rattle.qmp_rules.proofs.PlaceLemmas.{has_place}
-use Rattle.flat_machine.specs.State.{State, Mapped, MapsNone, MapsSome, Unsure, drive_of, disk_of_guest, size_by_id, filename_of}
+use Rattle.flat_machine.specs.State.{State, Mapped, MapsNone, MapsSome, Unsure, drive_of, disk_of_guest, filename_of}
 use Rattle.flat_machine.specs.Sights.{told_for, overlays_of, mapped_at, AgreesWith, MayMap}
 use Rattle.flat_machine.specs.Agreement.{Contents, HasDisk}
 use Rattle.flat_machine.specs.Bitmaps.{dirty_in}
@@ -337,13 +338,13 @@ module _ (t u : RunTable) (shape : HasShape t u) where
       at None = refl
       at (Some node) = ap Some (same-disk node)
 
-  same-size : (node : ℕ) → size_by_id u node ≡ size_by_id t node
+  same-size : (node : ℕ) → bytes_of_node u node ≡ bytes_of_node t node
   same-size node = rw shape.nodes refl
 
   same-filename : (node : ℕ) → filename_of u node ≡ filename_of t node
   same-filename node = rw shape.nodes refl
 
-  within-so : (o : Option ℕ) (end : ℕ) → With o (λ node. end ≤ size_by_id t node) → With o (λ node. end ≤ size_by_id u node)
+  within-so : (o : Option ℕ) (end : ℕ) → With o (λ node. end ≤ bytes_of_node t node) → With o (λ node. end ≤ bytes_of_node u node)
   within-so None end is = absurd is
   within-so (Some node) end is = subst (λ size. end ≤ size) (sym (same-size node)) is
 
@@ -365,7 +366,7 @@ module _ (t u : RunTable) (shape : HasShape t u) where
         subst (λ (row : Option NodeRecord). With row (λ r. r.read_only ≡ false)) (sym (same-node node))
         (was.writable g node device (sym (same-device g) ∙ there) writes (sym (same-drive g) ∙ on));
     within = λ g f flies.
-        subst (λ (o : Option ℕ). With o (λ node. end_of (span_of f.op) ≤ size_by_id u node)) (sym (same-guest g))
+        subst (λ (o : Option ℕ). With o (λ node. end_of (span_of f.op) ≤ bytes_of_node u node)) (sym (same-guest g))
         (within-so (disk_of_guest t g) (end_of (span_of f.op)) (was.within g f flies));
     allowed = λ g f flies.
         subst (λ (o : Option Device). With o (λ device. IsForbidden f.op device.read_only → ⊥)) (sym (same-device g)) (was.allowed g f flies);

@@ -25,11 +25,11 @@ use Rattle.qmp_rules.specs.Table.{RunTable, device_named, node_named}
 use Rattle.qmp_rules.specs.Changes.{changed, all_changed}
 use Rattle.qmp_asks.specs.CommandAsks.{is_built}
 use Rattle.qmp_rules.specs.Edits.{edits_of, created_change, spoiled, raw_edits, qcow2_edits, added_edits, file_uses, file_under, with_inline, goes_with_node, row_gone, of_row, device_uses, new_device, merges}
-use Rattle.qmp_rules.specs.Asks.{is_file}
+use Rattle.qmp_rules.specs.Asks.{is_file, name_of_file}
 use Rattle.qmp_asks.specs.NodeAsks.{is_read_only, backing_name}
 use Rattle.qmp_rules.specs.Answers.{command_edits, left_by}
 use Rattle.flat_machine.specs.State.{State, Content, Left, filename_of}
-use Rattle.flat_machine.specs.Changed.{beside, stepped, all_stepped, put, name_file, know_if, add_file, note_image, add_format, leave, remove_node, filename_or}
+use Rattle.flat_machine.specs.Changed.{beside, stepped, all_stepped, put, name_file, know_if, add_file, note_image, add_format, leave, remove_node}
 use Rattle.flat_machine.specs.State.{content_in}
 use Rattle.flat_machine.specs.Contents.{file_bytes}
 
@@ -184,8 +184,8 @@ named-if false name s = record { room = refl; guests = refl; starts = refl; endi
 
 file-keeps : (row : NodeRecord) (s : State) → Keeps s (add_file row s)
 file-keeps row s =
-    let put_so : State = put row.id (file_bytes row.size (content_in s.files (filename_or row))) s in
-    keeps-then s put_so _ (record { room = refl; guests = refl; starts = refl; ending = refl; ended = refl }) (named-if row.read_only (filename_or row) put_so)
+    let put_so : State = put row.id (file_bytes row.size (content_in s.files (name_of_file row))) s in
+    keeps-then s put_so _ (record { room = refl; guests = refl; starts = refl; ending = refl; ended = refl }) (named-if row.read_only (name_of_file row) put_so)
 
 image-keeps : (driver : Kind) (node : ℕ) (mapped : _) (s : State) → Keeps s (note_image driver node mapped s)
 image-keeps kind.Qcow2 node mapped s = record { room = refl; guests = refl; starts = refl; ending = refl; ended = refl }

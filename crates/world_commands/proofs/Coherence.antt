@@ -15,7 +15,8 @@ use Rattle.blk_history.specs.Machine.{Flight, one_further}
 use Rattle.blk_nodes.specs.Nodes.{Nodes, no_nodes}
 use Rattle.blk_nodes.specs.declared.row.Row.{Row}
 use Rattle.qmp_rules.specs.Table.{RunTable, device_by_number, opening_table}
-use Rattle.flat_machine.specs.State.{Guest, disk_of_guest, size_by_id}
+use Rattle.qmp_rules.specs.Queries.{bytes_of_node}
+use Rattle.flat_machine.specs.State.{Guest, disk_of_guest}
 use Rattle.flat_machine.specs.Legal.{IsForbidden}
 use Rattle.flat_machine.specs.Machine.{admitted, finished, past_piece}
 use Rattle.flat_machine.specs.Opening.{new_guest}
@@ -46,9 +47,9 @@ flights-change Q (x ∷ guests) (suc g) h all one (suc k) f is =
     flights-change (λ n. Q (suc n)) guests g h (λ n. all (suc n)) one k f is
 
 within-put : (t : RunTable) (guests : List Guest) (g : ℕ) (h : Guest → Guest) → AreWithin t guests
-    → ((row : Guest) (f : Flight) → slice_get guests g ≡ Some row → (h row).flight ≡ Some f → With (disk_of_guest t g) (λ node. end_of (span_of f.op) ≤ size_by_id t node))
+    → ((row : Guest) (f : Flight) → slice_get guests g ≡ Some row → (h row).flight ≡ Some f → With (disk_of_guest t g) (λ node. end_of (span_of f.op) ≤ bytes_of_node t node))
     → AreWithin t (change g h guests)
-within-put t guests g h all one = flights-change (λ k f. With (disk_of_guest t k) (λ node. end_of (span_of f.op) ≤ size_by_id t node)) guests g h all one
+within-put t guests g h all one = flights-change (λ k f. With (disk_of_guest t k) (λ node. end_of (span_of f.op) ≤ bytes_of_node t node)) guests g h all one
 
 -- what is so of a request in flight by its guest's device
 abbrev IsAllowed : RunTable → ℕ → Flight → Type 0
@@ -71,11 +72,11 @@ module _ (t : RunTable) (nodes : Nodes) (opened : List Opened) (p : Progress) (w
     out = was.out;
   }
 
-  pub coherent-admission : (g : ℕ) (op : Op) → With (disk_of_guest t g) (λ node. end_of (span_of op) ≤ size_by_id t node)
+  pub coherent-admission : (g : ℕ) (op : Op) → With (disk_of_guest t g) (λ node. end_of (span_of op) ≤ bytes_of_node t node)
       → With (device_by_number t g) (λ device. IsForbidden op device.read_only → ⊥) → IsCoherent t nodes opened (with_admission g op p)
   coherent-admission g op fits allows =
       coherent-with (with_admission g op p)
-      (within-put t p.guests g (admitted op) was.within (λ row f there is. let same : op ≡ f.op = ap op_or is in subst (λ o. With (disk_of_guest t g) (λ node. end_of (span_of o) ≤ size_by_id t node)) same fits))
+      (within-put t p.guests g (admitted op) was.within (λ row f there is. let same : op ≡ f.op = ap op_or is in subst (λ o. With (disk_of_guest t g) (λ node. end_of (span_of o) ≤ bytes_of_node t node)) same fits))
       (flights-change (IsAllowed t) p.guests g (admitted op) was.allowed (λ row f there is. let same : op ≡ f.op = ap op_or is in subst (λ o. With (device_by_number t g) (λ device. IsForbidden o device.read_only → ⊥)) same allows))
       (length-change g (admitted op) p.guests)
     where
@@ -96,7 +97,7 @@ module _ (t : RunTable) (nodes : Nodes) (opened : List Opened) (p : Progress) (w
       coherent-with q
       (rw is (within-put t p.guests g (past_piece outcome) was.within (λ row f there flies.
       let before = flew row f there row.flight refl flies in
-      subst (λ o. With (disk_of_guest t g) (λ node. end_of (span_of o) ≤ size_by_id t node)) before.2 (was.within g before.0 before.1))))
+      subst (λ o. With (disk_of_guest t g) (λ node. end_of (span_of o) ≤ bytes_of_node t node)) before.2 (was.within g before.0 before.1))))
       (rw is (flights-change (IsAllowed t) p.guests g (past_piece outcome) was.allowed (λ row f there flies.
       let before = flew row f there row.flight refl flies in
       subst (λ o. With (device_by_number t g) (λ device. IsForbidden o device.read_only → ⊥)) before.2 (was.allowed g before.0 before.1))))

@@ -16,8 +16,9 @@ use Rattle.blk_history.specs.Fold.{With}
 use Rattle.qmp_rules.specs.Chains.{filter_role, disk_node}
 use Rattle.qmp_rules.specs.Table.{RunTable, child, kinds_of, node_by_id}
 use Rattle.qmp_rules.specs.declared.rows.NodeRecord.{NodeRecord}
+use Rattle.qmp_rules.specs.Queries.{bytes_of_node}
 use Rattle.flat_machine.specs.Agreement.{HasDisk}
-use Rattle.flat_machine.specs.State.{Guest, disk_of_guest, drive_of, size_by_id}
+use Rattle.flat_machine.specs.State.{Guest, disk_of_guest, drive_of}
 use Rattle.flat_machine.specs.Suiting.{IsAlone}
 use Rattle.flat_machine.specs.Wiring.{TableStands}
 use Rattle.flat_machine.proofs.Kept.{own_disk}
@@ -96,15 +97,15 @@ module _ (t : RunTable) (node overlay : NodeRecord) (over : LiesOver t node over
     | inl is ↦ subst (λ (m : ℕ). With (node_by_id t m) P) (sym (ap to is ∙ to-node)) (with_at P (node_by_id t overlay.id) overlay overlay_found own)
   ]
 
-  size_to : (n : ℕ) → size_by_id t (to n) ≡ size_by_id t n
+  size_to : (n : ℕ) → bytes_of_node t (to n) ≡ bytes_of_node t n
   size_to n = elim (cases_eq n node.id) [
-    | inr other ↦ ap (size_by_id t) (to-other n other)
+    | inr other ↦ ap (bytes_of_node t) (to-other n other)
     | inl is ↦
-        ap (size_by_id t) (ap to is ∙ to-node) ∙ size_at overlay.id overlay overlay_found ∙ size ∙ sym (size_at node.id node node_found)
-        ∙ ap (size_by_id t) (sym is)
+        ap (bytes_of_node t) (ap to is ∙ to-node) ∙ size_at overlay.id overlay overlay_found ∙ size ∙ sym (size_at node.id node node_found)
+        ∙ ap (bytes_of_node t) (sym is)
   ]
     where
-      size_at : (id : ℕ) (row : NodeRecord) → node_by_id t id ≡ Some row → size_by_id t id ≡ row.size
+      size_at : (id : ℕ) (row : NodeRecord) → node_by_id t id ≡ Some row → bytes_of_node t id ≡ row.size
       size_at id row found = ap (λ (r : Option NodeRecord). unwrap_or (option_map (λ (x : NodeRecord). x.size) r) 0) found
 
   led-from : (found : Option ℕ) (n : ℕ) → option_map to found ≡ Some n → (m : ℕ) × (found ≡ Some m) × (to m ≡ n)
@@ -141,10 +142,10 @@ module _ (t : RunTable) (node overlay : NodeRecord) (over : LiesOver t node over
 
   are_within : (guests : List Guest) → AreWithin t guests → AreWithin u guests
   are_within guests was g f flies =
-      subst (λ (found : Option ℕ). With found (λ n. end_of (span_of f.op) ≤ size_by_id t n)) (sym (guest_disk g))
+      subst (λ (found : Option ℕ). With found (λ n. end_of (span_of f.op) ≤ bytes_of_node t n)) (sym (guest_disk g))
       (by_disk (disk_of_guest t g) (was g f flies))
     where
-      by_disk : (found : Option ℕ) → With found (λ n. end_of (span_of f.op) ≤ size_by_id t n) → With (option_map to found) (λ n. end_of (span_of f.op) ≤ size_by_id t n)
+      by_disk : (found : Option ℕ) → With found (λ n. end_of (span_of f.op) ≤ bytes_of_node t n) → With (option_map to found) (λ n. end_of (span_of f.op) ≤ bytes_of_node t n)
       by_disk None bad = bad
       by_disk (Some n) fits = subst (λ (most : ℕ). end_of (span_of f.op) ≤ most) (sym (size_to n)) fits
 

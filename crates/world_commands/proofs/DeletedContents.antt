@@ -24,7 +24,7 @@ use Rattle.qmp_rules.specs.declared.rows.NodeRecord.{NodeRecord}
 use Rattle.flat_machine.specs.Changed.{own_filename}
 use Rattle.flat_machine.specs.Final.{IsDiskIn, read_as}
 use Rattle.flat_machine.specs.Performing.{Removes}
-use Rattle.flat_machine.specs.Wiring.{AreApart, AreFileNodes, StandAlone}
+use Rattle.flat_machine.specs.Wiring.{HaveDistinctIds, AreFileNodes, StandAlone}
 use Rattle.flat_machine.specs.State.{State, filename_of}
 use Rattle.flat_machine.proofs.Finds.{bytes_eq-same, same-bytes_eq, bytes_eq-other}
 use Rattle.blk_nodes.specs.Contents.{told, disk_under, disk_of, disk_down, disk_by, bytes_by, bytes_of, file_node_disk, Unfolds}
@@ -114,7 +114,7 @@ module _ (t : RunTable) (alone : StandAlone t) where
           over_by name row found.0 named ∙ ap (λ (n : ℕ). Some n) (eqb-true row.id node found.1)
 
 -- the row of a node over a file
-pub over-row : (t : RunTable) (name : List ℕ) (node : ℕ) → AreApart t → node_over t name ≡ Some node → filename_of t node ≡ Some name
+pub over-row : (t : RunTable) (name : List ℕ) (node : ℕ) → HaveDistinctIds t → node_over t name ≡ Some node → filename_of t node ≡ Some name
 over-row t name node apart is = by_found (find (stands_for name) t.nodes) refl is
   where
     by_found : (found : Option NodeRecord) → find (stands_for name) t.nodes ≡ found → option_map (λ (r : NodeRecord). r.id) found ≡ Some node
@@ -128,7 +128,7 @@ over-row t name node apart is = by_found (find (stands_for name) t.nodes) refl i
 
 -- ---- the node that goes
 
-module _ (w : WorldSeen) (node : ℕ) (joined : IsJoined w.nodes) (unfolds : Unfolds w.nodes) (alike : AreNodesOf w.table w.nodes) (apart : AreApart w.table)
+module _ (w : WorldSeen) (node : ℕ) (joined : IsJoined w.nodes) (unfolds : Unfolds w.nodes) (alike : AreNodesOf w.table w.nodes) (apart : HaveDistinctIds w.table)
     (alone : StandAlone w.table) (drivers : AreFileNodes w.table) (all : AreTold w.nodes.devices)
     (out : AreOut w.table w.nodes w.opened) (files : List StoreFile) (told_files : w.files ≡ Some files) where
   abbrev t : RunTable

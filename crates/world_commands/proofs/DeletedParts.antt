@@ -20,7 +20,7 @@ use Rattle.qmp_rules.specs.Changes.{changed, without_record}
 use Rattle.qmp_rules.specs.Table.{RunTable, node_by_id, kinds_of}
 use Rattle.qmp_rules.specs.declared.change.Change.TheVariants.{RemoveNode}
 use Rattle.qmp_rules.specs.declared.rows.NodeRecord.{NodeRecord}
-use Rattle.flat_machine.specs.Wiring.{AreApart}
+use Rattle.flat_machine.specs.Wiring.{HaveDistinctIds}
 use Rattle.flat_machine.specs.State.{filename_of}
 use Rattle.flat_machine.proofs.Finds.{find-filter, bytes_eq-same, same-bytes_eq}
 use Rattle.blk_nodes.specs.Dropping.{nodes_without, other_devices}
@@ -62,14 +62,14 @@ module _ (t : RunTable) (node : ℕ) where
   pub filename_stays : (other : ℕ) → other ≢ node → filename_of t' other ≡ filename_of t other
   filename_stays other apart = ap (λ (row : Option NodeRecord). option_and_then (λ (r : NodeRecord). r.filename) row) (row_stays other apart)
 
-  pub apart_left : AreApart t → AreApart t'
+  pub apart_left : HaveDistinctIds t → HaveDistinctIds t'
   apart_left apart row there =
       let old = Contains-filter (λ (r : NodeRecord). not (r.id == node)) t.nodes row (subst (λ (rows : List NodeRecord). Contains rows row) nodes_left there) in
       row_stays row.id (eqb-false row.id node (not-true (row.id == node) old.1)) ∙ apart row old.0
 
 -- ---- table and nodes
 
-module _ (t : RunTable) (nodes : Nodes) (node : ℕ) (joined : IsJoined nodes) (left : IsJoined (nodes_without node nodes)) (small : node < 64) (apart : AreApart t)
+module _ (t : RunTable) (nodes : Nodes) (node : ℕ) (joined : IsJoined nodes) (left : IsJoined (nodes_without node nodes)) (small : node < 64) (apart : HaveDistinctIds t)
     (alike : AreNodesOf t nodes) where
   own_gone : row_at (nodes_without node nodes) node ≡ None
   own_gone = get_or-set_same nodes.rows node None None (omega (arith, small, joined.rows))

@@ -19,7 +19,7 @@ use Rattle.qmp_rules.specs.Edits.{goes_with_node}
 use Rattle.qmp_rules.specs.Table.{RunTable, node_by_id, kinds_of, first_into, id_named}
 use Rattle.qmp_rules.specs.declared.rows.NodeRecord.{NodeRecord}
 use Rattle.qmp_rules.specs.declared.change.Change.TheVariants.{RemoveNode}
-use Rattle.flat_machine.specs.Wiring.{AreApart}
+use Rattle.flat_machine.specs.Wiring.{HaveDistinctIds}
 use Rattle.flat_machine.specs.State.{filename_of}
 use Rattle.flat_machine.proofs.Finds.{bytes_eq-same}
 use Rattle.flat_machine.proofs.Tables.{refreshed-old}
@@ -38,7 +38,7 @@ use Rattle.world_commands.proofs.KeptDrives.{IsEntered, KeepsEntered}
 pub record Parts (t : RunTable) (x : Ground) : Type 0 where
   pub joined : IsJoined x.nodes
   pub alike : AreNodesOf t x.nodes
-  pub apart : AreApart t
+  pub apart : HaveDistinctIds t
   pub out : AreOut t x.nodes x.store.opened
 
 pub parts_of : (t : RunTable) (x : Ground) → IsJoined x.nodes → Belong t x → Parts t x

@@ -12,8 +12,9 @@ use Rattle.blk_history.specs.Fold.{With}
 use Rattle.qmp_rules.specs.Chains.{filter_role, filtered, disk_from, disk_node}
 use Rattle.qmp_rules.specs.Table.{RunTable, node_by_id, device_by_number, child}
 use Rattle.qmp_rules.specs.declared.rows.NodeRecord.{NodeRecord}
+use Rattle.qmp_rules.specs.Queries.{bytes_of_node}
 use Rattle.flat_machine.specs.Agreement.{HasDisk}
-use Rattle.flat_machine.specs.State.{Guest, drive_of, size_by_id}
+use Rattle.flat_machine.specs.State.{Guest, drive_of}
 use Rattle.world_parts.specs.Coherent.{HaveDrives, AreOnDisks, AreOnWritable, AreWithin}
 
 -- an edge leads to the node
@@ -101,13 +102,13 @@ module _ (t now : RunTable) (keeps : KeepsEntered t now) where
   pub within_kept : (guests : List Guest) → AreWithin t guests → AreWithin now guests
   within_kept guests are g f flies = by_drive (drive_of t g) refl (are g f flies)
     where
-      by_drive : (drive : Option ℕ) → drive_of t g ≡ drive → With (option_map (disk_node t) drive) (λ node. end_of (span_of f.op) ≤ size_by_id t node)
-          → With (option_map (disk_node now) (drive_of now g)) (λ node. end_of (span_of f.op) ≤ size_by_id now node)
+      by_drive : (drive : Option ℕ) → drive_of t g ≡ drive → With (option_map (disk_node t) drive) (λ node. end_of (span_of f.op) ≤ bytes_of_node t node)
+          → With (option_map (disk_node now) (drive_of now g)) (λ node. end_of (span_of f.op) ≤ bytes_of_node now node)
       by_drive None is bad = absurd bad
       by_drive (Some node) is fit =
           let here = drive-entered t g node is in
           let disk : ℕ = disk_node t node in
-          subst (λ (drive : Option ℕ). With (option_map (disk_node now) drive) (λ n. end_of (span_of f.op) ≤ size_by_id now n)) (sym (keeps.drives g ∙ is))
-          (subst (λ (n : ℕ). end_of (span_of f.op) ≤ size_by_id now n) (sym (disk-same node here))
+          subst (λ (drive : Option ℕ). With (option_map (disk_node now) drive) (λ n. end_of (span_of f.op) ≤ bytes_of_node now n)) (sym (keeps.drives g ∙ is))
+          (subst (λ (n : ℕ). end_of (span_of f.op) ≤ bytes_of_node now n) (sym (disk-same node here))
           (subst (λ (n : ℕ). end_of (span_of f.op) ≤ n)
           (sym (ap (λ (row : Option NodeRecord). unwrap_or (option_map (λ (r : NodeRecord). r.size) row) 0) (keeps.rows disk (disk-entered node here)))) fit))

@@ -1,31 +1,28 @@
 -- What a command leaves of the world, before its reply stands in the history.
-use Rattle.std.specs.Prelude.{◌≡◌, ◌⊎◌, ℕ, ◌<◌, Bool, true, false, [], ◌∷◌, ◌++◌, Result, Ok, Err, Option, Some, None, IfSome, is_some, map, option_map, List, string_bytes}
+use Rattle.std.specs.Prelude.{◌≡◌, ◌⊎◌, ℕ, ◌<◌, Bool, true, false, [], ◌∷◌, ◌++◌, Result, Ok, Err, Option, Some, None, IfSome, is_some, map, List, string_bytes}
 use Rattle.serde_json.specs.Data.{Data}
 use Rattle.blk_base.specs.declared.fault.DevNo.{DevNo}
 use Rattle.blk_base.specs.declared.fault.FaultAt.{FaultAt}
 use Rattle.blk_base.specs.declared.fault.FaultFrom.{FaultFrom}
 use Rattle.blk_base.specs.declared.fault.FaultFrom.TheVariants.{Dev}
-use Rattle.q2_format.specs.Created.{Creation, created_length, creation_of}
+use Rattle.q2_format.specs.Created.{created_length}
 use Rattle.blk_history.specs.Fold.{With}
 use Rattle.blk_history.specs.declared.event.Event.{Event}
 use Rattle.blk_history.specs.declared.event.Event.TheVariants.{Reply}
 use Rattle.qmp_codec.specs.Commands.{Cmd}
 use Rattle.qmp_codec.specs.Lines.{Stop, command_at}
 use Rattle.qmp_codec.specs.declared.command.Command.TheVariants.{BlockdevAdd, BlockdevCreate, BlockdevDel, DeviceAdd, QueryNamedBlockNodes, BitmapAdd, BitmapRemove, BitmapClear, BitmapEnable, BitmapDisable, BitmapMerge, BlockdevSnapshot, DeviceDel}
-use Rattle.qmp_codec.specs.declared.nodes.CreateQcow2.{CreateQcow2}
 use Rattle.qmp_codec.specs.declared.nodes.Created.{Created}
 use Rattle.qmp_codec.specs.declared.nodes.Created.TheVariants.{Qcow2}
 use Rattle.qmp_rules.specs.declared.refusal.Refusal.{Refusal}
 use Rattle.qmp_rules.specs.declared.refusal.Refusal.TheVariants.{BadValue, File, Image, BackingNeeded, SizeDiffers, Io, NoSpace}
 use Rattle.qmp_rules.specs.declared.told.Stopped.{Stopped}
 use Rattle.qmp_rules.specs.declared.told.Told.{Told}
-use Rattle.qmp_asks.specs.Values.{amount_or}
 use Rattle.qmp_rules.specs.Changes.{all_changed}
 use Rattle.qmp_rules.specs.Answers.{answer, refusal_to, line_answer, line_text}
 use Rattle.qmp_rules.specs.Looks.{create_told}
 use Rattle.flat_machine.specs.State.{State, KnownFile, Content, Bytes, Blank}
 use Rattle.flat_machine.specs.Sights.{IsTold, Fails, told_for}
-use Rattle.flat_machine.specs.Changed.{format_name}
 use Rattle.flat_machine.specs.Licence.{fault_at, named_in}
 use Rattle.flat_machine.specs.Marking.{dirty_bytes}
 use Rattle.flat_machine.specs.Recording.{dirty_after}
@@ -50,6 +47,7 @@ use Rattle.world_parts.specs.Progress.{with_bare_entry}
 use Rattle.world_parts.specs.Saying.{Given, IsSaid}
 use Rattle.world_commands.specs.Snapshots.{TellsMapped}
 use Rattle.world_parts.specs.Staging.{site_of}
+use Rattle.world_parts.specs.Creating.{creation_for}
 
 -- ---- what files may refuse, be it told or not what they hold
 
@@ -97,14 +95,10 @@ pub record IsCarriedIn (s : State) (w v : WorldSeen) (c : Cmd) (told : Told) : T
 -- ---- a refusal of which a call failed
 
 -- the image that a command creates would end above the capacity of the device
-abbrev pub creation_in : CreateQcow2 (List ℕ) → Creation
-creation_in c =
-    creation_of (amount_or 0 (Some c.size)) c.backing_file (option_map format_name c.backing_fmt)
-
 abbrev pub creation_passes : WorldSeen → Created (List ℕ) → ℕ → Type 0
 creation_passes w (Qcow2 c) dev =
     With (device_numbered w.nodes.devices dev)
-    (λ device. device.capacity < created_length (creation_in c))
+    (λ device. device.capacity < created_length (creation_for c))
 creation_passes w options dev = ⊥
 
 -- where nothing refuses the creation before

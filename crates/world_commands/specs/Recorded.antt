@@ -13,12 +13,12 @@ use Rattle.qmp_rules.specs.Asks.{id_or}
 use Rattle.qmp_asks.specs.BitmapAsks.{source_node, source_name}
 use Rattle.qmp_rules.specs.Edits.{bitmap_row}
 use Rattle.qmp_rules.specs.Table.{RunTable}
+use Rattle.qmp_rules.specs.Queries.{bytes_of_node}
 use Rattle.trace_codec.specs.declared.op.Op.{Op}
 use Rattle.trace_codec.specs.declared.op.Op.TheVariants.{Write, Zero}
 use Rattle.flat_machine.specs.Bitmaps.{bitmap_of, dirty_in, noted_rows, IsFreeBitmap}
 use Rattle.flat_machine.specs.Machine.{is_noted, path}
 use Rattle.flat_machine.specs.Marking.{clean}
-use Rattle.flat_machine.specs.State.{size_by_id}
 
 -- no job uses one
 abbrev pub AreFree : List Bitmap → Type 0
@@ -29,8 +29,8 @@ AreFree rows = (row : Bitmap) → Contains rows row → IsFreeBitmap row
 -- the bitmap that a command adds, with nothing dirty
 pub record IsNewBitmap (t : RunTable) (c : BitmapAdd (List ℕ)) (row : Bitmap) : Type 0 where
   pub named : bitmap_of row ≡ bitmap_row (id_or 0 t (Some c.node)) c
-  pub sized : row.size ≡ size_by_id t row.node
-  pub blank : dirty_in row ≡ clean (bitmap_of row) (size_by_id t row.node)
+  pub sized : row.size ≡ bytes_of_node t row.node
+  pub blank : dirty_in row ≡ clean (bitmap_of row) (bytes_of_node t row.node)
   pub free : IsFreeBitmap row
 
 abbrev pub IsNewFor : RunTable → Cmd → Option Bitmap → Type 0

@@ -8,12 +8,12 @@ ghost use Rattle.qmp_asks.specs.BitmapAsks.{source_name, source_node};
 ghost use Rattle.qmp_rules.specs.Changes.{all_changed};
 ghost use Rattle.qmp_rules.specs.Fitting.{AllChangesFit};
 ghost use Rattle.qmp_rules.specs.Room.{HasRoomForChanges};
+ghost use Rattle.qmp_rules.specs.Queries.{bytes_of_node};
 ghost use Rattle.blk_bitmaps.specs.Calls.{with_first, with_source, without_first};
 ghost use Rattle.blk_bitmaps.specs.Refusals.{add_refusal, find};
 ghost use Rattle.blk_bitmaps.specs.Rows.{emptied, is_named, switched};
 ghost use Rattle.flat_machine.specs.Bitmaps.{AreBitmapsOf, FollowChanges, dirty_in};
 ghost use Rattle.flat_machine.specs.Marking.{dirty_bytes};
-ghost use Rattle.flat_machine.specs.State.{size_by_id};
 ghost use Rattle.world_commands.specs.Carrying.{is_of_bitmaps, prints_counts};
 ghost use Rattle.world_commands.specs.Leaving.{LeavesBitmaps};
 ghost use Rattle.qmp_asks.specs.Values.{amount_or, flag_or_false};
@@ -149,7 +149,7 @@ fn flag_or_false(flag: Option<bool>) -> bool
 
 /// How many bytes a node's disk has.
 fn size_of(names: &Names, node: NodeId) -> u64
-    ensures { result ≡ size_by_id names.now.table node }
+    ensures { result ≡ bytes_of_node names.now.table node }
 {
     match names.node_at(node) {
         Some(row) => row.size,

@@ -15,7 +15,7 @@ use Rattle.blk_nodes.specs.Nodes.{Nodes, row_at}
 use Rattle.blk_nodes.specs.declared.row.Row.{Row}
 use Rattle.qmp_rules.specs.Table.{RunTable, node_by_id, kinds_of}
 use Rattle.qmp_rules.specs.declared.rows.NodeRecord.{NodeRecord}
-use Rattle.flat_machine.specs.Wiring.{AreApart}
+use Rattle.flat_machine.specs.Wiring.{HaveDistinctIds}
 use Rattle.flat_machine.proofs.Fresh.{found-new}
 use Rattle.flat_machine.proofs.Tables.{pushed-new}
 use Rattle.world_parts.specs.Coherent.{AreAlike, AreNodesOf, IsRowOf, node_row}
@@ -52,7 +52,7 @@ apart-rows (x ∷ rows) distinct row there = elim (Contains-cases x rows row the
       rw apart (apart-rows rows (IsDistinct-tail nat_eq x.id (map id_of rows) distinct) row behind)
 ]
 
-pub apart-of : (t : RunTable) (nodes : Nodes) → nodes.graph.nodes ≡ map node_row t.nodes → IsJoined nodes → AreApart t
+pub apart-of : (t : RunTable) (nodes : Nodes) → nodes.graph.nodes ≡ map node_row t.nodes → IsJoined nodes → HaveDistinctIds t
 apart-of t nodes listed joined =
     let distinct : IsDistinct nat_eq (map id_of t.nodes) = subst (IsDistinct nat_eq) (ids-alike t nodes listed) joined.sound.different_nodes in
     apart-rows t.nodes distinct

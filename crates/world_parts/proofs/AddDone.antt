@@ -21,7 +21,7 @@ use Rattle.qmp_asks.specs.declared.ask.Drivers.TheVariants as drivers
 use Rattle.qmp_rules.specs.declared.rows.NodeRecord.{NodeRecord}
 use Rattle.qmp_asks.specs.declared.look.Look.TheVariants as look
 use Rattle.qmp_rules.specs.declared.told.Told.{Told}
-use Rattle.flat_machine.specs.Wiring.{AreApart, TableAtRest}
+use Rattle.flat_machine.specs.Wiring.{HaveDistinctIds, TableAtRest}
 use Rattle.flat_machine.proofs.Asked.{found-named, room-left, takes-driver}
 use Rattle.world_parts.specs.Adding.{Adding, Taken, TellsAddition, TellsInside, TellsLength, of_node}
 use Rattle.world_parts.specs.Coherent.{AreNodesOf}
@@ -36,7 +36,7 @@ use Rattle.world_parts.proofs.AddSeen.{AsFile, AsImage, AsPart}
 
 module _ (t : RunTable) (told : Told) (c : Adding) (none : refusal_to t told (command.BlockdevAdd c) ≡ None) (old now : Site)
     (alike : AreNodesOf t now.nodes) (joined : IsJoined now.nodes) (rests : TableAtRest t) (out : Option Taken) (image : Option Known) where
-  apart : AreApart t
+  apart : HaveDistinctIds t
   apart = rests.stands.apart
 
   -- there is a place for a `file` node that is made with the node over it

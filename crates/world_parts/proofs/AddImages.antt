@@ -33,7 +33,7 @@ use Rattle.qmp_rules.specs.declared.rows.NodeRecord.{NodeRecord}
 use Rattle.qmp_asks.specs.declared.look.Look.TheVariants as look
 use Rattle.qmp_rules.specs.declared.told.Stopped.{Stopped}
 use Rattle.qmp_rules.specs.declared.told.Told.{Told}
-use Rattle.flat_machine.specs.Wiring.{AreApart}
+use Rattle.flat_machine.specs.Wiring.{HaveDistinctIds}
 use Rattle.flat_machine.proofs.Asked.{found-named, lone-node, not-refused, takes-driver}
 use Rattle.world_parts.specs.Adding.{Adding, LooksUnder, LooksWell, Taken, TellsAddedImage, TellsInside, opened_sight, probe}
 use Rattle.world_parts.specs.Coherent.{AreNodesOf}
@@ -104,7 +104,7 @@ module _ (t : RunTable) (told : Told) (c : Adding) (none : refusal_to t told (co
   image-quiet header stops = quiet-by has-both.0 has-both.1 (names-other header) (sizes-of header) stops
 
   -- it fits its backing node
-  module _ (nodes : Nodes) (alike : AreNodesOf t nodes) (apart : AreApart t) (image : Known)
+  module _ (nodes : Nodes) (alike : AreNodesOf t nodes) (apart : HaveDistinctIds t) (image : Known)
       (quiet : (names-other image.header ≡ false) × (sizes-of image.header ≡ None)) where
     fits-by : (b : Option (Said (List ℕ))) → qcow2.backing ≡ b → holds t told (ask.Found (backing_name b)) ≡ None
         → backing_stop image (backing_for t b) (backing_size nodes (backing_for t b)) ≡ None

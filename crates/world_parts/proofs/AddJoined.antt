@@ -38,7 +38,7 @@ use Rattle.qmp_rules.specs.declared.refusal.Refusal.TheVariants as refusal
 use Rattle.qmp_rules.specs.declared.rows.NodeRecord.{NodeRecord}
 use Rattle.qmp_asks.specs.declared.look.Look.TheVariants as look
 use Rattle.qmp_rules.specs.declared.told.Told.{Told}
-use Rattle.flat_machine.specs.Wiring.{AreApart}
+use Rattle.flat_machine.specs.Wiring.{HaveDistinctIds}
 use Rattle.flat_machine.proofs.Accepted.{is_protocol}
 use Rattle.flat_machine.proofs.Asked.{room-left, takes-driver}
 use Rattle.flat_machine.proofs.Fresh.{found-new}
@@ -92,7 +92,7 @@ no-device nodes id joined absent = by_found (device_in nodes.devices id) refl
 
 -- ---- the node over a `file` node that is there
 
-module _ (t : RunTable) (nodes : Nodes) (alike : AreNodesOf t nodes) (joined : IsJoined nodes) (apart : AreApart t) (told : Told) (c : Adding)
+module _ (t : RunTable) (nodes : Nodes) (alike : AreNodesOf t nodes) (joined : IsJoined nodes) (apart : HaveDistinctIds t) (told : Told) (c : Adding)
     (none : refusal_to t told (command.BlockdevAdd c) ≡ None) where
   pub can-image : (qcow2 : AddQcow2 (List ℕ)) (file : List ℕ) → c.driver ≡ added.Qcow2 qcow2 → qcow2.file ≡ file_ref.Name file
       → (row : NodeRecord) → node_named t file ≡ Some row → (image : Known) → IsOpened nodes.devices row.id image

@@ -19,7 +19,7 @@ use Rattle.qmp_rules.specs.Table.{RunTable, node_by_id, node_named}
 use Rattle.qmp_rules.specs.declared.rows.NodeRecord.{NodeRecord}
 use Rattle.qmp_asks.specs.declared.look.Look.TheVariants as look
 use Rattle.qmp_rules.specs.declared.told.Told.{Told}
-use Rattle.flat_machine.specs.Wiring.{AreApart}
+use Rattle.flat_machine.specs.Wiring.{HaveDistinctIds}
 use Rattle.flat_machine.proofs.Accepted.{is_protocol}
 use Rattle.world_parts.specs.Adding.{Adding, IsTakenOut, Looks, Opens, Taken}
 use Rattle.world_parts.specs.Coherent.{AreAlike, AreNodesOf}
@@ -126,7 +126,7 @@ module _ (t : RunTable) (c : Adding) (told : Told) (old new : Site) (out : Optio
 
 -- ---- `file` nodes of the table are over devices
 
-pub have-files : (t : RunTable) (nodes : Nodes) → AreNodesOf t nodes → AreApart t → HaveFileNodes t nodes
+pub have-files : (t : RunTable) (nodes : Nodes) → AreNodesOf t nodes → HaveDistinctIds t → HaveFileNodes t nodes
 have-files t nodes alike apart name row is = by_row (node_named t name) refl is
   where
     by_kind : (found : NodeRecord) (b : Bool) → is_file found ≡ b → node_named t name ≡ Some found → (if b then Some found else None) ≡ Some row → IsFile nodes row.id

@@ -29,7 +29,7 @@ use Rattle.qmp_asks.specs.declared.ask.Ask.TheVariants as ask
 use Rattle.qmp_asks.specs.declared.ask.Drivers.TheVariants as drivers
 use Rattle.qmp_rules.specs.declared.rows.NodeRecord.{NodeRecord}
 use Rattle.qmp_rules.specs.declared.told.Told.{Told}
-use Rattle.flat_machine.specs.Wiring.{AreApart}
+use Rattle.flat_machine.specs.Wiring.{HaveDistinctIds}
 use Rattle.flat_machine.proofs.Accepted.{is_protocol}
 use Rattle.flat_machine.proofs.Asked.{found-named, not-refused, room-left, takes-driver}
 use Rattle.world_parts.specs.Adding.{Adding}
@@ -56,7 +56,7 @@ backing-same t (Some said.Null) = refl
 backing-same t (Some (said.Name name)) = backing-named (id_named t name)
 
 -- it is there, where nothing refuses it
-pub backing-there : (t : RunTable) (nodes : Nodes) (told : Told) → AreNodesOf t nodes → IsJoined nodes → AreApart t → (name : Option (List ℕ))
+pub backing-there : (t : RunTable) (nodes : Nodes) (told : Told) → AreNodesOf t nodes → IsJoined nodes → HaveDistinctIds t → (name : Option (List ℕ))
     → holds t told (ask.Found name) ≡ None → IfSome (option_and_then (id_named t) name) (HasNode nodes.graph)
 backing-there t nodes told alike joined apart None found = tt
 backing-there t nodes told alike joined apart (Some name) found =
@@ -77,7 +77,7 @@ same-edges asked backing is id edges = ap (λ (b : Option ℕ). format_edges id 
 
 -- ---- over nodes that are there
 
-module _ (t : RunTable) (nodes : Nodes) (alike : AreNodesOf t nodes) (joined : IsJoined nodes) (apart : AreApart t) (told : Told) (c : Adding)
+module _ (t : RunTable) (nodes : Nodes) (alike : AreNodesOf t nodes) (joined : IsJoined nodes) (apart : HaveDistinctIds t) (told : Told) (c : Adding)
     (none : refusal_to t told (command.BlockdevAdd c) ≡ None) where
   pub by-name : (name : List ℕ) (row : NodeRecord) → node_named t name ≡ Some row → node_by_id t row.id ≡ Some row
   by-name name row found = apart row (find-Some (λ (r : NodeRecord). bytes_eq r.name name) t.nodes row found).0

@@ -15,7 +15,7 @@ use Rattle.blk_graph.proofs.Members.{Contains-here, Contains-there, Contains-map
 use Rattle.blk_graph.proofs.RefreshLemmas.{ruled-same}
 use Rattle.qmp_rules.specs.Table.{RunTable, node_by_id, kind_of_record, kinds_from, kinds_of}
 use Rattle.qmp_rules.specs.declared.rows.NodeRecord.{NodeRecord}
-use Rattle.flat_machine.specs.Wiring.{AreApart}
+use Rattle.flat_machine.specs.Wiring.{HaveDistinctIds}
 use Rattle.blk_nodes.specs.Joined.{IsJoined}
 use Rattle.blk_nodes.specs.Nodes.{Nodes, row_at, driver_kind, node_kind}
 use Rattle.blk_nodes.specs.declared.row.Row.{Row}
@@ -38,7 +38,7 @@ AreOnce rows = (a b : NodeRecord) → Contains rows a → Contains rows b → a.
 once-tail : (row : NodeRecord) (rows : List NodeRecord) → AreOnce (row ∷ rows) → AreOnce rows
 once-tail row rows once a b there other = once a b (Contains-there row rows a there) (Contains-there row rows b other)
 
-once_by : (t : RunTable) → AreApart t → AreOnce t.nodes
+once_by : (t : RunTable) → HaveDistinctIds t → AreOnce t.nodes
 once_by t apart a b there other same =
     let here : node_by_id t a.id ≡ Some a = apart a there in
     let also : node_by_id t b.id ≡ Some b = apart b other in
@@ -91,7 +91,7 @@ kind-alike row own is =
     ∙ ap (λ (b : Bool). let made : NodeKind = record { kind = driver_kind own.driver; writes = not b } in made) is.access
 
 -- the table's kinds are the graph's
-pub kinds_alike : (t : RunTable) (nodes : Nodes) → IsJoined nodes → AreApart t → ((id : ℕ) → AreAlike (node_by_id t id) (row_at nodes id))
+pub kinds_alike : (t : RunTable) (nodes : Nodes) → IsJoined nodes → HaveDistinctIds t → ((id : ℕ) → AreAlike (node_by_id t id) (row_at nodes id))
     → kinds_of t.nodes ≡ nodes.graph.kinds
 kinds_alike t nodes joined apart alike =
     ext_get_or no_kind (kinds_of t.nodes) nodes.graph.kinds

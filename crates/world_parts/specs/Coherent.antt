@@ -19,12 +19,13 @@ use Rattle.qmp_rules.specs.declared.rows.Device.{Device}
 use Rattle.qmp_rules.specs.declared.rows.NodeRecord.{NodeRecord}
 use Rattle.qmp_rules.specs.Table.{RunTable, node_by_id, device_by_number}
 use Rattle.qmp_rules.specs.Chains.{disk_node}
+use Rattle.qmp_rules.specs.Queries.{bytes_of_node}
 use Rattle.qmp_asks.specs.Values.{most_length}
 use Rattle.flat_machine.specs.Agreement.{HasDisk}
 use Rattle.flat_machine.specs.Bitmaps.{AreBitmapsOf}
 use Rattle.flat_machine.specs.Legal.{IsForbidden}
 use Rattle.flat_machine.specs.Wiring.{TableAtRest}
-use Rattle.flat_machine.specs.State.{Guest, drive_of, disk_of_guest, size_by_id, filename_of}
+use Rattle.flat_machine.specs.State.{Guest, drive_of, disk_of_guest, filename_of}
 use Rattle.world_parts.specs.Progress.{Progress, flight_at}
 use Rattle.world_parts.specs.Face.{WorldSeen, device_numbered}
 
@@ -78,7 +79,7 @@ pub record AreNodesOf (t : RunTable) (nodes : Nodes) : Type 0 where
 -- a request in flight lies within its guest's disk
 abbrev pub AreWithin : RunTable → List Guest → Type 0
 AreWithin t guests = (g : ℕ) (f : Flight) → flight_at guests g ≡ Some f
-    → With (disk_of_guest t g) (λ node. end_of (span_of f.op) ≤ size_by_id t node)
+    → With (disk_of_guest t g) (λ node. end_of (span_of f.op) ≤ bytes_of_node t node)
 
 -- and its guest has a device, which allows it
 abbrev pub AreAllowed : RunTable → List Guest → Type 0

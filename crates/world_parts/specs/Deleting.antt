@@ -17,7 +17,7 @@ use Rattle.qmp_rules.specs.Edits.{goes_with_node}
 use Rattle.qmp_rules.specs.Table.{RunTable, node_named, node_by_id, first_into}
 use Rattle.qmp_rules.specs.declared.rows.NodeRecord.{NodeRecord}
 use Rattle.qmp_rules.specs.declared.change.Change.TheVariants.{RemoveNode}
-use Rattle.flat_machine.specs.Wiring.{AreApart}
+use Rattle.flat_machine.specs.Wiring.{HaveDistinctIds}
 use Rattle.flat_machine.specs.State.{filename_of}
 use Rattle.world_parts.specs.Coherent.{AreNodesOf, AreOut}
 use Rattle.world_parts.specs.Face.{WorldSeen}
@@ -126,7 +126,7 @@ pub record IsOnlyUnder (t : RunTable) (row : NodeRecord) (over : ℕ) : Type 0 w
 -- how the table, the nodes and the openings belong together
 pub record Belong (t : RunTable) (x : Ground) : Type 0 where
   pub alike : AreNodesOf t x.nodes
-  pub apart : AreApart t
+  pub apart : HaveDistinctIds t
   pub inline : (row : NodeRecord) (over : ℕ) → Contains t.nodes row → row.made_with ≡ Some over
       → IsOnlyUnder t row over
   pub out : AreOut t x.nodes x.store.opened

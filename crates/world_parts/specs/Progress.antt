@@ -1,5 +1,5 @@
 -- The history of a run, and how far each guest is by it.
-use Rattle.std.specs.Prelude.{◌≡◌, ℕ, ◌+◌, ◌-◌, ◌^◌, ◌<◌, ◌≤◌, Bool, false, List, [], ◌∷◌, ◌++◌, length, map, replicate, slice_get, Option, Some, None, option_map, option_and_then, unwrap_or}
+use Rattle.std.specs.Prelude.{◌≡◌, ℕ, ◌+◌, ◌-◌, ◌^◌, ◌<◌, ◌≤◌, Bool, false, List, [], ◌∷◌, length, map, replicate, slice_get, Option, Some, None, option_map, option_and_then, unwrap_or}
 use Rattle.std.specs.List.{filter_map}
 use Rattle.blk_base.specs.declared.memory.Room.{Room}
 use Rattle.blk_base.specs.declared.fault.Outcome.{Outcome}

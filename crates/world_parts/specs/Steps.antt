@@ -9,8 +9,9 @@ use Rattle.blk_history.specs.Fold.{With}
 use Rattle.blk_history.specs.declared.event.Event.TheVariants.{Reached, Done}
 use Rattle.blk_nodes.specs.Nodes.{no_nodes}
 use Rattle.qmp_rules.specs.Table.{RunTable, device_by_number, opening_table}
+use Rattle.qmp_rules.specs.Queries.{bytes_of_node}
 use Rattle.flat_machine.specs.declared.opening.Opening.{Opening}
-use Rattle.flat_machine.specs.State.{Guest, disk_of_guest, size_by_id}
+use Rattle.flat_machine.specs.State.{Guest, disk_of_guest}
 use Rattle.flat_machine.specs.Legal.{IsNextJudged, CanAdmit, IsRefusedFor}
 use Rattle.flat_machine.specs.Marks.{after_reply, is_guest_held, none_drained}
 use Rattle.world_parts.specs.declared.admission.Admission.{Admission}
@@ -74,7 +75,7 @@ lifted w = record w { drains = after_reply w.drains }
 -- what a guest's requests are judged by
 pub record IsSeat (t : RunTable) (g : ℕ) (seat : Seat) : Type 0 where
   pub access : With (device_by_number t g) (λ device. seat.read_only ≡ device.read_only)
-  pub size_is : With (disk_of_guest t g) (λ node. seat.size ≡ size_by_id t node)
+  pub size_is : With (disk_of_guest t g) (λ node. seat.size ≡ bytes_of_node t node)
 
 abbrev pub after_admission : WorldSeen → ℕ → Op → Admission → WorldSeen
 after_admission w g op (Admitted r) = with_history w (with_admission g op)

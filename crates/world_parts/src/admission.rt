@@ -3,7 +3,7 @@ ghost use Rattle.std.specs.Prelude.{◌≡◌, MatchOption};
 ghost use Rattle.blk_history.specs.Disk.{is_write};
 ghost use Rattle.blk_history.specs.Fold.{With};
 ghost use Rattle.flat_machine.specs.Legal.{CanAdmit, IsRefusedFor};
-ghost use Rattle.flat_machine.specs.State.{disk_of_guest, size_by_id};
+ghost use Rattle.flat_machine.specs.State.{disk_of_guest};
 ghost use Rattle.qmp_rules.specs.Table.{device_by_number};
 ghost use Rattle.world_parts.specs.Coherent.{HaveDrives};
 ghost use Rattle.world_parts.specs.Steps.{IsSeat};

@@ -10,7 +10,7 @@ use Rattle.blk_history.specs.declared.event.Event.{Event}
 use Rattle.qblk_core.specs.Run.{Outside, guest_names}
 use Rattle.blk_nodes.specs.Nodes.{DeviceSeen}
 use Rattle.qblk_core.specs.ImageNodes.{device_faults, seen_device}
-use Rattle.qblk_core.specs.Session.{EndsAs}
+use Rattle.qblk_core.specs.Session.{EndsIoAs}
 use Rattle.qblk_core.proofs.Returned.{open_opening, none-out-back}
 use Rattle.qblk_core.proofs.Whole.{ends, stops, store-stands, sink-stands, ends-stands, closed-of}
 use Rattle.qblk_core.proofs.session.run_on.Goals as goal
@@ -39,7 +39,7 @@ returns-in-Ok-made-clause-ended g c =
     let device = subst P files1 c.in-Ok-open_image.ensures.device in
     let made = rw c.in-Ok-made.is at c.make_run-made.ensures.made in
     let w = made.1 in
-    let E : List Event → Type 0 = λ es. EndsAs c.in-Ok-made.made.fault old.sent new.sent (transcript guest_names es) old.sink_faults new.sink_faults c.write_out.result in
+    let E : List Event → Type 0 = λ es. EndsIoAs c.in-Ok-made.made.fault old.sent new.sent (transcript guest_names es) old.sink_faults new.sink_faults c.write_out.result in
     let end = subst E (ap (λ (l : Recorded). l.events) made.4) c.write_out.ensures in
     let files = c.give_back.ensures.files ∙ ap (files_with_returned c.args.image.now n.content n.capacity n.is_flushed) files2 in
     let opened = c.give_back.ensures.opened ∙ ap (given_back c.args.image.now n.faults) opened1 in
