@@ -341,15 +341,18 @@ module _ (nodes : Nodes) (joined : IsJoined nodes) (node : ℕ) (span : Extent) 
       by (Io dev count) fits = fits device.0 device.1
       by (NoSpace dev) fits =
           let full = fits device.0 device.1 in
-          inl record {
-            file = file;
-            edge = edge;
-            device = device.0;
-            held = device.1;
-            named = full.1;
-            full = of_image (row_at nodes node) into.row into.image (λ image. WriteFits image span device.0.capacity → ⊥) into.there into.driver
-                (λ fit. full.0 (fits_put device.0.capacity fit));
-          }
+          inr (
+            tt,
+            record {
+              file = file;
+              edge = edge;
+              device = device.0;
+              held = device.1;
+              named = full.1;
+              full = of_image (row_at nodes node) into.row into.image (λ image. WriteFits image span device.0.capacity → ⊥) into.there into.driver
+                  (λ fit. full.0 (fits_put device.0.capacity fit));
+            },
+          )
 
 -- ---- devices that tell their bytes
 

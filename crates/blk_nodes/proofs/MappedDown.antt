@@ -16,7 +16,7 @@ use Rattle.q2_image.specs.Image.{cluster_size_in, entry_in}
 use Rattle.q2_image.specs.Reading.{IsHost, IsWithinCluster}
 use Rattle.blk_nodes.specs.declared.row.Row.{Row}
 use Rattle.blk_nodes.specs.Contents.{disk_of}
-use Rattle.blk_nodes.specs.Copying.{AtEach, AtSome, GoesWhole, HasRoomIn, IsBeside, IsMappedAt, IsRoomInEach, LacksRoom, LacksRoomIn, StopsUnread, LeavesRest, MapsNext, MapsEach, images_met_in, puts_below}
+use Rattle.blk_nodes.specs.Copying.{AtEach, GoesWhole, HasRoomIn, IsBeside, IsMappedAt, IsRoomInEach, LacksRoom, LowestLacks, StopsUnread, LeavesRest, MapsNext, MapsEach, images_met_in, puts_below}
 use Rattle.blk_nodes.specs.Found.{IsReadOfSource}
 use Rattle.blk_nodes.specs.Joined.{IsJoined}
 use Rattle.blk_nodes.specs.Nodes.{Nodes, DeviceSeen, AreTold, row_at, size_by, node_size, file_of}
@@ -95,7 +95,7 @@ module _ (old : Nodes) (joined : IsJoined old) (turns left node next : ℕ) (spa
       more Good bad has = absurd (bad refl)
       more (Torn done dev count) bad has = has
       more (Io dev count) bad has = has
-      more (NoSpace dev) bad has = inr has
+      more (NoSpace dev) bad has = inl has
 
       by_stops : puts_here ≡ true → (room ≡ Good → ⊥) ⊎ (puts_here ≡ false) → IsRoomInEach (next ∷ below_ones) old span room
       by_stops is (inl bad) = more room bad has
@@ -111,9 +111,9 @@ module _ (old : Nodes) (joined : IsJoined old) (turns left node next : ℕ) (spa
       all_fit : AtEach (HasRoomIn old span) below_ones
       all_fit = subst (IsRoomInEach below_ones old span) good has
 
-      first : (dev : DevNo) → AtSome (LacksRoomIn old span dev) (next ∷ []) → AtSome (LacksRoomIn old span dev) (next ∷ below_ones)
-      first dev (inl lacks) = inl lacks
-      first dev (inr none) = absurd none
+      first : (dev : DevNo) → LowestLacks old span dev (next ∷ []) → LowestLacks old span dev (next ∷ below_ones)
+      first dev (inl none) = absurd none
+      first dev (inr lacks) = inr (all_fit, lacks.1)
 
       by : (o : Outcome) → IsRoomInEach (next ∷ []) old span o → IsRoomInEach (next ∷ below_ones) old span o
       by Good here = (here.0, all_fit)

@@ -71,10 +71,6 @@ abbrev pub AtEach : (ℕ → Type 0) → List ℕ → Type 0
 AtEach P [] = Unit {0}
 AtEach P (node ∷ nodes) = P node × AtEach P nodes
 
-abbrev pub AtSome : (ℕ → Type 0) → List ℕ → Type 0
-AtSome P [] = ⊥
-AtSome P (node ∷ nodes) = P node ⊎ AtSome P nodes
-
 -- Whether there is room for them.
 
 abbrev pub HasRoomIn : Nodes → Extent → ℕ → Type 0
@@ -90,11 +86,18 @@ pub record LacksRoomIn (nodes : Nodes) (span : Extent) (dev : DevNo) (node : ℕ
   pub named : dev ≡ device.number
   pub full : OfImage (row_at nodes node) (λ image. WriteFits image span device.capacity → ⊥)
 
+-- of these images the lowest whose device has none, which is the first that is asked
+abbrev pub LowestLacks : Nodes → Extent → DevNo → List ℕ → Type 0
+LowestLacks nodes span dev [] = ⊥
+LowestLacks nodes span dev (node ∷ below) =
+    LowestLacks nodes span dev below
+    ⊎ (AtEach (HasRoomIn nodes span) below × LacksRoomIn nodes span dev node)
+
 abbrev pub IsRoomInEach : List ℕ → Nodes → Extent → Outcome → Type 0
 IsRoomInEach images nodes span Good = AtEach (HasRoomIn nodes span) images
 IsRoomInEach images nodes span (Torn done dev count) = ⊥
 IsRoomInEach images nodes span (Io dev count) = ⊥
-IsRoomInEach images nodes span (NoSpace dev) = AtSome (LacksRoomIn nodes span dev) images
+IsRoomInEach images nodes span (NoSpace dev) = LowestLacks nodes span dev images
 
 -- What is written.
 
@@ -131,7 +134,7 @@ pub record LacksRoom (images : List ℕ) (old new : Nodes) (span : Extent) (outc
     : Type 0 where
   pub dev : DevNo
   pub is : outcome ≡ NoSpace dev
-  pub lacks : AtSome (LacksRoomIn old span dev) images
+  pub lacks : LowestLacks old span dev images
   pub same : new ≡ old
 
 -- the device that has the piece's bytes, below the node, stopped the read, and nothing was written

@@ -474,6 +474,7 @@ impl<D: Device> Nodes<D> {
         ensures outcome { IsReadBelow self.old self.new node result }
         ensures source { IsReadOfSource (source_at self.old node span.start) self.old.devices
             self.new.devices result }
+        ensures none { span.len ≡ 0 → (result ≡ Outcome.Good) × (self.new ≡ self.old) }
         ensures kept { self.new ≡ record self.old { devices = self.new.devices } }
         ensures devices { HaveRisen self.old.devices self.new.devices }
         ensures disks { (other : ℕ) → disk_of self.new other ≡ disk_of self.old other }

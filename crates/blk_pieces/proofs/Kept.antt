@@ -6,7 +6,7 @@ use Rattle.blk_base.specs.declared.fault.DevNo.{DevNo}
 use Rattle.blk_base.specs.declared.fault.Outcome.{Outcome}
 use Rattle.blk_base.specs.declared.fault.Outcome.TheVariants.{Good, NoSpace}
 use Rattle.blk_nodes.specs.Contents.{disk_of}
-use Rattle.blk_nodes.specs.Copying.{AtSome, LacksRoomIn, MapsNext, MapsEach, MapsOne, StopsUnread, images_met}
+use Rattle.blk_nodes.specs.Copying.{LacksRoomIn, LowestLacks, MapsNext, MapsEach, MapsOne, StopsUnread, images_met}
 use Rattle.blk_nodes.specs.Nodes.{Nodes, DeviceSeen}
 use Rattle.blk_nodes.specs.Reading.{HaveRisen, IsReadBelow}
 use Rattle.blk_nodes.proofs.Disks.{disks_risen}
@@ -46,7 +46,7 @@ module _ (old new : Nodes) (drive : ℕ) (part : Extent) (outcome : Outcome) (bu
   -- where no image is to keep it
   pub none_met : images_met old drive part.start ≡ [] → ReadsOnly old new drive outcome
   none_met none = elim did.went [
-    | inl lacks ↦ absurd (subst (AtSome (LacksRoomIn old part lacks.dev)) none lacks.lacks)
+    | inl lacks ↦ absurd (subst (LowestLacks old part lacks.dev) none lacks.lacks)
     | inr reads ↦ elim reads.went [
       | inl stops ↦ stopped_only old new drive part outcome stops
       | inr maps ↦
@@ -69,9 +69,9 @@ abbrev pub ReadsIntoOne : Nodes → Nodes → ℕ → ℕ → Extent → Outcome
 ReadsIntoOne old new drive node part outcome buffer =
     LacksItsRoom old new node part outcome ⊎ (StopsUnread old new drive part outcome ⊎ MapsOne old new node part buffer outcome)
 
-only_lacks : (old : Nodes) (part : Extent) (dev : DevNo) (node : ℕ) → AtSome (LacksRoomIn old part dev) (node ∷ []) → LacksRoomIn old part dev node
-only_lacks old part dev node (inl lacks) = lacks
-only_lacks old part dev node (inr none) = absurd none
+only_lacks : (old : Nodes) (part : Extent) (dev : DevNo) (node : ℕ) → LowestLacks old part dev (node ∷ []) → LacksRoomIn old part dev node
+only_lacks old part dev node (inl none) = absurd none
+only_lacks old part dev node (inr lacks) = lacks.1
 
 maps_first : (old new : Nodes) (node : ℕ) (part : Extent) (outcome : Outcome) (buffer : List ℕ) → MapsEach (node ∷ []) old new part buffer outcome
     → MapsOne old new node part buffer outcome
@@ -86,7 +86,7 @@ module _ (old new : Nodes) (drive : ℕ) (part : Extent) (outcome : Outcome) (bu
         inl (record {
           dev = lacks.dev;
           is = lacks.is;
-          lacks = only_lacks old part lacks.dev node (subst (AtSome (LacksRoomIn old part lacks.dev)) one lacks.lacks);
+          lacks = only_lacks old part lacks.dev node (subst (LowestLacks old part lacks.dev) one lacks.lacks);
           same = lacks.same;
         })
     | inr reads ↦ elim reads.went [

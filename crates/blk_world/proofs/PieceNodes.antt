@@ -15,7 +15,7 @@ use Rattle.blk_history.specs.Fold.{With}
 use Rattle.qmp_rules.specs.Table.{RunTable, node_by_id}
 use Rattle.qmp_rules.specs.declared.rows.NodeRecord.{NodeRecord}
 use Rattle.flat_machine.specs.EventLicence.{faulty_device}
-use Rattle.blk_nodes.specs.Copying.{AtSome, LacksRoomIn}
+use Rattle.blk_nodes.specs.Copying.{LowestLacks}
 use Rattle.blk_nodes.specs.Flushing.{base_in, base_of, HasFlushCause, IsFlushAt}
 use Rattle.blk_nodes.specs.Joined.{IsJoined}
 use Rattle.blk_nodes.specs.Nodes.{Nodes, DeviceSeen, row_at, device_in, file_of, driver_kind}
@@ -414,7 +414,7 @@ module _ (t : RunTable) (old new : Nodes) (drive node : ℕ) (part : Extent) (bu
       let own : full.room.dev ≡ dev = (let both : NoSpace dev ≡ NoSpace full.room.dev = full.room.is in cc both) in (
         full.room.dev,
         ap (λ (d : DevNo). d.0) own,
-        subst (AtSome (LacksRoomIn old part full.room.dev)) (sym full.copied.met) (inl full.room.lacks),
+        subst (LowestLacks old part full.room.dev) (sym full.copied.met) (inr (tt, full.room.lacks)),
       )
   read_full (inr (inr into)) = absurd into.maps.whole
 

@@ -11,7 +11,7 @@ use Rattle.blk_history.specs.Fold.{With}
 use Rattle.blk_history.specs.Machine.{Flight}
 use Rattle.blk_history.specs.declared.event.Event.{Event}
 use Rattle.blk_history.specs.declared.event.Event.TheVariants.{Piece}
-use Rattle.blk_nodes.specs.Copying.{AtSome, LacksRoomIn, images_met}
+use Rattle.blk_nodes.specs.Copying.{LowestLacks, images_met}
 use Rattle.blk_nodes.specs.Nodes.{Nodes, device_in, row_at}
 use Rattle.blk_nodes.specs.Writing.{own_file, own_start}
 use Rattle.blk_nodes.specs.declared.row.Driver.{Driver}
@@ -51,7 +51,7 @@ write_passes nodes node op part dev =
 -- or of an image below the drive into which a copy-on-read puts what is read
 abbrev pub read_passes : Nodes → ℕ → Extent → ℕ → Type 0
 read_passes nodes drive part dev = (number : DevNo) × (number.0 ≡ dev)
-    × AtSome (LacksRoomIn nodes part number) (images_met nodes drive part.start)
+    × LowestLacks nodes part number (images_met nodes drive part.start)
 
 -- a piece on a drive, which reads as the node
 abbrev pub piece_passes : Nodes → ℕ → ℕ → Op → Extent → ℕ → Type 0
