@@ -12,7 +12,7 @@ use Rattle.blk_bitmaps.specs.Calls.{with_first, without_first, with_source}
 use Rattle.blk_bitmaps.proofs.SetLemmas.{merged_self}
 
 -- what the definitions say of the first row that passes, at its place
-pub record At (test : Bitmap → Bool) (change : Bitmap → Bitmap) (rows : List Bitmap) (place : ℕ) (d : Bitmap) : Type 0 where
+pub record IsFirstRowAt (test : Bitmap → Bool) (change : Bitmap → Bitmap) (rows : List Bitmap) (place : ℕ) (d : Bitmap) : Type 0 where
   pub within : place < length rows
   pub found : first_row test rows ≡ Some (get_or rows place d)
   pub changed : with_first test change rows ≡ set rows place (change (get_or rows place d))
@@ -24,18 +24,18 @@ pub record Nowhere (test : Bitmap → Bool) (change : Bitmap → Bitmap) (rows :
   pub changed : with_first test change rows ≡ rows
 
 at : (test : Bitmap → Bool) (change : Bitmap → Bitmap) (rows : List Bitmap) (d : Bitmap) → position_or_len test rows < length rows
-    → At test change rows (position_or_len test rows) d
+    → IsFirstRowAt test change rows (position_or_len test rows) d
 at test change [] d h = absurd (omega arith)
 at test change (x ∷ xs) d h = go (test x) refl (at test change xs d)
   where
-    go : (b : Bool) → test x ≡ b → (position_or_len test xs < length xs → At test change xs (position_or_len test xs) d)
-        → At test change (x ∷ xs) (position_or_len test (x ∷ xs)) d
+    go : (b : Bool) → test x ≡ b → (position_or_len test xs < length xs → IsFirstRowAt test change xs (position_or_len test xs) d)
+        → IsFirstRowAt test change (x ∷ xs) (position_or_len test (x ∷ xs)) d
     go true e more =
         let place : position_or_len test (x ∷ xs) ≡ 0 = rw e refl in
         rw place (record { within = omega arith; found = rw e refl; changed = rw e refl; gone = rw e refl })
     go false e more =
         let place : position_or_len test (x ∷ xs) ≡ suc (position_or_len test xs) = rw e (omega arith) in
-        let rest : At test change xs (position_or_len test xs) d = more (omega arith) in
+        let rest : IsFirstRowAt test change xs (position_or_len test xs) d = more (omega arith) in
         rw place (record {
           within = omega arith;
           found = rw e rest.found;
@@ -56,7 +56,7 @@ nowhere test change (x ∷ xs) h = go (test x) refl (nowhere test change xs)
         let rest : Nowhere test change xs = more (omega arith) in
         record { found = rw e rest.found; changed = rw e (ap (λ r. x ∷ r) rest.changed) }
 
-pub placed : (test : Bitmap → Bool) (change : Bitmap → Bitmap) (rows : List Bitmap) (place : ℕ) (d : Bitmap) → position test rows ≡ Some place → At test change rows place d
+pub placed : (test : Bitmap → Bool) (change : Bitmap → Bitmap) (rows : List Bitmap) (place : ℕ) (d : Bitmap) → position test rows ≡ Some place → IsFirstRowAt test change rows place d
 placed test change rows place d is = elim (cases_lt (position_or_len test rows) (length rows)) [
   | inl below ↦
       let e : nat_lt (position_or_len test rows) (length rows) ≡ true = grind (arith, nat_tests) in

@@ -8,7 +8,7 @@ use Rattle.std.proofs.lemmas.List.{nil_from_length, length-drop, same_lists, get
 use Rattle.std.proofs.lemmas.List.Sums.{sum_by-cons, sum_by-take-drop, count_by-le-length}
 use Rattle.blk_bits.specs.Granules.{member_count}
 use Rattle.blk_bits.specs.Words.{word_count, words_of_bits}
-use Rattle.blk_bits.proofs.LevelLemmas.{Keeps, words-kept}
+use Rattle.blk_bits.proofs.LevelLemmas.{WordsKeep, words-kept}
 
 ones-part : (bits : List Bool) → count_ones (mask_l bits) ≡ member_count bits
 unfolding lib.Count.ones
@@ -37,7 +37,7 @@ by_parts set a (suc n) =
     let end = ap (λ i. member_count (drop i set)) (let e : 64 * (a + 1 + n) ≡ 64 * (a + suc n) = omega arith in e) in
     omega (arith, first, rest, ones, split, behind, end)
 
-pub count-kept : (set : List Bool) (words : List ℕ) → Keeps set words → sum_by count_ones words ≡ member_count set
+pub count-kept : (set : List Bool) (words : List ℕ) → WordsKeep set words → sum_by count_ones words ≡ member_count set
 unfolding words_of_bits
 count-kept set words keeps =
     let parts = by_parts set 0 (word_count (length set)) in

@@ -10,14 +10,14 @@ use Rattle.std.proofs.lemmas.Nat.Bits.{bit_at-lt, bit_at-zero, bit_at_above, bit
 use Rattle.std.proofs.lemmas.List.{get_or_past}
 use Rattle.blk_bits.specs.Granules.{contains, LeastFrom, HasNoneFrom}
 use Rattle.blk_bits.specs.Words.{word_count, used_words, has_bit}
-use Rattle.blk_bits.proofs.LevelLemmas.{Keeps, used-kept, no_bit, unused-none, length-used_words}
+use Rattle.blk_bits.proofs.LevelLemmas.{WordsKeep, used-kept, no_bit, unused-none, length-used_words}
 
 -- the bits of a shifted word
 pub shifted : (word s i : ℕ) → bit_at (word / 2 ^ s) i ≡ bit_at word (s + i)
 shifted word s i = ap (λ n. n % 2) (div-div-eq-div-mul word (2 ^ s) (2 ^ i) ∙ ap (λ d. word / d) (sym (pow-add 2 s i)))
 
 -- a member, by its bit in the word that is shifted to a place before it
-pub ahead-kept : (set : List Bool) (words : List ℕ) → Keeps set words → (from k : ℕ) → from ≤ k → k / 64 ≡ from / 64
+pub ahead-kept : (set : List Bool) (words : List ℕ) → WordsKeep set words → (from k : ℕ) → from ≤ k → k / 64 ≡ from / 64
     → eqb (bit_at (get_or words (from / 64) 0 / 2 ^ (from % 64)) (k - from)) 1 ≡ contains set k
 ahead-kept set words keeps from k past same =
     let place : from % 64 + (k - from) ≡ k % 64 = omega arith in
@@ -26,14 +26,14 @@ ahead-kept set words keeps from k past same =
     rw (shifted (get_or words (from / 64) 0) (from % 64) (k - from), place) (rw at at is)
 
 -- no member is in what is left of a word
-pub none-left : (set : List Bool) (words : List ℕ) → Keeps set words → (from : ℕ) → get_or words (from / 64) 0 / 2 ^ (from % 64) ≡ 0
+pub none-left : (set : List Bool) (words : List ℕ) → WordsKeep set words → (from : ℕ) → get_or words (from / 64) 0 / 2 ^ (from % 64) ≡ 0
     → (k : ℕ) → from ≤ k → k / 64 ≡ from / 64 → contains set k ≡ false
 none-left set words keeps from zero k past same =
     let is = ahead-kept set words keeps from k past same in
     let bit : bit_at (get_or words (from / 64) 0 / 2 ^ (from % 64)) (k - from) ≡ 0 = ap (λ w. bit_at w (k - from)) zero ∙ bit_at-zero (k - from) in
     sym is ∙ ap (λ b. eqb b 1) bit
 
-pub none-behind : (set : List Bool) (words : List ℕ) → Keeps set words → (from : ℕ) → length words ≤ from / 64
+pub none-behind : (set : List Bool) (words : List ℕ) → WordsKeep set words → (from : ℕ) → length words ≤ from / 64
     → (k : ℕ) → from ≤ k → k / 64 ≡ from / 64 → contains set k ≡ false
 none-behind set words keeps from behind k past same =
     sym (keeps.bit k) ∙ no_bit words k (get_or_past words (k / 64) 0 (omega arith))
@@ -52,7 +52,7 @@ div-le : (word s : ℕ) → word / 2 ^ s ≤ word
 div-le word s = div-le_self word (2 ^ s)
 
 -- the lowest bit that is left is the least member
-pub least-left : (set : List Bool) (words : List ℕ) → Keeps set words → (from : ℕ) → 0 < get_or words (from / 64) 0 / 2 ^ (from % 64)
+pub least-left : (set : List Bool) (words : List ℕ) → WordsKeep set words → (from : ℕ) → 0 < get_or words (from / 64) 0 / 2 ^ (from % 64)
     → (from % 64 + trailing_zeros w64 (get_or words (from / 64) 0 / 2 ^ (from % 64)) < 64)
     × LeastFrom set from (from + trailing_zeros w64 (get_or words (from / 64) 0 / 2 ^ (from % 64)))
 least-left set words keeps from some =
@@ -101,7 +101,7 @@ some_ones ahead fits one = elim (cases_lt (ahead + 1) (2 ^ 64)) [
     positive : (n : ℕ) → (n ≡ 0 → ⊥) → 0 < n
     positive n some = omega arith
 
-pub run-left : (set : List Bool) (words : List ℕ) → Keeps set words → (from : ℕ) → contains set from ≡ true
+pub run-left : (set : List Bool) (words : List ℕ) → WordsKeep set words → (from : ℕ) → contains set from ≡ true
     → (0 < trailing_ones w64 (get_or words (from / 64) 0 / 2 ^ (from % 64)))
     × ((k : ℕ) → from ≤ k → k < from + trailing_ones w64 (get_or words (from / 64) 0 / 2 ^ (from % 64)) → contains set k ≡ true)
 run-left set words keeps from there =
@@ -129,11 +129,11 @@ member-below set k there = elim (cases_lt k (length set)) [
     differ e = cc
 
 -- one granule by its bit
-pub bit-tested : (set : List Bool) (words : List ℕ) → Keeps set words → (k : ℕ) → eqb (bit_and (get_or words (k / 64) 0 / 2 ^ (k % 64)) 1) 1 ≡ contains set k
+pub bit-tested : (set : List Bool) (words : List ℕ) → WordsKeep set words → (k : ℕ) → eqb (bit_and (get_or words (k / 64) 0 / 2 ^ (k % 64)) 1) 1 ≡ contains set k
 bit-tested set words keeps k = ap (λ b. eqb b 1) (shr_and_one (get_or words (k / 64) 0) (k % 64)) ∙ keeps.bit k
 
 -- the word of a level that says that it isn't 0 is there, and isn't 0
-pub used-word : (set : List Bool) (words : List ℕ) → Keeps set words → (w : ℕ) → contains (used_words set) w ≡ true → (w < length words) × (0 < get_or words w 0)
+pub used-word : (set : List Bool) (words : List ℕ) → WordsKeep set words → (w : ℕ) → contains (used_words set) w ≡ true → (w < length words) × (0 < get_or words w 0)
 used-word set words keeps w there = (
   omega (arith, keeps.count, length-used_words set, member-below (used_words set) w there),
   positive (get_or words w 0) (sym (used-kept set words keeps w) ∙ there),
@@ -165,7 +165,7 @@ least-above set from word least here above found = record {
 }
 
 -- the least member in a word that isn't 0
-pub least-in-word : (set : List Bool) (words : List ℕ) → Keeps set words → (w : ℕ) → 0 < get_or words w 0
+pub least-in-word : (set : List Bool) (words : List ℕ) → WordsKeep set words → (w : ℕ) → 0 < get_or words w 0
     → LeastFrom set (64 * w) (64 * w + trailing_zeros w64 (get_or words w 0))
 least-in-word set words keeps w some =
     let word : (64 * w) / 64 ≡ w = omega arith in

@@ -17,7 +17,7 @@ use Rattle.blk_bits.specs.Words.{word_count, words_of_bits, used_words, has_bit,
 use Rattle.blk_bits.proofs.GranuleLemmas.{contains-those_below}
 
 -- some words keep these truth values
-pub record Keeps (set : List Bool) (words : List ℕ) : Type 0 where
+pub record WordsKeep (set : List Bool) (words : List ℕ) : Type 0 where
   pub count : length words ≡ word_count (length set)
   pub bit : (k : ℕ) → has_bit words k ≡ contains set k
   pub fits : (k : ℕ) → get_or words k 0 < 2 ^ 64
@@ -25,7 +25,7 @@ pub record Keeps (set : List Bool) (words : List ℕ) : Type 0 where
 pub length-bits_in : (count : ℕ) (words : List ℕ) → length (bits_in count words) ≡ count
 length-bits_in count words = length-map-range_with_len (has_bit words) 0 count
 
-pub keeps-bits_in : (count : ℕ) (words : List ℕ) → HasWords count words → Keeps (bits_in count words) words
+pub keeps-bits_in : (count : ℕ) (words : List ℕ) → HasWords count words → WordsKeep (bits_in count words) words
 keeps-bits_in count words has = record {
   count = has.enough ∙ ap word_count (sym (length-bits_in count words));
   bit = λ k. elim (cases_lt k count) [
@@ -35,10 +35,10 @@ keeps-bits_in count words has = record {
   fits = has.fits;
 }
 
-pub bits_in-kept : (set : List Bool) (count : ℕ) (words : List ℕ) → Keeps set words → count ≡ length set → bits_in count words ≡ set
+pub bits_in-kept : (set : List Bool) (count : ℕ) (words : List ℕ) → WordsKeep set words → count ≡ length set → bits_in count words ≡ set
 bits_in-kept set count words keeps is = sym (fill_by_all (has_bit words) set count false (sym is) (λ k below. sym (keeps.bit k)))
 
-pub has-words : (set : List Bool) (count : ℕ) (words : List ℕ) → Keeps set words → count ≡ length set → count < 2 ^ 64 → HasWords count words
+pub has-words : (set : List Bool) (count : ℕ) (words : List ℕ) → WordsKeep set words → count ≡ length set → count < 2 ^ 64 → HasWords count words
 has-words set count words keeps is small = record {
   enough = keeps.count ∙ ap word_count (sym is);
   spare = λ k past. keeps.bit k ∙ get_or_past set k false (omega arith);
@@ -51,14 +51,14 @@ one_bit bit true below is = grind (arith, nat_tests)
 one_bit bit false below is = grind (arith, nat_tests)
 
 -- bit i of word w
-pub bit-kept : (set : List Bool) (words : List ℕ) → Keeps set words → (w i : ℕ) → i < 64 → eqb (bit_at (get_or words w 0) i) 1 ≡ contains set (64 * w + i)
+pub bit-kept : (set : List Bool) (words : List ℕ) → WordsKeep set words → (w i : ℕ) → i < 64 → eqb (bit_at (get_or words w 0) i) 1 ≡ contains set (64 * w + i)
 bit-kept set words keeps w i below =
     let word : (64 * w + i) / 64 ≡ w = omega arith in
     let place : (64 * w + i) % 64 ≡ i = omega arith in
     let is = keeps.bit (64 * w + i) in
     rw (word, place) at is
 
-pub words-kept : (set : List Bool) (words : List ℕ) → Keeps set words → words ≡ words_of_bits set
+pub words-kept : (set : List Bool) (words : List ℕ) → WordsKeep set words → words ≡ words_of_bits set
 unfolding words_of_bits
 words-kept set words keeps =
     fill_by_all (λ w. mask_l (take (64 * w + 64 - 64 * w) (drop (64 * w) set))) words (word_count (length set)) 0 keeps.count
@@ -81,13 +81,13 @@ length-used_words set =
     length-map (words_of_bits set) (λ word. not (eqb word 0))
     ∙ length-map-range_with_len (λ w. mask_l (take (64 * w + 64 - 64 * w) (drop (64 * w) set))) 0 (word_count (length set))
 
-pub used-kept : (set : List Bool) (words : List ℕ) → Keeps set words → (i : ℕ) → contains (used_words set) i ≡ not (eqb (get_or words i 0) 0)
+pub used-kept : (set : List Bool) (words : List ℕ) → WordsKeep set words → (i : ℕ) → contains (used_words set) i ≡ not (eqb (get_or words i 0) 0)
 unfolding used_words
 used-kept set words keeps i =
     get_or-map (λ word. not (eqb word 0)) (words_of_bits set) i 0 ∙ ap (λ ws. not (eqb (get_or ws i 0) 0)) (sym (words-kept set words keeps))
 
 -- the words of some truth values keep them
-pub keeps-words_of : (set : List Bool) → Keeps set (words_of_bits set)
+pub keeps-words_of : (set : List Bool) → WordsKeep set (words_of_bits set)
 unfolding words_of_bits
 keeps-words_of set = record {
   count = length-map-range_with_len part_word 0 (word_count (length set));

@@ -154,7 +154,7 @@ or-other : (a b : Bool) → a ≡ false → (a || b) ≡ true → b ≡ true
 or-other a b none e = rw none at e
 
 -- one run of members of the other set, what it overlaps, and which granules need no look because of it
-pub record IsRun (ratio : Ratio) (set other : List Bool) (seen from to s t next : ℕ) : Type 0 where
+pub record IsRunOfMembers (ratio : Ratio) (set other : List Bool) (seen from to s t next : ℕ) : Type 0 where
   pub some : 0 < ratio.mine
   pub least : LeastFrom other seen from
   pub order : from < to
@@ -164,7 +164,7 @@ pub record IsRun (ratio : Ratio) (set other : List Bool) (seen from to s t next 
   pub further : to ≤ next
   pub covered : (j : ℕ) → to ≤ j → j < next → ratio.theirs * (j + 1) ≤ ratio.mine * t
 
-run-adds : (ratio : Ratio) (set other : List Bool) (seen from to s t next k : ℕ) → IsRun ratio set other seen from to s t next → k < length set
+run-adds : (ratio : Ratio) (set other : List Bool) (seen from to s t next k : ℕ) → IsRunOfMembers ratio set other seen from to s t next → k < length set
     → (overlaps_member ratio other k seen || in_span s t k) ≡ true → overlaps_member ratio other k next ≡ true
 run-adds ratio set other seen from to s t next k run below is = elim (cases_Bool (overlaps_member ratio other k seen)) [
   | inl before ↦
@@ -177,7 +177,7 @@ run-adds ratio set other seen from to s t next k run below is = elim (cases_Bool
       overlapped-by ratio other k next w.0 (omega (arith, w.2, run.further)) (run.members w.0 w.1 w.2) (overlaps-is ratio k w.0 w.3 w.4)
 ]
 
-run-behind : (ratio : Ratio) (set other : List Bool) (seen from to s t next k j : ℕ) → IsRun ratio set other seen from to s t next → k < length set
+run-behind : (ratio : Ratio) (set other : List Bool) (seen from to s t next k j : ℕ) → IsRunOfMembers ratio set other seen from to s t next → k < length set
     → from ≤ j → j < next → overlaps ratio k j ≡ true → in_span s t k ≡ true
 run-behind ratio set other seen from to s t next k j run below past before over =
     let end = ended (cases_lt j to) in
@@ -189,7 +189,7 @@ run-behind ratio set other seen from to s t next k j run below past before over 
         (run.ends k below).1 (omega (arith, far, overlaps-ends ratio k j over))
     ended (inr behind) = less ratio.mine k t (omega (arith, overlaps-ends ratio k j over, run.covered j behind before))
 
-run-all : (ratio : Ratio) (set other : List Bool) (seen from to s t next k : ℕ) → IsRun ratio set other seen from to s t next → k < length set
+run-all : (ratio : Ratio) (set other : List Bool) (seen from to s t next k : ℕ) → IsRunOfMembers ratio set other seen from to s t next → k < length set
     → overlaps_member ratio other k next ≡ true → (overlaps_member ratio other k seen || in_span s t k) ≡ true
 run-all ratio set other seen from to s t next k run below is =
     let w = overlapping ratio other k next is in
@@ -209,7 +209,7 @@ regroup true b c d e = refl
 regroup false b c d e = e
 
 -- one run more
-pub merged-run : (ratio : Ratio) (set other mid new : List Bool) (seen from to s t next : ℕ) → IsRun ratio set other seen from to s t next
+pub merged-run : (ratio : Ratio) (set other mid new : List Bool) (seen from to s t next : ℕ) → IsRunOfMembers ratio set other seen from to s t next
     → mid ≡ those_below (length set) (λ k. contains set k || overlaps_member ratio other k seen) → new ≡ with_span mid s t
     → new ≡ those_below (length set) (λ k. contains set k || overlaps_member ratio other k next)
 merged-run ratio set other mid new seen from to s t next run mid-is new-is =

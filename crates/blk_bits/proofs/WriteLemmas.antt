@@ -13,7 +13,7 @@ use Rattle.std.proofs.lemmas.List.FromFn.{length-map-range_with_len}
 use Rattle.blk_bits.specs.Granules.{contains, in_span, those_below, with_span, without_span}
 use Rattle.blk_bits.specs.Words.{word_count, used_words, has_bit, bits_in, HasWords, with_written, either, lacks}
 use Rattle.blk_bits.proofs.GranuleLemmas.{contains-those_below}
-use Rattle.blk_bits.proofs.LevelLemmas.{Keeps, keeps-bits_in, bits_in-kept, has-words, length-bits_in, length-used_words, used-kept, word_zero, word_same, no_bit}
+use Rattle.blk_bits.proofs.LevelLemmas.{WordsKeep, keeps-bits_in, bits_in-kept, has-words, length-bits_in, length-used_words, used-kept, word_zero, word_same, no_bit}
 
 pub length-with_written : (set : List Bool) (from to : ℕ) (value : Bool) → length (with_written set from to value) ≡ length set
 length-with_written set from to true = length-map-range_with_len (λ k. contains set k || in_span from to k) 0 (length set)
@@ -57,9 +57,9 @@ nothing_written set from value within = same_sets set (with_written set from fro
     let outside : in_span from from k ≡ false = grind (arith, nat_tests) in
     sym (with_written-at set from from k value within ∙ rw outside refl))
 
-pub keeps-written : (set : List Bool) (old new : List ℕ) (from to : ℕ) (value : Bool) → Keeps set old → to ≤ length set → length new ≡ length old
+pub keeps-written : (set : List Bool) (old new : List ℕ) (from to : ℕ) (value : Bool) → WordsKeep set old → to ≤ length set → length new ≡ length old
     → ((k : ℕ) → has_bit new k ≡ (if in_span from to k then value else has_bit old k)) → ((k : ℕ) → get_or new k 0 < 2 ^ 64)
-    → Keeps (with_written set from to value) new
+    → WordsKeep (with_written set from to value) new
 keeps-written set old new from to value keeps within size bits fits = record {
   count = size ∙ keeps.count ∙ ap word_count (sym (length-with_written set from to value));
   bit = λ k.
@@ -196,7 +196,7 @@ turned old new from to i f t false old-fits new-fits bits some f-is t-is (inr fi
         rw (within, zero) refl
 
 -- the words that a write of a span turns, as a span
-pub used-written : (set : List Bool) (old new : List ℕ) (from to f t : ℕ) (value : Bool) → Keeps set old → Keeps (with_written set from to value) new
+pub used-written : (set : List Bool) (old new : List ℕ) (from to f t : ℕ) (value : Bool) → WordsKeep set old → WordsKeep (with_written set from to value) new
     → ((k : ℕ) → has_bit new k ≡ (if in_span from to k then value else has_bit old k)) → from < to → to ≤ length set
     → f ≡ from / 64 + lacks (get_or new (from / 64) 0) value
     → t ≡ max ((to - 1) / 64 + 1 - lacks (get_or new ((to - 1) / 64) 0) value) f
@@ -230,8 +230,8 @@ either-at set other k count = elim (cases_lt k (length set)) [
       rw (none, mine, theirs) refl
 ]
 
-pub keeps-either : (set other : List Bool) (old words new : List ℕ) → Keeps set old → Keeps other words → length set ≡ length other → length new ≡ length old
-    → ((k : ℕ) → has_bit new k ≡ (has_bit old k || has_bit words k)) → ((k : ℕ) → get_or new k 0 < 2 ^ 64) → Keeps (either set other) new
+pub keeps-either : (set other : List Bool) (old words new : List ℕ) → WordsKeep set old → WordsKeep other words → length set ≡ length other → length new ≡ length old
+    → ((k : ℕ) → has_bit new k ≡ (has_bit old k || has_bit words k)) → ((k : ℕ) → get_or new k 0 < 2 ^ 64) → WordsKeep (either set other) new
 keeps-either set other old words new keeps keeps-other count size bits fits = record {
   count = size ∙ keeps.count ∙ ap word_count (sym (length-either set other));
   bit = λ k.
@@ -276,7 +276,7 @@ either_used old words new i old-fits words-fits new-fits bits = parts (cases_eq 
     parts (inr used) (inr old-used) b = grind (arith, nat_tests)
     parts (inr used) (inl old-zero) (inr words-used) = grind (arith, nat_tests)
 
-pub used-either : (set other : List Bool) (old words new : List ℕ) → Keeps set old → Keeps other words → Keeps (either set other) new → length set ≡ length other
+pub used-either : (set other : List Bool) (old words new : List ℕ) → WordsKeep set old → WordsKeep other words → WordsKeep (either set other) new → length set ≡ length other
     → ((k : ℕ) → has_bit new k ≡ (has_bit old k || has_bit words k)) → used_words (either set other) ≡ either (used_words set) (used_words other)
 used-either set other old words new keeps keeps-other keeps-new count bits =
     let counts : length (used_words other) ≡ length (used_words set) = length-used_words other ∙ ap word_count (sym count) ∙ sym (length-used_words set) in
@@ -294,7 +294,7 @@ put_back items new n size is =
     rw (none, append-nil) (ap (λ i. take i new) all ∙ take-length new)
 
 -- a span of the words that keep a set was written
-pub record IsWritten (set : List Bool) (count : ℕ) (old new : List ℕ) (from to : ℕ) (value : Bool) : Type 0 where
+pub record AreWordsWritten (set : List Bool) (count : ℕ) (old new : List ℕ) (from to : ℕ) (value : Bool) : Type 0 where
   pub view : bits_in count old ≡ set
   pub has : HasWords count old
   pub size : length new ≡ length old
@@ -303,28 +303,28 @@ pub record IsWritten (set : List Bool) (count : ℕ) (old new : List ℕ) (from 
   pub some : from < to
   pub within : to ≤ length set
 
-pub written-before : (set : List Bool) (count : ℕ) (old new : List ℕ) (from to : ℕ) (value : Bool) → IsWritten set count old new from to value → Keeps set old
-written-before set count old new from to value is = subst (λ s. Keeps s old) is.view (keeps-bits_in count old is.has)
+pub written-before : (set : List Bool) (count : ℕ) (old new : List ℕ) (from to : ℕ) (value : Bool) → AreWordsWritten set count old new from to value → WordsKeep set old
+written-before set count old new from to value is = subst (λ s. WordsKeep s old) is.view (keeps-bits_in count old is.has)
 
-pub written-after : (set : List Bool) (count : ℕ) (old new : List ℕ) (from to : ℕ) (value : Bool) → IsWritten set count old new from to value
-    → Keeps (with_written set from to value) new
+pub written-after : (set : List Bool) (count : ℕ) (old new : List ℕ) (from to : ℕ) (value : Bool) → AreWordsWritten set count old new from to value
+    → WordsKeep (with_written set from to value) new
 written-after set count old new from to value is =
     keeps-written set old new from to value (written-before set count old new from to value is) is.within is.size is.bits is.fits
 
-written-count : (set : List Bool) (count : ℕ) (old new : List ℕ) (from to : ℕ) (value : Bool) → IsWritten set count old new from to value
+written-count : (set : List Bool) (count : ℕ) (old new : List ℕ) (from to : ℕ) (value : Bool) → AreWordsWritten set count old new from to value
     → count ≡ length (with_written set from to value)
 written-count set count old new from to value is = sym (length-bits_in count old) ∙ ap length is.view ∙ sym (length-with_written set from to value)
 
-pub written-has : (set : List Bool) (count : ℕ) (old new : List ℕ) (from to : ℕ) (value : Bool) → IsWritten set count old new from to value → HasWords count new
+pub written-has : (set : List Bool) (count : ℕ) (old new : List ℕ) (from to : ℕ) (value : Bool) → AreWordsWritten set count old new from to value → HasWords count new
 written-has set count old new from to value is =
     has-words (with_written set from to value) count new (written-after set count old new from to value is) (written-count set count old new from to value is) is.has.small
 
-pub written-view : (set : List Bool) (count : ℕ) (old new : List ℕ) (from to : ℕ) (value : Bool) → IsWritten set count old new from to value
+pub written-view : (set : List Bool) (count : ℕ) (old new : List ℕ) (from to : ℕ) (value : Bool) → AreWordsWritten set count old new from to value
     → bits_in count new ≡ with_written set from to value
 written-view set count old new from to value is =
     bits_in-kept (with_written set from to value) count new (written-after set count old new from to value is) (written-count set count old new from to value is)
 
-pub written-used : (set : List Bool) (count : ℕ) (old new : List ℕ) (from to f t : ℕ) (value : Bool) → IsWritten set count old new from to value
+pub written-used : (set : List Bool) (count : ℕ) (old new : List ℕ) (from to f t : ℕ) (value : Bool) → AreWordsWritten set count old new from to value
     → f ≡ from / 64 + lacks (get_or new (from / 64) 0) value
     → t ≡ max ((to - 1) / 64 + 1 - lacks (get_or new ((to - 1) / 64) 0) value) f
     → used_words (bits_in count new) ≡ with_written (used_words set) f t value
@@ -351,34 +351,34 @@ bits-joined old words new count size joined k = elim (cases_lt (k / 64) (length 
     greater a b a-below b-below = grind (arith, nat_tests)
 
 -- the words of a set of as many were joined to those that keep a set
-pub record IsJoined (set other : List Bool) (count : ℕ) (old words new : List ℕ) : Type 0 where
+pub record AreWordsJoined (set other : List Bool) (count : ℕ) (old words new : List ℕ) : Type 0 where
   pub view : bits_in count old ≡ set
   pub has : HasWords count old
-  pub keeps : Keeps other words
+  pub keeps : WordsKeep other words
   pub same : length set ≡ length other
   pub size : length new ≡ length old
   pub bits : (k : ℕ) → has_bit new k ≡ (has_bit old k || has_bit words k)
   pub fits : (k : ℕ) → get_or new k 0 < 2 ^ 64
 
-pub joined-before : (set other : List Bool) (count : ℕ) (old words new : List ℕ) → IsJoined set other count old words new → Keeps set old
-joined-before set other count old words new is = subst (λ s. Keeps s old) is.view (keeps-bits_in count old is.has)
+pub joined-before : (set other : List Bool) (count : ℕ) (old words new : List ℕ) → AreWordsJoined set other count old words new → WordsKeep set old
+joined-before set other count old words new is = subst (λ s. WordsKeep s old) is.view (keeps-bits_in count old is.has)
 
-pub joined-after : (set other : List Bool) (count : ℕ) (old words new : List ℕ) → IsJoined set other count old words new → Keeps (either set other) new
+pub joined-after : (set other : List Bool) (count : ℕ) (old words new : List ℕ) → AreWordsJoined set other count old words new → WordsKeep (either set other) new
 joined-after set other count old words new is =
     keeps-either set other old words new (joined-before set other count old words new is) is.keeps is.same is.size is.bits is.fits
 
-pub joined-count : (set other : List Bool) (count : ℕ) (old words new : List ℕ) → IsJoined set other count old words new → count ≡ length (either set other)
+pub joined-count : (set other : List Bool) (count : ℕ) (old words new : List ℕ) → AreWordsJoined set other count old words new → count ≡ length (either set other)
 joined-count set other count old words new is = sym (length-bits_in count old) ∙ ap length is.view ∙ sym (length-either set other)
 
-pub joined-has : (set other : List Bool) (count : ℕ) (old words new : List ℕ) → IsJoined set other count old words new → HasWords count new
+pub joined-has : (set other : List Bool) (count : ℕ) (old words new : List ℕ) → AreWordsJoined set other count old words new → HasWords count new
 joined-has set other count old words new is =
     has-words (either set other) count new (joined-after set other count old words new is) (joined-count set other count old words new is) is.has.small
 
-pub joined-view : (set other : List Bool) (count : ℕ) (old words new : List ℕ) → IsJoined set other count old words new → bits_in count new ≡ either set other
+pub joined-view : (set other : List Bool) (count : ℕ) (old words new : List ℕ) → AreWordsJoined set other count old words new → bits_in count new ≡ either set other
 joined-view set other count old words new is =
     bits_in-kept (either set other) count new (joined-after set other count old words new is) (joined-count set other count old words new is)
 
-pub joined-used : (set other : List Bool) (count : ℕ) (old words new : List ℕ) → IsJoined set other count old words new
+pub joined-used : (set other : List Bool) (count : ℕ) (old words new : List ℕ) → AreWordsJoined set other count old words new
     → used_words (bits_in count new) ≡ either (used_words set) (used_words other)
 joined-used set other count old words new is =
     ap used_words (joined-view set other count old words new is)

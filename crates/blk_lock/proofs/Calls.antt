@@ -69,24 +69,24 @@ has_turn P None stage fits h = absurd h
 has_turn P (Some had) stage fits h = is_out_with (Some had) had stage fits refl
 
 module _ {W E O : Type 0} where
-  abbrev pub held : Known E O → W → Me (Option W) (Known E O)
-  held p world = (p, (0, Some world) ∷ [])
+  abbrev pub me_holding : Known E O → W → Me (Option W) (Known E O)
+  me_holding p world = (p, (0, Some world) ∷ [])
 
   -- the value is in hand again
-  pub handed : (m n : Me (Option W) (Known E O)) (world : W) → m.1 ≡ (0, None) ∷ [] → n ≡ (m.0, (0, Some world) ∷ rest m.1) → n ≡ held m.0 world
+  pub handed : (m n : Me (Option W) (Known E O)) (world : W) → m.1 ≡ (0, None) ∷ [] → n ≡ (m.0, (0, Some world) ∷ rest m.1) → n ≡ me_holding m.0 world
   handed m n world empty is = is ∙ ap (λ (l : List (ℕ × Option W)). (m.0, (0, Some world) ∷ rest l)) empty
 
 module _ {W E O : Type 0} (history : W → List E) (spare : W → Room) where
-  abbrev pub counted : Known E O → W → Me (Option W) (Known E O)
-  counted p world = held (counted_known (made_since p.view.seen (history world)) (spare world) p) world
+  abbrev pub me_counted : Known E O → W → Me (Option W) (Known E O)
+  me_counted p world = me_holding (counted_known (made_since p.view.seen (history world)) (spare world) p) world
 
-  pub counted_as : (p : Known E O) (m n : Me (Option W) (Known E O)) (world : W) → m ≡ held p world → CountsMade history spare m n → n ≡ counted p world
+  pub counted_as : (p : Known E O) (m n : Me (Option W) (Known E O)) (world : W) → m ≡ me_holding p world → CountsMade history spare m n → n ≡ me_counted p world
   counted_as p m n world is h =
-      let k : CountsMade history spare (held p world) n = subst (λ (z : Me (Option W) (Known E O)). CountsMade history spare z n) is h in k.after world refl
+      let k : CountsMade history spare (me_holding p world) n = subst (λ (z : Me (Option W) (Known E O)). CountsMade history spare z n) is h in k.after world refl
 
-  pub counted_named : (p : Known E O) (m n : Me (Option W) (Known E O)) (world : W) → m ≡ held p world → CountsMade history spare m n → is_among p.view.names p.view.name ≡ true
+  pub counted_named : (p : Known E O) (m n : Me (Option W) (Known E O)) (world : W) → m ≡ me_holding p world → CountsMade history spare m n → is_among p.view.names p.view.name ≡ true
   counted_named p m n world is h =
-      let k : CountsMade history spare (held p world) n = subst (λ (z : Me (Option W) (Known E O)). CountsMade history spare z n) is h in k.named
+      let k : CountsMade history spare (me_holding p world) n = subst (λ (z : Me (Option W) (Known E O)). CountsMade history spare z n) is h in k.named
 
 module _ {W E O : Type 0} (history : W → List E) (actor : E → Option ℕ) (spare : W → Room) (comes : W → O → Type 0) where
   abbrev M : Type 0
@@ -112,13 +112,13 @@ module _ {W E O : Type 0} (history : W → List E) (actor : E → Option ℕ) (s
     abbrev Lawful : State (Option W) (Known E O) → Type 0
     Lawful = Rule history actor spare comes opening start
 
-    pub counts_held : (slots id entries : ℕ) (p : Known E O) (m : M) (world : W) → MayPut p world → m ≡ held p world → entries ≡ length (history world)
+    pub counts_held : (slots id entries : ℕ) (p : Known E O) (m : M) (world : W) → MayPut p world → m ≡ me_holding p world → entries ≡ length (history world)
         → Allows Lawful slots id m 2 (λ _. entries) (λ _ n. CountsMade history spare m n)
     counts_held slots id entries p m world may is all =
         let Told : M × ℕ → Type 0 = λ z. Allows Lawful slots id z.0 2 (λ _. z.1) (λ _ n. CountsMade history spare z.0 n) in
-        subst Told (λ i. (sym is i, sym all i)) (counts history actor spare comes opening start slots id may.ticket (held p world) world may.out refl may.grown may.room may.allowed)
+        subst Told (λ i. (sym is i, sym all i)) (counts history actor spare comes opening start slots id may.ticket (me_holding p world) world may.out refl may.grown may.room may.allowed)
 
-    pub serves_held : (slots id : ℕ) (p : Known E O) (m : M) (world : W) → MayPut p world → m ≡ counted history spare p world
+    pub serves_held : (slots id : ℕ) (p : Known E O) (m : M) (world : W) → MayPut p world → m ≡ me_counted history spare p world
         → Allows Lawful slots id m 1 (λ n. (n + 1) % 2 ^ 64) (λ _ n. Serves m n)
     serves_held slots id p m world may is =
         let made : List E = made_since p.view.seen (history world) in
@@ -126,7 +126,7 @@ module _ {W E O : Type 0} (history : W → List E) (actor : E → Option ℕ) (s
         let told : history world ≡ entries_of (p.view.seen ++ stamps) =
         may.grown ∙ ap (λ l. entries_of p.view.seen ++ l) (sym (entries_of-stamped p.view.name (less (unwrap_or p.view.turn no_room) (spare world)) made)) ∙ sym (entries_of-append p.view.seen stamps) in
         subst (λ (z : M). Allows Lawful slots id z 1 (λ n. (n + 1) % 2 ^ 64) (λ _ n. Serves z n)) (sym is)
-        (serves history actor spare comes opening start slots id (unwrap_or (ticket_of p.stage) 0) (counted history spare p world) world refl refl told may.opened refl)
+        (serves history actor spare comes opening start slots id (unwrap_or (ticket_of p.stage) 0) (me_counted history spare p world) world refl refl told may.opened refl)
 
 -- what two passes made is what the pass that they were joined into has made
 pub both_made : {E : Type 0} (names n1 n2 : List (List ℕ)) (seen : List (Stamped E)) (m1 m2 : List (ℕ × E)) → names ≡ n1 ++ n2 → made_by n1 seen ≡ m1 → made_by n2 seen ≡ m2

@@ -32,14 +32,14 @@ module _ {X : Type 0} where
 
 module _ {W E O : Type 0} (history : W → List E) (spare : W → Room) (comes : W → O → Type 0) where
   -- all that the value has is the pass's own
-  pub record IsWhole (v : Known E O) (world : W) : Type 0 where
+  pub record IsAllOwn (v : Known E O) (world : W) : Type 0 where
     pub told : history world ≡ entries_of v.view.seen
     pub opened : IfSome v.view.opening (comes world)
     pub made : made_by v.view.names v.view.seen ≡ enumerate_from 0 (history world)
     pub room : IsWithinRoom v.view.room (spare world)
 
-  pub whole_as : (v : Known E O) (taken : Option W) (world x : W) → taken ≡ Some world → taken ≡ Some x → IsWhole v world → IsWhole v x
-  whole_as v taken world x is its h = let same : world ≡ x = (let e : Some world ≡ Some x = sym is ∙ its in cc) in subst (IsWhole v) same h
+  pub whole_as : (v : Known E O) (taken : Option W) (world x : W) → taken ≡ Some world → taken ≡ Some x → IsAllOwn v world → IsAllOwn v x
+  whole_as v taken world x is its h = let same : world ≡ x = (let e : Some world ≡ Some x = sym is ∙ its in cc) in subst (IsAllOwn v) same h
 
 module _ {W E O : Type 0} (history : W → List E) (actor : E → Option ℕ) (spare : W → Room) (comes : W → O → Type 0) (opening : O) where
   abbrev St : Type 0
@@ -119,7 +119,7 @@ module _ {W E O : Type 0} (history : W → List E) (actor : E → Option ℕ) (s
 
     -- what comes out of the slot at the end, where one pass has all shares
     pub ends : (id : ℕ) (v : Known E O) (words : List ℕ) (items : List (Option W)) (taken : Option W) → Final (Seen Lawful id v) words items → v.stage ≡ Rest → v.view.shares ≡ 1024 → get_elem? items 0 ≡ some taken
-        → (world : W) × (taken ≡ Some world) × IsWhole history spare comes v world
+        → (world : W) × (taken ≡ Some world) × IsAllOwn history spare comes v world
     ends id v words items taken final rest all there =
         let s : St = final.0 in let r : Lawful s = final.1.0 in let at : get_elem? s.views id ≡ some v = final.1.1 in
         let h = is_home s r id v at rest all in (

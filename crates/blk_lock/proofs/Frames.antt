@@ -15,7 +15,7 @@ use Rattle.blk_lock.specs.Stages.{IsLive, ticket_of, has_world_out}
 use Rattle.blk_lock.specs.Order.{HoldsAtStage, MayGive, IsSoundPass, AreApart, Has, rooms, IsHome, IsAway, InOrder}
 use Rattle.blk_lock.proofs.Tests.{not_both}
 use Rattle.blk_lock.proofs.Histories.{All-then}
-use Rattle.blk_lock.proofs.Passes.{total-set, moved, AreApart-sym, on_each, on_pairs, on_all_pairs, makers_stay}
+use Rattle.blk_lock.proofs.Passes.{total-set, pass_moved, AreApart-sym, on_each, on_pairs, on_all_pairs, makers_stay}
 
 module _ {W E O : Type 0} (history : W → List E) (actor : E → Option ℕ) (spare : W → Room) (comes : W → O → Type 0) (opening : O) (start : Room) where
   abbrev pub St : Type 0
@@ -44,7 +44,7 @@ module _ {W E O : Type 0} (history : W → List E) (actor : E → Option ℕ) (s
 
     module _ (stage : Stage E) (seen : List (Stamped E)) (room : Room) (turn : Option Room) where
       abbrev w : Known E O
-      w = moved v stage seen room turn
+      w = pass_moved v stage seen room turn
 
       -- its ticket is no other pass's
       abbrev pub IsOnly : Type 0

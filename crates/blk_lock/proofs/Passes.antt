@@ -53,8 +53,8 @@ module _ {E : Type 0} where
 
 module _ {E O : Type 0} where
   -- a pass after a step of its own: where it stands, what it has seen, its room and its turn are new
-  abbrev pub moved : Known E O → Stage E → List (Stamped E) → Room → Option Room → Known E O
-  moved v stage seen room turn = record { stage = stage; view = record v.view { seen = seen; room = room; turn = turn } }
+  abbrev pub pass_moved : Known E O → Stage E → List (Stamped E) → Room → Option Room → Known E O
+  pass_moved v stage seen room turn = record { stage = stage; view = record v.view { seen = seen; room = room; turn = turn } }
 
   pub AreApart-sym : (p q : Known E O) → AreApart p q → AreApart q p
   AreApart-sym p q a = record { names = λ n h k. a.names n k h; actors = λ x h k. a.actors x k h; tickets = λ t h k. a.tickets t k h }

@@ -19,7 +19,7 @@ use Rattle.blk_lock.specs.Plays.{made_since, counted_known, CountsMade, Serves}
 use Rattle.blk_lock.proofs.Tests.{not_true, not_both, is_among-left, is_among-right, has_actor-left, has_actor-right}
 use Rattle.blk_lock.proofs.Histories.{All-then, OthersAdd-same, OthersAdd-more, IsOthers-fewer}
 use Rattle.blk_lock.proofs.Made.{All-stamped, entries_of-stamped, taken-stamped, taken-append, length-entries_of}
-use Rattle.blk_lock.proofs.Passes.{total-set, moved, at_inside}
+use Rattle.blk_lock.proofs.Passes.{total-set, pass_moved, at_inside}
 use Rattle.blk_lock.proofs.Frames.{Rule, IsNamed, moves, rooms_stay}
 
 pub amount-less : (k : Measure) (a b : Room) → amount k (less a b) ≡ amount k a - amount k b
@@ -207,13 +207,13 @@ module _ {W E O : Type 0} (history : W → List E) (actor : E → Option ℕ) (s
 
   -- the value is given back, and the next ticket served
   serves_one : (s : St) (r : Lawful s) (id t : ℕ) (v : Known E O) (world : W) (at : get_elem? s.views id ≡ some v) → v.stage ≡ Counted t → history world ≡ entries_of v.view.seen → IfSome v.view.opening (comes world)
-      → v.view.turn ≡ Some (spare world) → Lawful (stepped s 1 ((get_or s.words 1 0 + 1) % 2 ^ 64) id ((0, Some world) ∷ []) (moved v Rest v.view.seen v.view.room None) gives)
+      → v.view.turn ≡ Some (spare world) → Lawful (stepped s 1 ((get_or s.words 1 0 + 1) % 2 ^ 64) id ((0, Some world) ∷ []) (pass_moved v Rest v.view.seen v.view.room None) gives)
   serves_one s r id t v world at out told opened turn =
       let live : IsLive v.stage = subst IsLive (sym out) tt in
       let mine = r.sound id v (at, live) in
       let h : IsDrawn r.drawn t × (v.view.seen ≡ r.log) = subst (HoldsAtStage actor r.drawn r.log v.view) out mine.stands in
       let m = is_mine s r id v at (ap has_world_out out) in
-      let w : Known E O = moved v Rest v.view.seen v.view.room None in
+      let w : Known E O = pass_moved v Rest v.view.seen v.view.room None in
       let now : get_or s.words 1 0 ≡ r.served = ap (λ l. get_or l 1 0) r.words in
       let is : t ≡ r.served = (let e : Some t ≡ Some r.served = sym (ap ticket_of out) ∙ m.ticket in cc) in
       let last : t + 1 < 2 ^ 64 = h.0.1 in
@@ -242,7 +242,7 @@ module _ {W E O : Type 0} (history : W → List E) (actor : E → Option ℕ) (s
 
   serves_in_hand : (slots id t : ℕ) (v : Known E O) (world : W) → v.stage ≡ Counted t → history world ≡ entries_of v.view.seen → IfSome v.view.opening (comes world) → v.view.turn ≡ Some (spare world)
       → Allows Lawful slots id (v, (0, Some world) ∷ []) 1 (λ n. (n + 1) % 2 ^ 64) (λ _ m. Serves (v, (0, Some world) ∷ []) m)
-  serves_in_hand slots id t v world out told opened turn s r _ at _ = (moved v Rest v.view.seen v.view.room None, gives, tt, serves_one s r id t v world at out told opened turn, refl)
+  serves_in_hand slots id t v world out told opened turn s r _ at _ = (pass_moved v Rest v.view.seen v.view.room None, gives, tt, serves_one s r id t v world at out told opened turn, refl)
 
   pub serves : (slots id t : ℕ) (me : M) (world : W) → me.0.stage ≡ Counted t → me.1 ≡ (0, Some world) ∷ [] → history world ≡ entries_of me.0.view.seen → IfSome me.0.view.opening (comes world)
       → me.0.view.turn ≡ Some (spare world) → Allows Lawful slots id me 1 (λ n. (n + 1) % 2 ^ 64) (λ _ m. Serves me m)

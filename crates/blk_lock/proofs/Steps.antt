@@ -19,7 +19,7 @@ use Rattle.blk_lock.specs.Order.{IsDrawn, HoldsAtStage, Has, rooms, IsHome, IsAw
 use Rattle.blk_lock.specs.Plays.{Draws, Watches, LooksAtHistory}
 use Rattle.blk_lock.proofs.Tests.{not_both}
 use Rattle.blk_lock.proofs.Histories.{OthersAdd-same}
-use Rattle.blk_lock.proofs.Passes.{total-at, moved, out_is_live, at_inside}
+use Rattle.blk_lock.proofs.Passes.{total-at, pass_moved, out_is_live, at_inside}
 use Rattle.blk_lock.proofs.Frames.{Rule, unmoved, moves, stays, rooms_stay}
 
 more_drawn : (drawn drawn' t : ℕ) → drawn ≤ drawn' → IsDrawn drawn t → IsDrawn drawn' t
@@ -114,14 +114,14 @@ module _ {W E O : Type 0} (history : W → List E) (actor : E → Option ℕ) (s
 
   takes_one : (s : St) (r : Lawful s) (id n : ℕ) (v : Known E O) (cs : List (ℕ × Option W)) (at : get_elem? s.views id ≡ some v) → v.stage ≡ Waiting n → get_or s.words 1 0 ≡ n
       → (h : IsHome history spare comes opening r.log s.homes s.views)
-      → Lawful (stepped s 1 (get_or s.words 1 0) id cs (moved v (Out n) r.log v.view.room (Some (spare h.world))) (takes 0 (Some h.world)))
+      → Lawful (stepped s 1 (get_or s.words 1 0) id cs (pass_moved v (Out n) r.log v.view.room (Some (spare h.world))) (takes 0 (Some h.world)))
   takes_one s r id n v cs at waits now h =
       let live : IsLive v.stage = subst IsLive (sym waits) tt in
       let mine = r.sound id v (at, live) in
       let served : r.served ≡ n = sym (ap (λ l. get_or l 1 0) r.words) ∙ now in
       let same : (k : Measure) → amount k v.view.room ≡ amount k v.view.room = λ k. refl in
       let turn : Option Room = Some (spare h.world) in
-      let w : Known E O = moved v (Out n) r.log v.view.room turn in
+      let w : Known E O = pass_moved v (Out n) r.log v.view.room turn in
       let kept : (k : Measure) → rooms k (set s.views id w) ≡ rooms k s.views = rooms_stay history actor spare comes opening start s r id v at live (Out n) r.log v.view.room turn same in
       moves history actor spare comes opening start s r id v at live (Out n) r.log v.view.room turn tt
       (λ j q ne k t its qs. (r.apart id j v q (λ e. ne (sym e)) (at, live) k).tickets t (ap ticket_of waits ∙ its) qs)
@@ -158,7 +158,7 @@ module _ {W E O : Type 0} (history : W → List E) (actor : E → Option ℕ) (s
       (λ now. let its : v.stage ≡ Waiting n = waits ∙ ap (λ (t : ℕ). Waiting t) (sym now) in
       let served : r.served ≡ n = sym (ap (λ l. get_or l 1 0) r.words) in
       let h : IsHome history spare comes opening r.log s.homes s.views = ⊎_elim (λ h. h) (λ a. absurd (served_home s r id n v (at, live) (ap has_world_out waits) (ap ticket_of its) served a)) r.place in (
-        moved v (Out n) r.log v.view.room (Some (spare h.world)),
+        pass_moved v (Out n) r.log v.view.room (Some (spare h.world)),
         takes 0 (Some h.world),
         ap (λ l. get_elem? l 0) h.in_slot,
         takes_one s r id n v me.1 at its refl h,

@@ -40,7 +40,7 @@ use Rattle.world_parts.specs.Face.{WorldSeen, count_of_opening, counts_now, firs
 use Rattle.world_parts.specs.Looking.{AreIn, HasLooked, LooksAtImage, LooksAtPart, LooksBy, LooksIn, LooksOut, Site, site}
 use Rattle.world_parts.specs.Staging.{back_if, opened_name, site_of, store_of}
 use Rattle.world_parts.specs.Stores.{StoreInRun}
-use Rattle.blk_world.proofs.AddFailed.{calm-inside, calm-long, calm-not, calm-part, IsCalm, refused-of, unopened-of}
+use Rattle.blk_world.proofs.AddFailed.{calm-inside, calm-long, calm-not, calm-part, NamesNoFailedCall, refused-of, unopened-of}
 use Rattle.world_parts.proofs.AddImages.{opened-risen}
 use Rattle.world_commands.proofs.AddOut.{get-last}
 use Rattle.world_commands.proofs.AddRuns.{back-is, closed-opening}
@@ -185,7 +185,7 @@ module _ (w v : WorldSeen) (c : Adding) (first_same : v.first_faults ≡ w.first
   module _ (told : Told) (now : Site) (out : Option Taken) (image : Option Known) (closed : AreIn w.table w.opened)
       (put : site_of v ≡ site (back_if c.driver out now.store) now.nodes) (cause : Refusal) (stopped : Stopped) (stops : told.stopped ≡ Some stopped)
       (is_cause : stopped.refusal ≡ cause) where
-    calm-by : (found : Option Stopped) → told.stopped ≡ found → IsCalm found → IsCaused w v cmd cause
+    calm-by : (found : Option Stopped) → told.stopped ≡ found → NamesNoFailedCall found → IsCaused w v cmd cause
     calm-by found is quiet = calm cause (ap is_io_refusal (sym is_cause) ∙ calm-not told found is quiet stopped stops)
 
     no-stop : told.stopped ≡ None → IsCaused w v cmd cause

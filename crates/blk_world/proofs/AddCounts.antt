@@ -48,7 +48,7 @@ use Rattle.world_parts.specs.Stores.{StoreInRun}
 use Rattle.blk_world.proofs.AddCause.{causes}
 use Rattle.blk_world.proofs.AddCarried.{sited}
 use Rattle.blk_world.proofs.AddClosed.{closed-in}
-use Rattle.blk_world.proofs.AddFailed.{IsCalm, calm-inside, calm-long, calm-not, calm-part, refused-of, unopened-of}
+use Rattle.blk_world.proofs.AddFailed.{NamesNoFailedCall, calm-inside, calm-long, calm-not, calm-part, refused-of, unopened-of}
 use Rattle.blk_world.proofs.AddKinds.{has-device, no-device-more}
 use Rattle.world_parts.proofs.AddRefused.{has-named, image-told, looks-named, stop-told}
 use Rattle.world_commands.proofs.AddRuns.{back-is, closed-opening, counts-more}
@@ -103,7 +103,7 @@ module _ (w : WorldSeen) (c : Adding) (told : Told) (now : Site) (out : Option T
 
   -- files told something else than a failed call
   pub record IsCalmAll : Type 0 where
-    pub stopped : IsCalm told.stopped
+    pub stopped : NamesNoFailedCall told.stopped
     pub looked : IsLookedCalmly (opened_name c.driver) (site_of w) now out
 
   -- a call failed: that is the refusal, and once all is back no other count has risen
@@ -126,11 +126,11 @@ module _ (w : WorldSeen) (whole : IsWholeWorld w) (joined : IsJoined w.nodes) (c
 
   -- nothing was called
   still : told.stopped ≡ None → out ≡ None → now ≡ site_of w → IsLookedOver w c told now out
-  still stopped none same = inl (record { stopped = subst IsCalm (sym stopped) tt; looked = inl (none, same) })
+  still stopped none same = inl (record { stopped = subst NamesNoFailedCall (sym stopped) tt; looked = inl (none, same) })
 
-  calm-as : (found : Option Stopped) → told.stopped ≡ found → IsCalm found → IsLookedCalmly (opened_name c.driver) (site_of w) now out
+  calm-as : (found : Option Stopped) → told.stopped ≡ found → NamesNoFailedCall found → IsLookedCalmly (opened_name c.driver) (site_of w) now out
       → IsLookedOver w c told now out
-  calm-as found is calm looked = inl (record { stopped = subst IsCalm (sym is) calm; looked = looked })
+  calm-as found is calm looked = inl (record { stopped = subst NamesNoFailedCall (sym is) calm; looked = looked })
 
   -- ---- a file of the store
 

@@ -90,51 +90,51 @@ refused-of t told c cause is = elim (either-of (out_of_turn false t.negotiated) 
 
 -- ---- what files tell by themselves names no failed call
 
-abbrev pub IsCalm : Option Stopped → Type 0
-IsCalm None = Unit {0}
-IsCalm (Some stopped) = is_io_refusal stopped.refusal ≡ false
+abbrev pub NamesNoFailedCall : Option Stopped → Type 0
+NamesNoFailedCall None = Unit {0}
+NamesNoFailedCall (Some stopped) = is_io_refusal stopped.refusal ≡ false
 
-pub calm-long : (name : List ℕ) (b : Bool) → IsCalm (stop_at look.File (too_long name b) None)
+pub calm-long : (name : List ℕ) (b : Bool) → NamesNoFailedCall (stop_at look.File (too_long name b) None)
 calm-long name true = refl
 calm-long name false = tt
 
-calm-three : (name : List ℕ) (a b d : Bool) → IsCalm (stop_at look.Begin (refused a (refusal.BadValue (codes "offset")))
+calm-three : (name : List ℕ) (a b d : Bool) → NamesNoFailedCall (stop_at look.Begin (refused a (refusal.BadValue (codes "offset")))
     (stop_at look.End (refused b (refusal.BadValue (codes "size"))) (stop_at look.File (too_long name d) None)))
 calm-three name true b d = refl
 calm-three name false true d = refl
 calm-three name false false true = refl
 calm-three name false false false = tt
 
-pub calm-part : (name : List ℕ) (raw : AddRaw (List ℕ)) (n : ℕ) → IsCalm (raw_stop name raw n)
+pub calm-part : (name : List ℕ) (raw : AddRaw (List ℕ)) (n : ℕ) → NamesNoFailedCall (raw_stop name raw n)
 calm-part name raw n =
     calm-three name (not (begins_within raw.offset n)) (not (ends_within raw.offset raw.size n))
     (nat_lt 549755813888 n || not (part_fits raw.offset raw.size n))
 
 calm-size : (name : List ℕ) (size : ℕ) (found : Option NodeRecord)
-    → IsCalm (stop_at look.Size (if_there (λ row. refused (not (row.size == size)) (refusal.SizeDiffers name row.name)) found) None)
+    → NamesNoFailedCall (stop_at look.Size (if_there (λ row. refused (not (row.size == size)) (refusal.SizeDiffers name row.name)) found) None)
 calm-size name size None = tt
 calm-size name size (Some row) = by_test (not (row.size == size))
   where
-    by_test : (b : Bool) → IsCalm (stop_at look.Size (refused b (refusal.SizeDiffers name row.name)) None)
+    by_test : (b : Bool) → NamesNoFailedCall (stop_at look.Size (refused b (refusal.SizeDiffers name row.name)) None)
     by_test true = refl
     by_test false = tt
 
-calm-backing : (name : List ℕ) (b : Bool) (later : Option Stopped) → IsCalm later → IsCalm (stop_at look.Backing (refused b (refusal.BackingNeeded name)) later)
+calm-backing : (name : List ℕ) (b : Bool) (later : Option Stopped) → NamesNoFailedCall later → NamesNoFailedCall (stop_at look.Backing (refused b (refusal.BackingNeeded name)) later)
 calm-backing name true later calm = refl
 calm-backing name false later calm = calm
 
-calm-image : (cause : Option ImageStop) (later : Option Stopped) → IsCalm later → IsCalm (stop_at look.Image (option_map refusal.Image cause) later)
+calm-image : (cause : Option ImageStop) (later : Option Stopped) → NamesNoFailedCall later → NamesNoFailedCall (stop_at look.Image (option_map refusal.Image cause) later)
 calm-image (Some cause) later calm = refl
 calm-image None later calm = calm
 
-pub calm-inside : (t : RunTable) (name : List ℕ) (c : AddQcow2 (List ℕ)) (sight : ImageSight) → IsCalm (unfit_image t name c sight)
+pub calm-inside : (t : RunTable) (name : List ℕ) (c : AddQcow2 (List ℕ)) (sight : ImageSight) → NamesNoFailedCall (unfit_image t name c sight)
 calm-inside t name c sight =
     calm-image sight.stop _
     (calm-backing name (sight.names_backing && is_none c.backing) _
     (calm-size name sight.size (option_and_then (node_named t) (backing_name c.backing))))
 
 -- a stop of them is none of a failed call
-pub calm-not : (told : Told) (found : Option Stopped) → told.stopped ≡ found → IsCalm found → (stopped : Stopped) → told.stopped ≡ Some stopped → is_io_refusal stopped.refusal ≡ false
+pub calm-not : (told : Told) (found : Option Stopped) → told.stopped ≡ found → NamesNoFailedCall found → (stopped : Stopped) → told.stopped ≡ Some stopped → is_io_refusal stopped.refusal ≡ false
 calm-not told None e calm stopped is = absurd (let bad : None ≡ Some stopped = sym e ∙ is in cc bad)
 calm-not told (Some other) e calm stopped is =
     let both : Some other ≡ Some stopped = sym e ∙ is in

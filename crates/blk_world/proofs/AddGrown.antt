@@ -27,7 +27,7 @@ pub record StaysRow (old new : NodeRecord) : Type 0 where
   pub filename : new.filename ≡ old.filename
 
 -- nodes but the new one are as before, and but for one without parents each is as settled as before
-pub record Grows (t t' : RunTable) (new but : ℕ) (change : NodeRecord → NodeRecord) : Type 0 where
+pub record GrowsByNode (t t' : RunTable) (new but : ℕ) (change : NodeRecord → NodeRecord) : Type 0 where
   pub rows : (id : ℕ) → id ≢ new → node_by_id t' id ≡ option_map change (node_by_id t id)
   pub stays : (row : NodeRecord) → StaysRow row (change row)
   pub settled : (id : ℕ) (row : NodeRecord) → node_by_id t id ≡ Some row → id ≢ but → (change row).is_settled ≡ row.is_settled
@@ -43,7 +43,7 @@ step-none t more id e = rw (e, disk_from) refl
 step-some : (t : RunTable) (more id below : ℕ) → filtered t id ≡ Some below → disk_from (suc more) t id ≡ disk_from more t below
 step-some t more id below e = rw (e, disk_from) refl
 
-module _ (t t' : RunTable) (new but : ℕ) (change : NodeRecord → NodeRecord) (grows : Grows t t' new but change) where
+module _ (t t' : RunTable) (new but : ℕ) (change : NodeRecord → NodeRecord) (grows : GrowsByNode t t' new but change) where
   other-node : (id : ℕ) → id ≢ new → Node id ≢ Node new
   other-node id other = λ same. other (let is : id ≡ new = cc same in is)
 

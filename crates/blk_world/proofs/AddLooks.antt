@@ -50,19 +50,19 @@ use Rattle.world_parts.proofs.AddTold.{has_look}
 -- ---- refusals of files that were opened
 
 -- none says that the file is absent
-abbrev pub IsThere : Option Refusal → Type 0
-IsThere None = Unit {0}
-IsThere (Some cause) = (c : Adding) → is_opened (command.BlockdevAdd c) cause ≡ true
+abbrev pub SaysFileIsThere : Option Refusal → Type 0
+SaysFileIsThere None = Unit {0}
+SaysFileIsThere (Some cause) = (c : Adding) → is_opened (command.BlockdevAdd c) cause ≡ true
 
 abbrev pub AreThere : Option Stopped → Type 0
 AreThere None = Unit {0}
 AreThere (Some stopped) = (c : Adding) → is_opened (command.BlockdevAdd c) stopped.refusal ≡ true
 
-there-at : (what : Look) (cause : Option Refusal) (later : Option Stopped) → IsThere cause → AreThere later → AreThere (stop_at what cause later)
+there-at : (what : Look) (cause : Option Refusal) (later : Option Stopped) → SaysFileIsThere cause → AreThere later → AreThere (stop_at what cause later)
 there-at what None later here rest = rest
 there-at what (Some cause) later here rest = here
 
-there-if : (b : Bool) (cause : Refusal) → ((c : Adding) → is_opened (command.BlockdevAdd c) cause ≡ true) → IsThere (refused b cause)
+there-if : (b : Bool) (cause : Refusal) → ((c : Adding) → is_opened (command.BlockdevAdd c) cause ≡ true) → SaysFileIsThere (refused b cause)
 there-if false cause is = tt
 there-if true cause is = is
 
@@ -93,7 +93,7 @@ IsFrom n (Some stopped) = n ≤ order_of stopped.look
 abbrev pub IsBehind : Option Stopped → Type 0
 IsBehind stopped = IsFrom 3 stopped
 
-there-sizes : (name : List ℕ) (cause : Option ImageStop) (b : Bool) (sizes : Option Refusal) → IsThere sizes
+there-sizes : (name : List ℕ) (cause : Option ImageStop) (b : Bool) (sizes : Option Refusal) → SaysFileIsThere sizes
     → AreThere (stop_at look.Image (option_map refusal.Image cause) (stop_at look.Backing (refused b (refusal.BackingNeeded name)) (stop_at look.Size sizes None)))
 there-sizes name (Some cause) b sizes is = λ c. refl
 there-sizes name None true sizes is = λ c. refl
@@ -112,7 +112,7 @@ sizes_of t name added size =
     if_there (λ row. refused (not (row.size == size)) (refusal.SizeDiffers name row.name)) (option_and_then (node_named t) (backing_name added.backing))
 
 there-row : (size : ℕ) (name : List ℕ) (found : Option NodeRecord)
-    → IsThere (if_there (λ row. refused (not (row.size == size)) (refusal.SizeDiffers name row.name)) found)
+    → SaysFileIsThere (if_there (λ row. refused (not (row.size == size)) (refusal.SizeDiffers name row.name)) found)
 there-row size name None = tt
 there-row size name (Some row) = there-if (not (row.size == size)) (refusal.SizeDiffers name row.name) (λ c. refl)
 

@@ -18,7 +18,7 @@ use Rattle.flat_machine.proofs.Finds.{bytes_eq-same}
 use Rattle.world_parts.specs.Adding.{Taken, of_node, opening_of}
 use Rattle.world_parts.specs.Coherent.{AreAllowed, AreNodesOf, AreOnDisks, AreOnWritable, AreOut, AreWithin, AskToWrite, HaveDrives, IsCoherent, NamesAreOutOnce}
 use Rattle.world_parts.specs.Progress.{Progress}
-use Rattle.blk_world.proofs.AddGrown.{Grows, device-same, disks-grown, drive-other, drive-same, drives-grown, within-grown}
+use Rattle.blk_world.proofs.AddGrown.{GrowsByNode, device-same, disks-grown, drive-other, drive-same, drives-grown, within-grown}
 use Rattle.world_commands.proofs.AddOut.{all-out, each-out, get-cases, once-out, order-out}
 use Rattle.world_parts.proofs.DeletedLists.{out_there}
 
@@ -71,7 +71,7 @@ pub record HasMore (t t' : RunTable) (change : NodeRecord → NodeRecord) : Type
   pub jobs : t'.jobs ≡ t.jobs
   pub edges : (edge : Edge) (g : ℕ) → Contains t'.edges edge → edge.parent ≡ Guest g → Contains t.edges edge
 
-module _ (t t' : RunTable) (new but : ℕ) (change : NodeRecord → NodeRecord) (grows : Grows t t' new but change) (more : HasMore t t' change)
+module _ (t t' : RunTable) (new but : ℕ) (change : NodeRecord → NodeRecord) (grows : GrowsByNode t t' new but change) (more : HasMore t t' change)
     (nodes now : Nodes) (opened opened' : List Opened) (p : Progress) (was : Middle t nodes opened p) (alike : AreNodesOf t' now) (out : AreOut t' now opened') where
   still-writable : AreOnWritable t'
   still-writable g node device there writes on =

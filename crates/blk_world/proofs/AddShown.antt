@@ -47,7 +47,7 @@ use Rattle.world_parts.proofs.AddFacts.{filed-filename}
 use Rattle.blk_world.proofs.AddMiddle.{Middle}
 use Rattle.world_parts.proofs.AddReady.{backing-same}
 use Rattle.world_parts.proofs.AddSeen.{AsFile, AsImage, AsPart}
-use Rattle.blk_world.proofs.AddWhole.{FreshFor, IsFresh, id-is, next1}
+use Rattle.blk_world.proofs.AddWhole.{FreshFor, IsFreshlyTaken, id-is, next1}
 use Rattle.world_commands.proofs.CarryPlain.{quiet-self}
 
 -- what is told of the bytes of the device that was opened
@@ -69,7 +69,7 @@ module _ (w v : WorldSeen) (told : Told) (c : Adding) (none : refusal_to w.table
   abbrev middle : RunTable → Nodes → WorldSeen
   middle table nodes = record w { table = table; nodes = nodes }
 
-  pub shown-file : (filename : List ℕ) → c.driver ≡ added.File filename → (device : Taken) → IsFresh old now filename device told
+  pub shown-file : (filename : List ℕ) → c.driver ≡ added.File filename → (device : Taken) → IsFreshlyTaken old now filename device told
       → device.content ≡ told_bytes w.files filename → (id : ℕ) → IsFileAdded c.node_name (is_read_only c.options) device w.nodes v.nodes id
       → v.table ≡ changed t (AddFile (file_row (free_id t) c.node_name (length_told told) (is_read_only c.options) filename None))
       → AllPerformed s (AddFile (file_row (free_id t) c.node_name (length_told told) (is_read_only c.options) filename None) ∷ []) (contents_of w) (contents_of v)
@@ -170,7 +170,7 @@ module _ (w v : WorldSeen) (told : Told) (c : Adding) (none : refusal_to w.table
 
   -- over the image in a file that was opened
   pub shown-inline : (qcow2 : AddQcow2 (List ℕ)) (file : InlineFile (List ℕ)) → c.driver ≡ added.Qcow2 qcow2 → qcow2.file ≡ file_ref.Inline file
-      → (device : Taken) (image : Known) → told.size ≡ Some image.header.size → IsFresh old now file.filename device told
+      → (device : Taken) (image : Known) → told.size ≡ Some image.header.size → IsFreshlyTaken old now file.filename device told
       → device.content ≡ told_bytes w.files file.filename
       → HasAddedImage t c qcow2 (file_ref.Inline file) (Some device) (Some image) w.nodes v.nodes
       → v.table ≡ all_changed t (qcow2_edits t told c.node_name (is_read_only c.options) (backing_name qcow2.backing) (file_ref.Inline file))

@@ -29,7 +29,7 @@ use Rattle.world_parts.specs.Coherent.{IsRowOf, IsOfFileLength}
 use Rattle.world_parts.specs.Joining.{IsFileAdded, HasOver}
 use Rattle.world_parts.specs.Progress.{Progress}
 use Rattle.world_parts.proofs.AddFacts.{alike-filed, alike-filtered, alike-formatted, filed-filename, held-other}
-use Rattle.blk_world.proofs.AddGrown.{Grows, filename-same}
+use Rattle.blk_world.proofs.AddGrown.{GrowsByNode, filename-same}
 use Rattle.blk_world.proofs.AddMiddle.{HasMore, Middle, grown-middle, out-more, out-over}
 use Rattle.blk_world.proofs.AddTables.{grows-filed, grows-filtered, grows-formatted}
 use Rattle.world_commands.proofs.GuestEdges.{guest_edge}
@@ -93,7 +93,7 @@ module _ (t : RunTable) (nodes : Nodes) (opened : List Opened) (p : Progress) (w
     small : IsOfFileLength row.kind row.size
     small = subst (λ (k : Kind). IsOfFileLength k row.size) (sym kind) (subst (λ (n : ℕ). n ≤ most_length) (sym size) short)
 
-    file-grows : Grows t (changed t (AddFile row)) row.id row.id (λ r. r)
+    file-grows : GrowsByNode t (changed t (AddFile row)) row.id row.id (λ r. r)
     file-grows = grows-filed t nodes was.alike joined row has.lowest.free
 
     file-more : HasMore t (changed t (AddFile row)) (λ r. r)
@@ -120,7 +120,7 @@ module _ (t : RunTable) (nodes : Nodes) (opened : List Opened) (p : Progress) (w
   -- ---- a node over others
 
   module _ (own : Row) (is_row : IsRowOf row own) (child : ℕ) (bytes : List ℕ) (now : Nodes) where
-    over-names : (t' : RunTable) (but : ℕ) (change : NodeRecord → NodeRecord) → Grows t t' row.id but change
+    over-names : (t' : RunTable) (but : ℕ) (change : NodeRecord → NodeRecord) → GrowsByNode t t' row.id but change
         → (held : DeviceSeen) → Contains nodes.devices held → filename_of t' held.node ≡ filename_of t held.node
     over-names t' but change grows held there =
         filename-same t t' row.id but change grows held.node (held-other t nodes opened row.id was.out fresh held there)
@@ -130,7 +130,7 @@ module _ (t : RunTable) (nodes : Nodes) (opened : List Opened) (p : Progress) (w
       abbrev formatted : RunTable
       formatted = changed t (AddFormat row child backing)
 
-      format-grows : Grows t formatted row.id child (node_changed child unsettled)
+      format-grows : GrowsByNode t formatted row.id child (node_changed child unsettled)
       format-grows = grows-formatted t nodes was.alike joined row has.lowest.free child backing lone
 
       format-more : HasMore t formatted (node_changed child unsettled)
@@ -154,7 +154,7 @@ module _ (t : RunTable) (nodes : Nodes) (opened : List Opened) (p : Progress) (w
       abbrev filtered : RunTable
       filtered = changed t (AddFilter row child)
 
-      filter-grows : Grows t filtered row.id row.id (λ r. r)
+      filter-grows : GrowsByNode t filtered row.id row.id (λ r. r)
       filter-grows = grows-filtered t nodes was.alike joined row has.lowest.free child
 
       filter-more : HasMore t filtered (λ r. r)

@@ -22,7 +22,7 @@ use Rattle.qmp_rules.specs.declared.rows.NodeRecord.{NodeRecord}
 use Rattle.flat_machine.proofs.Finds.{find-map}
 use Rattle.world_parts.specs.Coherent.{AreNodesOf}
 use Rattle.world_parts.proofs.AddAlike.{find-behind}
-use Rattle.blk_world.proofs.AddGrown.{Grows, StaysRow}
+use Rattle.blk_world.proofs.AddGrown.{GrowsByNode, StaysRow}
 
 -- ---- edges of nodes that are there
 
@@ -56,7 +56,7 @@ same-row (Some row) = refl
 -- ---- a `file` node
 
 module _ (t : RunTable) (nodes : Nodes) (alike : AreNodesOf t nodes) (joined : IsJoined nodes) (row : NodeRecord) (absent : HasNode nodes.graph row.id → ⊥) where
-  pub grows-filed : Grows t (changed t (AddFile row)) row.id row.id (λ r. r)
+  pub grows-filed : GrowsByNode t (changed t (AddFile row)) row.id row.id (λ r. r)
   unfolding changed
   grows-filed = record {
     rows = λ id other. find-behind id t.nodes row other ∙ same-row (node_by_id t id);
@@ -69,7 +69,7 @@ module _ (t : RunTable) (nodes : Nodes) (alike : AreNodesOf t nodes) (joined : I
   }
 
   -- a filter
-  pub grows-filtered : (child : ℕ) → Grows t (changed t (AddFilter row child)) row.id row.id (λ r. r)
+  pub grows-filtered : (child : ℕ) → GrowsByNode t (changed t (AddFilter row child)) row.id row.id (λ r. r)
   unfolding changed
   grows-filtered child = record {
     rows = λ id other. find-behind id t.nodes row other ∙ same-row (node_by_id t id);
@@ -107,7 +107,7 @@ module _ (t : RunTable) (nodes : Nodes) (alike : AreNodesOf t nodes) (joined : I
         child-kept parent role (node_edge row.id Backing over) (with_edge (node_edge row.id File file) t.edges) other
         ∙ child-kept parent role (node_edge row.id File file) t.edges other
 
-    pub grows-formatted : Grows t (changed t (AddFormat row file backing)) row.id file (node_changed file unsettled)
+    pub grows-formatted : GrowsByNode t (changed t (AddFormat row file backing)) row.id file (node_changed file unsettled)
     unfolding changed
     grows-formatted = record {
       rows = λ id other.

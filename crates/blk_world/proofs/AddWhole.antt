@@ -57,14 +57,14 @@ use Rattle.blk_world.proofs.AddTables.{edges-apart, edges-away}
 -- ---- the device that is out
 
 -- nothing was written to it, and no fault was met
-pub record IsFresh (old now : StoreInRun) (filename : List ℕ) (device : Taken) (told : Told) : Type 0 where
+pub record IsFreshlyTaken (old now : StoreInRun) (filename : List ℕ) (device : Taken) (told : Told) : Type 0 where
   pub opened : now.opened ≡ old.opened ++ opening_of filename device ∷ []
   pub number : device.number ≡ record { 0 = length old.opened }
   pub length_is : told.length ≡ Some device.size
   pub short : device.size ≤ most_length
 
 pub fresh-of : (old now : StoreInRun) (filename : List ℕ) (first device : Taken) (told : Told) → IsTakenOut old now filename first → device ≡ first
-    → told.length ≡ Some first.size → first.size ≤ most_length → IsFresh old now filename device told
+    → told.length ≡ Some first.size → first.size ≤ most_length → IsFreshlyTaken old now filename device told
 fresh-of old now filename first device told out same length_is short = record {
   opened = ap (λ (s : StoreInRun). s.opened) out.kept ∙ ap (λ (d : Taken). old.opened ++ opening_of filename d ∷ []) (sym same);
   number = ap (λ (d : Taken). d.number) same ∙ out.number;
@@ -88,7 +88,7 @@ module _ (t : RunTable) (told : Told) (c : Adding) (none : refusal_to t told (co
     (joined : IsJoined nodes) where
   -- what is known of the device of a command, by the file that it names
   abbrev pub FreshFor : FileRef (List ℕ) → Option Taken → Type 0
-  FreshFor (file_ref.Inline file) (Some device) = IsFresh old now file.filename device told
+  FreshFor (file_ref.Inline file) (Some device) = IsFreshlyTaken old now file.filename device told
   FreshFor file out = now.opened ≡ old.opened
 
   -- the id that the table gives is that of the new node
@@ -102,7 +102,7 @@ module _ (t : RunTable) (told : Told) (c : Adding) (none : refusal_to t told (co
   by-name name row found = apart row (find-Some (λ (r : NodeRecord). bytes_eq r.name name) t.nodes row found).0
 
   -- a `file` node alone
-  pub whole-file : (filename : List ℕ) → c.driver ≡ added.File filename → (device : Taken) → IsFresh old now filename device told
+  pub whole-file : (filename : List ℕ) → c.driver ≡ added.File filename → (device : Taken) → IsFreshlyTaken old now filename device told
       → (id : ℕ) → IsFileAdded c.node_name (is_read_only c.options) device nodes new id
       → Middle (changed t (AddFile (file_row (free_id t) c.node_name (length_told told) (is_read_only c.options) filename None))) new now.opened p
   whole-file filename e device fresh id has =
@@ -117,7 +117,7 @@ module _ (t : RunTable) (told : Told) (c : Adding) (none : refusal_to t told (co
       (inside (record { filename = filename; what = look.File }) (AsFile e refl)) fresh.short)
 
   -- one that is made with a node over it
-  module _ (file : InlineFile (List ℕ)) (device : Taken) (fresh : IsFresh old now file.filename device told) (between : Nodes) (under : ℕ)
+  module _ (file : InlineFile (List ℕ)) (device : Taken) (fresh : IsFreshlyTaken old now file.filename device told) (between : Nodes) (under : ℕ)
       (has : HasInline c file device nodes between under) (room : length t.nodes + 2 ≤ 64) (closed : is_out file.filename old.opened ≡ false) where
     abbrev row1 : NodeRecord
     row1 = inline_row t told c.node_name file

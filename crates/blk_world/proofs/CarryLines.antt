@@ -42,7 +42,7 @@ use Rattle.world_commands.proofs.CountsKept.{hides-same}
 use Rattle.world_commands.proofs.Quiet.{quiet, undone, shows-onward}
 use Rattle.world_commands.proofs.Pushing.{comes-drains}
 use Rattle.world_commands.proofs.CarryWords.{IsTellable, full_named}
-use Rattle.world_commands.proofs.CarrySaid.{fault_of, full_of, CanBeTold, said_fault, said_full}
+use Rattle.world_commands.proofs.CarrySaid.{reply_fault, full_of, CanBeTold, said_fault, said_full}
 use Rattle.world_commands.proofs.CarryPlain.{quiet-self}
 use Rattle.world_commands.proofs.Counted.{answer-counted, refusal-counted}
 use Rattle.world_commands.proofs.CarryComes.{can_tell, runs-onward, carried_comes}
@@ -84,7 +84,7 @@ line-mild stop.NoMemory a b cause is = turn-mild a b None cause (λ c some. absu
 
 pub record IsMildReply (reply : Result Data Refusal) : Type 0 where
   pub can : CanBeTold reply
-  pub fault : fault_of reply ≡ None
+  pub fault : reply_fault reply ≡ None
   pub full : full_of reply ≡ None
 
 mild-none : (d : Data) → IsMildReply (Ok d)
@@ -116,15 +116,15 @@ entry-is w told line command text is_command is_text = rw (is_command, ← is_te
 
 licensed-of : (w v : WorldSeen) (line : Given) (told : Told) (text : List ℕ) (reply : Result Data Refusal) → IsSaid line.text reply text → CanBeTold reply
     → text ≡ line_text w.table told line.text
-    → IsCommandsFault w.table (seen_sources w) (counts_now w) (fault_of reply) (command_read (command_at line.text))
-    → RoseIn (counts_within w v) (counts_now v) (fault_of reply)
+    → IsCommandsFault w.table (seen_sources w) (counts_now w) (reply_fault reply) (command_read (command_at line.text))
+    → RoseIn (counts_within w v) (counts_now v) (reply_fault reply)
     → IsCommandsFull w.table (seen_sources w) (counts_now w) (would_pass w (command_read (command_at line.text))) (full_of reply) (command_read (command_at line.text))
     → IsLicensedBy (seen_state w) (seen_sources w) (counts_now w) (counts_within w v) (counts_now v) (would_pass w (command_read (command_at line.text))) (reply_entry w told line)
 licensed-of w v line told text reply said can is_text called rose full =
     rw (← is_text, said_fault line.text reply text said can, said_full line.text reply text said can) (called, rose, full)
 
 hides-of : (w v : WorldSeen) (line : Given) (told : Told) (text : List ℕ) (reply : Result Data Refusal) → IsSaid line.text reply text → CanBeTold reply
-    → text ≡ line_text w.table told line.text → HidesNoFault w v (fault_of reply) → HidesNoFault w v (named_in (reply_entry w told line))
+    → text ≡ line_text w.table told line.text → HidesNoFault w v (reply_fault reply) → HidesNoFault w v (named_in (reply_entry w told line))
 hides-of w v line told text reply said can is_text hides =
     subst (HidesNoFault w v) (sym (ap named_in_text (sym is_text) ∙ said_fault line.text reply text said can)) hides
 
@@ -286,12 +286,12 @@ module _ (w u : WorldSeen) (c : Cmd) (refusal' : Option Refusal) (is : IsCarried
   is-command = ap command_read good
 
   called-by : (first : Option Refusal) → HasAnswerCause w u c first
-      → IsCommandsFault w.table (seen_sources w) (counts_now w) (fault_of (answer_by w.table is.told c first).reply) (Some c)
+      → IsCommandsFault w.table (seen_sources w) (counts_now w) (reply_fault (answer_by w.table is.told c first).reply) (Some c)
   called-by None caused = tt
   called-by (Some (refusal.Io source count)) caused = caused.called
   called-by (Some _) caused = tt
 
-  rose-by : (first : Option Refusal) → HasAnswerCause w u c first → RoseIn (counts_within w u) (counts_now u) (fault_of (answer_by w.table is.told c first).reply)
+  rose-by : (first : Option Refusal) → HasAnswerCause w u c first → RoseIn (counts_within w u) (counts_now u) (reply_fault (answer_by w.table is.told c first).reply)
   rose-by None caused = tt
   rose-by (Some (refusal.Io source count)) caused = caused.reached.new
   rose-by (Some _) caused = tt
@@ -303,7 +303,7 @@ module _ (w u : WorldSeen) (c : Cmd) (refusal' : Option Refusal) (is : IsCarried
   full-by (Some _) caused = tt
 
   hides-by : (first : Option Refusal) → HidesNoFault w u (fault_told first)
-      → HidesNoFault w u (fault_of (answer_by w.table is.told c first).reply)
+      → HidesNoFault w u (reply_fault (answer_by w.table is.told c first).reply)
   hides-by None hides = hides
   hides-by (Some cause) hides = hides
 

@@ -21,7 +21,7 @@ use Rattle.flat_machine.specs.Imaging.{maps_some, is_qcow2_at, ShowsImages, Keep
 use Rattle.flat_machine.proofs.ImagesKept.{nothing_said}
 use Rattle.world_parts.specs.Coherent.{AreNodesOf}
 use Rattle.world_parts.specs.Face.{WorldSeen, node_over, held, held_in_file, contents_of}
-use Rattle.blk_world.proofs.PieceNodes.{AreAfter, alike_after}
+use Rattle.blk_world.proofs.PieceNodes.{AreNodesAfter, alike_after}
 use Rattle.world_commands.proofs.ImageRows.{HasImageFile, image_file, image_written, IsEmpty, empty_file, file_empty, still_mapped}
 
 -- ---- what a device tells
@@ -60,7 +60,7 @@ held-of w name bytes file over is = by_device (device_in w.nodes.devices file) r
 -- ---- a piece
 
 module _ (w v : WorldSeen) (alike : AreNodesOf w.table w.nodes) (joined : IsJoined w.nodes) (joined_now : IsJoined v.nodes) (stands : TableStands w.table)
-    (moved : AreAfter w.nodes v.nodes) (told : AreTold w.nodes.devices) (over : (name : List ℕ) → node_over v.table name ≡ node_over w.table name) where
+    (moved : AreNodesAfter w.nodes v.nodes) (told : AreTold w.nodes.devices) (over : (name : List ℕ) → node_over v.table name ≡ node_over w.table name) where
   pub mapping_kept : (node : ℕ) → KeepsMapping w.table node (contents_of w) (contents_of v)
   mapping_kept node image name after is holds =
       subst (λ (h : Option (List ℕ)). With h (λ b. maps_some b ≡ true → maps_some after ≡ true)) (sym (held-is w name was.file at.0 at.1 was.over_it at.2 at.3))

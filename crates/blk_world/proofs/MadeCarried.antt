@@ -37,7 +37,7 @@ use Rattle.world_parts.specs.Steps.{StoreSeen}
 use Rattle.world_commands.proofs.CountLemmas.{found-before, same-devices, same-only}
 use Rattle.world_commands.proofs.CreatedAsked.{FormatsNode, file_asked, format_asked}
 use Rattle.blk_world.proofs.MadeMoves.{IsEasedTo, IsLoneFile, Moves, eased_shape, shape_made, shape_spoiled}
-use Rattle.blk_world.proofs.PieceNodes.{AreAfter, after_devices}
+use Rattle.blk_world.proofs.PieceNodes.{AreNodesAfter, after_devices}
 use Rattle.blk_world.proofs.PieceTold.{noded, only_told}
 use Rattle.world_commands.proofs.Placed.{placed}
 
@@ -58,7 +58,7 @@ module _ (w : WorldSeen) (whole : IsWholeWorld w) (id : List ℕ) (c : CreateFil
   abbrev file_cmd : Cmd
   file_cmd = command.BlockdevCreate (record { job_id = id; options = created.File c })
 
-  same-nodes : AreAfter w.nodes w.nodes
+  same-nodes : AreNodesAfter w.nodes w.nodes
   same-nodes = after_devices w.nodes w.nodes refl (same-devices w.nodes.devices)
 
   -- the file is made

@@ -17,12 +17,12 @@ use Rattle.flat_machine.specs.Bitmaps.{AreBitmapsOf}
 use Rattle.world_parts.specs.Coherent.{DevicesTell, IsCoherent, IsWholeWorld}
 use Rattle.world_commands.specs.Counting.{RunsOn}
 use Rattle.world_parts.specs.Face.{WorldSeen, node_over}
-use Rattle.world_commands.proofs.CarryPlain.{HasShape}
+use Rattle.world_commands.proofs.CarryPlain.{HasTableShape}
 use Rattle.world_commands.proofs.CountLemmas.{runs-devices}
 use Rattle.world_parts.proofs.DeletedLists.{find_none, find_there}
-use Rattle.world_commands.proofs.EasedTables.{IsEased, kept_rows, entered_eased}
-use Rattle.world_commands.proofs.KeptDrives.{IsEntered, KeepsEntered, disks_kept}
-use Rattle.blk_world.proofs.PieceNodes.{AreAfter}
+use Rattle.world_commands.proofs.EasedTables.{IsTableEased, kept_rows, entered_eased}
+use Rattle.world_commands.proofs.KeptDrives.{IsLedTo, KeepsEntered, disks_kept}
+use Rattle.blk_world.proofs.PieceNodes.{AreNodesAfter}
 use Rattle.blk_world.proofs.PieceTables.{coherent_moved}
 use Rattle.world_commands.proofs.Placed.{entered_shape}
 
@@ -30,10 +30,10 @@ use Rattle.world_commands.proofs.Placed.{entered_shape}
 
 -- rows may have lost their disks, but none that an edge leads to
 pub record IsEasedTo (t u : RunTable) : Type 0 where
-  pub eased : IsEased t u
+  pub eased : IsTableEased t u
   pub keeps : KeepsEntered t u
 
-pub eased_shape : (t u : RunTable) → HasShape t u → IsEasedTo t u
+pub eased_shape : (t u : RunTable) → HasTableShape t u → IsEasedTo t u
 eased_shape t u shape = record {
   eased = kept_rows t u shape.nodes shape.edges shape.devices shape.guests shape.jobs;
   keeps = entered_shape t u shape;
@@ -45,7 +45,7 @@ pub record IsLoneFile (t : RunTable) (row : NodeRecord) (name : List ℕ) : Type
   pub filename : row.filename ≡ Some name
   pub lone : first_into row.id t.edges ≡ None
 
-not-entered : (t : RunTable) (row : NodeRecord) (name : List ℕ) → IsLoneFile t row name → (node : ℕ) → IsEntered t node → node ≢ row.id
+not-entered : (t : RunTable) (row : NodeRecord) (name : List ℕ) → IsLoneFile t row name → (node : ℕ) → IsLedTo t node → node ≢ row.id
 not-entered t row name lone node here same =
     let found = find_there (λ (e : Edge). e.child == row.id) t.edges here.edge here.there (eq-eqb here.edge.child row.id (here.leads ∙ same)) in
     false≢true (subst (λ (e : Option Edge). IsSome e) lone.lone found)
@@ -93,7 +93,7 @@ module _ (t : RunTable) (stands : TableStands t) (row : NodeRecord) (name : List
   unfolding changed
   eased_image id size c =
       let u : RunTable = all_changed t (KeepId id ∷ FormatFile row.id name size c.backing_file c.backing_fmt ∷ []) in
-      let eased : IsEased t u = record {
+      let eased : IsTableEased t u = record {
         f = node_changed row.id unsettled;
         only = λ r. by_test (r.id == row.id) r;
         rows = refl;
@@ -112,7 +112,7 @@ module _ (t : RunTable) (stands : TableStands t) (row : NodeRecord) (name : List
   unfolding changed
   eased_spoiled =
       let u : RunTable = all_changed t (SpoilFile name ∷ []) in
-      let eased : IsEased t u = record {
+      let eased : IsTableEased t u = record {
         f = lost_with name;
         only = λ r. by_test (stands_over name r.filename) r;
         rows = refl;
@@ -123,7 +123,7 @@ module _ (t : RunTable) (stands : TableStands t) (row : NodeRecord) (name : List
       } in
       record { eased = eased; keeps = entered_eased t u eased (λ r there here. kept r (stands_over name r.filename) refl there here) }
     where
-      kept : (r : NodeRecord) (b : Bool) → stands_over name r.filename ≡ b → Contains t.nodes r → IsEntered t r.id → lost_with name r ≡ r
+      kept : (r : NodeRecord) (b : Bool) → stands_over name r.filename ≡ b → Contains t.nodes r → IsLedTo t r.id → lost_with name r ≡ r
       kept r true is there here = absurd (not-entered t row name lone r.id here (only-one t stands row name lone r there (sym (over-stands name r) ∙ is)))
       kept r false is there here = rw is refl
 
@@ -145,11 +145,11 @@ module _ (t : RunTable) (name : List ℕ) (closed : list_any (stands_for name) t
       ap (λ (r : NodeRecord). r ∷ map (lost_with name) rows) (rw (over-stands name row ∙ none row (Contains-here row rows)) refl)
       ∙ ap (λ (rs : List NodeRecord). row ∷ rs) (all-kept rows (λ r there. none r (Contains-there row rows r there)))
 
-  pub shape_spoiled : HasShape t (all_changed t (SpoilFile name ∷ []))
+  pub shape_spoiled : HasTableShape t (all_changed t (SpoilFile name ∷ []))
   unfolding changed
   shape_spoiled = record { nodes = all-kept t.nodes not-there; edges = refl; devices = refl; guests = refl; jobs = refl }
 
-pub shape_made : (t : RunTable) (id name : List ℕ) (size : ℕ) → HasShape t (all_changed t (KeepId id ∷ MakeFile name size ∷ []))
+pub shape_made : (t : RunTable) (id name : List ℕ) (size : ℕ) → HasTableShape t (all_changed t (KeepId id ∷ MakeFile name size ∷ []))
 unfolding changed
 shape_made t id name size = record { nodes = refl; edges = refl; devices = refl; guests = refl; jobs = refl }
 
@@ -157,7 +157,7 @@ shape_made t id name size = record { nodes = refl; edges = refl; devices = refl;
 
 pub record Moves (w v : WorldSeen) : Type 0 where
   pub table : IsEasedTo w.table v.table
-  pub nodes : AreAfter w.nodes v.nodes
+  pub nodes : AreNodesAfter w.nodes v.nodes
   pub progress : v.progress ≡ w.progress
   pub opened : v.opened ≡ w.opened
   pub earlier : v.earlier ≡ w.earlier

@@ -8,7 +8,7 @@ use Rattle.blk_history.specs.Fold.{With}
 use Rattle.blk_nodes.specs.declared.stop.FormatStop.{FormatStop}
 use Rattle.flat_machine.specs.Changed.{format_name}
 use Rattle.flat_machine.proofs.Finds.{find-map}
-use Rattle.world_commands.proofs.EasedTables.{IsEased}
+use Rattle.world_commands.proofs.EasedTables.{IsTableEased}
 use Rattle.blk_world.proofs.PieceTables.{row_same}
 use Rattle.blk_base.specs.Stored.{LeavesOthers}
 use Rattle.blk_base.specs.declared.file.File.{File as StoreFile}
@@ -70,7 +70,7 @@ module _ (w : WorldSeen) (whole : IsWholeWorld w) (id : List ℕ) (c : CreateFil
 
 -- ---- images
 
-module _ (w : WorldSeen) (whole : IsWholeWorld w) (x : Ground) (u : RunTable) (row : NodeRecord) (name : List ℕ) (lone : IsLoneFile w.table row name) (eased : IsEased w.table u)
+module _ (w : WorldSeen) (whole : IsWholeWorld w) (x : Ground) (u : RunTable) (row : NodeRecord) (name : List ℕ) (lone : IsLoneFile w.table row name) (eased : IsTableEased w.table u)
     (image : Creation) (outcome : Result (Unit {0}) FormatStop) (formatted : HasFormatted row.id (ground_of w) x image outcome) (told : is_some w.files ≡ true) where
   abbrev image_then : WorldSeen
   image_then = placed w x u

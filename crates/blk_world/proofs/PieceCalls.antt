@@ -22,7 +22,7 @@ use Rattle.blk_pieces.specs.Pieces.{CanTransfer, Transfers}
 use Rattle.world_commands.specs.Piecing.{IsMadeOn, IsPieceMade, HasPieceLicence, part_of, shown_in_flight, table_after}
 use Rattle.world_commands.specs.Recorded.{noted_after, written_in}
 use Rattle.world_parts.specs.Progress.{Progress, HasNext, flight_at, with_piece_entry}
-use Rattle.world_commands.proofs.CountLemmas.{IsThere, there}
+use Rattle.world_commands.proofs.CountLemmas.{HoldsThere, there}
 use Rattle.blk_world.proofs.PieceComes.{piece_comes, piece_licence, piece_whole}
 use Rattle.world_parts.proofs.InStep.{with-at}
 use Rattle.blk_world.proofs.PieceReady.{can_transfer}
@@ -86,7 +86,7 @@ made_of w nodes table p bitmaps g drive node f outcome op on is_node asks noted 
 module _ (w v : WorldSeen) (g : ℕ) (outcome : Outcome) (next : With (flight_at w.progress.guests g) HasNext)
     (made : (f : Flight) → flight_at w.progress.guests g ≡ Some f → IsPieceMade w v g f outcome) (joined : IsJoined w.nodes)
     (whole : IsWholeWorld w) where
-  flight : IsThere (flight_at w.progress.guests g) HasNext
+  flight : HoldsThere (flight_at w.progress.guests g) HasNext
   flight = there (flight_at w.progress.guests g) HasNext next
 
   pub made_comes : Unfolds w.nodes → IsJoined v.nodes → (o : Opening) → Comes o w → Comes o v

@@ -56,10 +56,10 @@ use Rattle.world_commands.proofs.DeletedContents.{over-row}
 use Rattle.blk_world.proofs.ImageTold.{mapping_kept}
 use Rattle.world_parts.proofs.InStep.{ended-push}
 use Rattle.blk_world.proofs.PieceCounts.{AreCounted, piece-counted}
-use Rattle.blk_world.proofs.PieceCopied.{IsMet, Went, writes_file, images_of, piece_went}
+use Rattle.blk_world.proofs.PieceCopied.{MeetsOwnImage, Went, writes_file, images_of, piece_went}
 use Rattle.blk_world.proofs.PieceContents.{content_after, else_by, over_same, held_after}
 use Rattle.blk_world.proofs.PieceFits.{piece_fits, to_disk, stop_reached, same_in}
-use Rattle.blk_world.proofs.PieceNodes.{AreAfter, nodes_after, StoppedOn, IsStop, stop_of, passes_of}
+use Rattle.blk_world.proofs.PieceNodes.{AreNodesAfter, nodes_after, StoppedOn, IsStop, stop_of, passes_of}
 use Rattle.blk_world.proofs.PieceReady.{IsGuestDisk, disk_is, writer, can_transfer, is_apart, is_beside, disk_read}
 use Rattle.blk_world.proofs.PieceShows.{piece_done, piece_shows}
 use Rattle.blk_world.proofs.PieceTold.{told_after}
@@ -109,13 +109,13 @@ module _ (w v : WorldSeen) (g : ℕ) (f : Flight) (outcome : Outcome) (made : Is
   can = can_transfer w.table w.nodes w.progress joined w.opened was g f made.drive made.on flies next
 
   -- the images that a read of the drive meets
-  met : IsMet w.table w.nodes made.drive part.start
+  met : MeetsOwnImage w.table w.nodes made.drive part.start
   met = images_of w.table w.nodes joined was.alike was.table.stands made.drive part.start
 
   went : Went w.table f.op w.nodes v.nodes made.drive node part outcome made.buffer
   went = piece_went w.table w.nodes v.nodes made.drive part outcome made.buffer met f.op made.transferred
 
-  moved : AreAfter w.nodes v.nodes
+  moved : AreNodesAfter w.nodes v.nodes
   moved = nodes_after w.nodes v.nodes joined w.table made.drive node part outcome made.buffer f.op made.transferred went
 
   opened_kept : v.opened ≡ w.opened

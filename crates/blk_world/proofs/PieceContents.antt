@@ -27,16 +27,16 @@ use Rattle.blk_nodes.specs.declared.row.Driver.TheVariants as drivers
 use Rattle.blk_nodes.specs.declared.row.Row.{Row}
 use Rattle.world_parts.specs.Coherent.{AreNodesOf, IsRowOf}
 use Rattle.world_parts.specs.Face.{WorldSeen, held, held_in_file, node_over, told_bytes}
-use Rattle.world_commands.proofs.EasedTables.{IsEased}
+use Rattle.world_commands.proofs.EasedTables.{IsTableEased}
 use Rattle.blk_world.proofs.PieceCopied.{ReadWent, Went, writes_file, into_image}
 use Rattle.blk_world.proofs.PieceTables.{row_same}
 
 -- ---- bytes of devices
 
-abbrev pub content_in : List DeviceSeen → ℕ → Option (List ℕ)
-content_in devices node = option_and_then (λ device. device.content) (device_in devices node)
+abbrev pub device_content_in : List DeviceSeen → ℕ → Option (List ℕ)
+device_content_in devices node = option_and_then (λ device. device.content) (device_in devices node)
 
-pub risen_content : (old new : List DeviceSeen) → HaveRisen old new → (n : ℕ) → content_in new n ≡ content_in old n
+pub risen_content : (old new : List DeviceSeen) → HaveRisen old new → (n : ℕ) → device_content_in new n ≡ device_content_in old n
 risen_content [] [] risen n = refl
 risen_content (a ∷ old) (b ∷ new) risen n =
     let node : b.node ≡ a.node = ap (λ (d : DeviceSeen). d.node) risen.0.same in
@@ -44,14 +44,14 @@ risen_content (a ∷ old) (b ∷ new) risen n =
     ap (λ (m : ℕ). option_and_then (λ (d : DeviceSeen). d.content) (cond (m == n) (Some b) (device_in new n))) node
     ∙ by_test (a.node == n) content (risen_content old new risen.1 n)
   where
-    by_test : (t : Bool) → b.content ≡ a.content → content_in new n ≡ content_in old n
+    by_test : (t : Bool) → b.content ≡ a.content → device_content_in new n ≡ device_content_in old n
         → option_and_then (λ (d : DeviceSeen). d.content) (cond t (Some b) (device_in new n)) ≡ option_and_then (λ (d : DeviceSeen). d.content) (cond t (Some a) (device_in old n))
     by_test true same rest = same
     by_test false same rest = rest
 risen_content [] (b ∷ new) risen n = absurd risen
 risen_content (a ∷ old) [] risen n = absurd risen
 
-pub only_content : (file : ℕ) (old new : List DeviceSeen) → OnlyAt file old new → (n : ℕ) → n ≢ file → content_in new n ≡ content_in old n
+pub only_content : (file : ℕ) (old new : List DeviceSeen) → OnlyAt file old new → (n : ℕ) → n ≢ file → device_content_in new n ≡ device_content_in old n
 only_content file old new only n apart = ap (option_and_then (λ (d : DeviceSeen). d.content)) (only.others n apart)
 
 -- a node is not over the file that a piece writes
@@ -62,50 +62,50 @@ module _ (old new : Nodes) (node n : ℕ) where
   abbrev NotItsFile : Type 0
   NotItsFile = (row : Row) (file : ℕ) → row_at old node ≡ Some row → own_file old node row.driver ≡ Some file → n ≢ file
 
-  file_content : (place : ℕ) (bytes : List ℕ) (outcome : Outcome) → WritesFile old new node place bytes outcome → NotItsFile → content_in new.devices n ≡ content_in old.devices n
+  file_content : (place : ℕ) (bytes : List ℕ) (outcome : Outcome) → WritesFile old new node place bytes outcome → NotItsFile → device_content_in new.devices n ≡ device_content_in old.devices n
   file_content place bytes outcome wrote apart =
       only_content wrote.file old.devices new.devices wrote.at.only n (apart wrote.row wrote.file wrote.there wrote.own)
 
   image_content : (fits : ℕ → Type 0) (own rest : Option ℕ) (m : ℕ) (outcome : Outcome) (row : Row) (d : Driver) → row_at old node ≡ Some row → row.driver ≡ d
-      → (wrote : WritesImage fits own rest old new node m outcome) → own_file old node d ≡ Some wrote.file → NotItsFile → content_in new.devices n ≡ content_in old.devices n
+      → (wrote : WritesImage fits own rest old new node m outcome) → own_file old node d ≡ Some wrote.file → NotItsFile → device_content_in new.devices n ≡ device_content_in old.devices n
   image_content fits own rest m outcome row d there driver wrote is apart = elim wrote.devices [
     | inl only ↦ only_content wrote.file old.devices new.devices only n (apart row wrote.file there (ap (own_file old node) driver ∙ is))
     | inr risen ↦ risen_content old.devices new.devices risen n
   ]
 
   write_content : (part : Extent) (bytes : List ℕ) (outcome : Outcome) (row : Row) → row_at old node ≡ Some row → (d : Driver) → row.driver ≡ d → WritesBy d old new node part bytes outcome
-      → NotItsFile → content_in new.devices n ≡ content_in old.devices n
+      → NotItsFile → device_content_in new.devices n ≡ device_content_in old.devices n
   write_content part bytes outcome row there drivers.File driver wrote apart = file_content part.start bytes outcome wrote apart
   write_content part bytes outcome row there (drivers.Raw p) driver wrote apart = file_content part.start bytes outcome wrote apart
   write_content part bytes outcome row there (drivers.Qcow2 image) driver wrote apart = image_content _ _ _ _ outcome row (drivers.Qcow2 image) there driver wrote wrote.edge apart
   write_content part bytes outcome row there drivers.CopyOnRead driver wrote apart = file_content part.start bytes outcome wrote apart
 
   zero_content : (part : Extent) (outcome : Outcome) (row : Row) → row_at old node ≡ Some row → (d : Driver) → row.driver ≡ d → ZerosBy d old new node part outcome
-      → NotItsFile → content_in new.devices n ≡ content_in old.devices n
+      → NotItsFile → device_content_in new.devices n ≡ device_content_in old.devices n
   zero_content part outcome row there drivers.File driver wrote apart = file_content part.start (replicate part.len 0) outcome wrote apart
   zero_content part outcome row there (drivers.Raw p) driver wrote apart = file_content part.start (replicate part.len 0) outcome wrote apart
   zero_content part outcome row there (drivers.Qcow2 image) driver wrote apart = image_content _ _ _ _ outcome row (drivers.Qcow2 image) there driver wrote wrote.edge apart
   zero_content part outcome row there drivers.CopyOnRead driver wrote apart = file_content part.start (replicate part.len 0) outcome wrote apart
 
-  flush_content : (file : ℕ) (outcome : Outcome) → IsFlushAt file old.devices new.devices outcome → content_in new.devices n ≡ content_in old.devices n
+  flush_content : (file : ℕ) (outcome : Outcome) → IsFlushAt file old.devices new.devices outcome → device_content_in new.devices n ≡ device_content_in old.devices n
   flush_content file outcome flushed = by_node (cases_eq n file)
     where
-      by_node : (n ≡ file) ⊎ (n ≢ file) → content_in new.devices n ≡ content_in old.devices n
+      by_node : (n ≡ file) ⊎ (n ≢ file) → device_content_in new.devices n ≡ device_content_in old.devices n
       by_node (inl same) =
-          ap (content_in new.devices) same ∙ ap (option_and_then (λ (d : DeviceSeen). d.content)) flushed.left
+          ap (device_content_in new.devices) same ∙ ap (option_and_then (λ (d : DeviceSeen). d.content)) flushed.left
           ∙ ap (λ (d : DeviceSeen). d.content) flushed.flush.is
-          ∙ sym (ap (content_in old.devices) same ∙ ap (option_and_then (λ (d : DeviceSeen). d.content)) flushed.held)
+          ∙ sym (ap (device_content_in old.devices) same ∙ ap (option_and_then (λ (d : DeviceSeen). d.content)) flushed.held)
       by_node (inr apart) = only_content file old.devices new.devices flushed.only n apart
 
   module _ (t : RunTable) (drive : ℕ) (part : Extent) (outcome : Outcome) (buffer : List ℕ) where
-    read_content : ReadWent t old new drive node part outcome buffer → IsElse (copies_through t drive) old node n → content_in new.devices n ≡ content_in old.devices n
+    read_content : ReadWent t old new drive node part outcome buffer → IsElse (copies_through t drive) old node n → device_content_in new.devices n ≡ device_content_in old.devices n
     read_content (inl only) apart = risen_content old.devices new.devices only.devices n
-    read_content (inr (inl full)) apart = ap (λ (ns : Nodes). content_in ns.devices n) full.room.same
+    read_content (inr (inl full)) apart = ap (λ (ns : Nodes). device_content_in ns.devices n) full.room.same
     read_content (inr (inr into)) apart =
         let wrote = into_image t old new drive node part outcome buffer into in
         image_content _ _ _ _ outcome into.copied.row (drivers.Qcow2 into.copied.image) into.copied.there into.copied.driver wrote wrote.edge (apart into.copied.copies)
 
-    pub content_after : (op : Op) → Went t op old new drive node part outcome buffer → IsElse (writes_file t drive op) old node n → content_in new.devices n ≡ content_in old.devices n
+    pub content_after : (op : Op) → Went t op old new drive node part outcome buffer → IsElse (writes_file t drive op) old node n → device_content_in new.devices n ≡ device_content_in old.devices n
     content_after (Read span) went apart = read_content went apart
     content_after (Write span payload) went apart =
         write_content part (payload_in (Write span payload) part) outcome went.0.row went.0.there went.0.row.driver refl went.0.wrote (apart refl)
@@ -141,7 +141,7 @@ module _ (t : RunTable) (nodes : Nodes) (are : AreNodesOf t nodes) (node : ℕ) 
 
 -- ---- the node over a file
 
-pub over_same : (t now : RunTable) → IsEased t now → (name : List ℕ) → node_over now name ≡ node_over t name
+pub over_same : (t now : RunTable) → IsTableEased t now → (name : List ℕ) → node_over now name ≡ node_over t name
 over_same t now e name =
     ap (λ (rows : List NodeRecord). option_map (λ (r : NodeRecord). r.id) (find (stands_for name) rows)) e.rows
     ∙ ap (option_map (λ (r : NodeRecord). r.id)) (find-map (stands_for name) e.f (row_same t now e (stands_for name) (λ row. refl)) t.nodes)
@@ -153,7 +153,7 @@ over_same t now e name =
 
 -- what a file holds, where its device does
 pub held_after : (w v : WorldSeen) (name : List ℕ) → v.files ≡ w.files → node_over v.table name ≡ node_over w.table name
-    → ((n : ℕ) → node_over w.table name ≡ Some n → content_in v.nodes.devices n ≡ content_in w.nodes.devices n) → held v name ≡ held w name
+    → ((n : ℕ) → node_over w.table name ≡ Some n → device_content_in v.nodes.devices n ≡ device_content_in w.nodes.devices n) → held v name ≡ held w name
 held_after w v name files over same = ap (held_in_file v name) over ∙ by_node (node_over w.table name) refl
   where
     by_node : (found : Option ℕ) → node_over w.table name ≡ found → held_in_file v name found ≡ held_in_file w name found

@@ -180,8 +180,8 @@ bare_below nodes row next place puts = by_row (row_at nodes next) refl puts
     by_row (Some under) there is = by_driver under under.driver there refl (right (is_copy_on_read row.driver) (shows_below_at place under.driver) is)
 
 -- no image is met by a read of the drive, or the one that the drive reads as
-abbrev pub IsMet : RunTable → Nodes → ℕ → ℕ → Type 0
-IsMet t nodes drive place = (images_met nodes drive place ≡ []) ⊎ IsCopied t nodes drive (disk_node t drive) place
+abbrev pub MeetsOwnImage : RunTable → Nodes → ℕ → ℕ → Type 0
+MeetsOwnImage t nodes drive place = (images_met nodes drive place ≡ []) ⊎ IsCopied t nodes drive (disk_node t drive) place
 
 module _ (t : RunTable) (nodes : Nodes) (joined : IsJoined nodes) (are : AreNodesOf t nodes) (stands : TableStands t) (drive place : ℕ) where
   module _ (row : Row) (there : row_at nodes drive ≡ Some row) (driver : row.driver ≡ CopyOnRead) where
@@ -204,7 +204,7 @@ module _ (t : RunTable) (nodes : Nodes) (joined : IsJoined nodes) (are : AreNode
         ∙ ap (λ (b : Bool). cond b (next ∷ images_met_in 63 nodes next place) (images_met_in 63 nodes next place)) is
         ∙ ap (λ (ids : List ℕ). cond puts (next ∷ ids) ids) (none_in t nodes joined are stands 63 next place (below_none t nodes joined are stands drive next FileRole edge))
 
-    copied : (next : ℕ) → file_of nodes drive ≡ Some next → puts_below (row_at nodes drive) (row_at nodes next) place ≡ true → IsMet t nodes drive place
+    copied : (next : ℕ) → file_of nodes drive ≡ Some next → puts_below (row_at nodes drive) (row_at nodes next) place ≡ true → MeetsOwnImage t nodes drive place
     unfolding images_met
     copied next edge puts =
         let top = row_of t nodes joined are stands drive row there in
@@ -230,39 +230,39 @@ module _ (t : RunTable) (nodes : Nodes) (joined : IsJoined nodes) (are : AreNode
           driver = bare.driver;
         }))
 
-    below_it : (found : Option ℕ) → file_of nodes drive ≡ found → IsMet t nodes drive place
+    below_it : (found : Option ℕ) → file_of nodes drive ≡ found → MeetsOwnImage t nodes drive place
     unfolding images_met
     below_it None edge = inl (met_nothing nodes drive place 63 (goes ∙ ap in_below edge))
     below_it (Some next) edge = by_puts (puts_below (row_at nodes drive) (row_at nodes next) place) refl
       where
-        by_puts : (b : Bool) → puts_below (row_at nodes drive) (row_at nodes next) place ≡ b → IsMet t nodes drive place
+        by_puts : (b : Bool) → puts_below (row_at nodes drive) (row_at nodes next) place ≡ b → MeetsOwnImage t nodes drive place
         by_puts true puts = copied next edge puts
         by_puts false puts = inl (met_one next edge false puts)
 
-  pub images_of : IsMet t nodes drive place
+  pub images_of : MeetsOwnImage t nodes drive place
   unfolding images_met
   images_of = by_row (row_at nodes drive) refl
     where
-      none : CopiesNone nodes drive → IsMet t nodes drive place
+      none : CopiesNone nodes drive → MeetsOwnImage t nodes drive place
       none apart = inl (none_in t nodes joined are stands 64 drive place apart)
 
-      other : (row : Row) → row_at nodes drive ≡ Some row → (row.driver ≡ CopyOnRead → ⊥) → IsMet t nodes drive place
+      other : (row : Row) → row_at nodes drive ≡ Some row → (row.driver ≡ CopyOnRead → ⊥) → MeetsOwnImage t nodes drive place
       other row there apart = none (λ found at bad. let same : row ≡ found = cc (sym there ∙ at) in apart (ap (λ (r : Row). r.driver) same ∙ bad))
 
-      by_driver : (row : Row) (driver : Driver) → row_at nodes drive ≡ Some row → row.driver ≡ driver → IsMet t nodes drive place
+      by_driver : (row : Row) (driver : Driver) → row_at nodes drive ≡ Some row → row.driver ≡ driver → MeetsOwnImage t nodes drive place
       by_driver row File there is = other row there (λ bad. let no : ⊥ = cc (sym is ∙ bad) in no)
       by_driver row (Raw part) there is = other row there (λ bad. let no : ⊥ = cc (sym is ∙ bad) in no)
       by_driver row (Qcow2 image) there is = other row there (λ bad. let no : ⊥ = cc (sym is ∙ bad) in no)
       by_driver row CopyOnRead there is = below_it row there is (file_of nodes drive) refl
 
-      by_row : (found : Option Row) → row_at nodes drive ≡ found → IsMet t nodes drive place
+      by_row : (found : Option Row) → row_at nodes drive ≡ found → MeetsOwnImage t nodes drive place
       by_row None there = none (λ row at bad. let no : ⊥ = cc (sym there ∙ at) in no)
       by_row (Some row) there = by_driver row row.driver there refl
 
 -- ---- how a read went
 
 -- it was read, and counts of devices alone may have risen
-pub record OnlyReads (old new : Nodes) (drive : ℕ) (outcome : Outcome) : Type 0 where
+pub record OnlyReadsPiece (old new : Nodes) (drive : ℕ) (outcome : Outcome) : Type 0 where
   pub devices : HaveRisen old.devices new.devices
   pub below : IsReadBelow old new drive outcome
 
@@ -285,7 +285,7 @@ into_image t old new drive node part outcome buffer into =
 -- by what it met
 abbrev pub ReadWent : RunTable → Nodes → Nodes → ℕ → ℕ → Extent → Outcome → List ℕ → Type 0
 ReadWent t old new drive node part outcome buffer =
-    OnlyReads old new drive outcome ⊎ (ReadsFull t old new drive node part outcome ⊎ ReadsInto t old new drive node part outcome buffer)
+    OnlyReadsPiece old new drive outcome ⊎ (ReadsFull t old new drive node part outcome ⊎ ReadsInto t old new drive node part outcome buffer)
 
 -- a piece of a drive, which reads as the node
 abbrev pub Went : RunTable → Op → Nodes → Nodes → ℕ → ℕ → Extent → Outcome → List ℕ → Type 0
@@ -304,10 +304,10 @@ writes_file t drive Flush = is_write Flush
 writes_file t drive (Discard span) = is_write (Discard span)
 
 module _ (t : RunTable) (old new : Nodes) (drive : ℕ) (part : Extent) (outcome : Outcome) (buffer : List ℕ) where
-  only_stopped : StopsUnread old new drive part outcome → OnlyReads old new drive outcome
+  only_stopped : StopsUnread old new drive part outcome → OnlyReadsPiece old new drive outcome
   only_stopped stops = record { devices = stops.devices; below = subst (IsReadBelow old new drive) (sym stops.is) stops.stopped }
 
-  read_went : IsMet t old drive part.start → ReadsPart old new drive part outcome buffer → ReadWent t old new drive (disk_node t drive) part outcome buffer
+  read_went : MeetsOwnImage t old drive part.start → ReadsPart old new drive part outcome buffer → ReadWent t old new drive (disk_node t drive) part outcome buffer
   read_went (inl none) did =
       let only = none_met old new drive part outcome buffer did none in
       inl (record { devices = only.devices; below = only.outcome_is })
@@ -317,7 +317,7 @@ module _ (t : RunTable) (old new : Nodes) (drive : ℕ) (part : Extent) (outcome
     | inr (inr maps) ↦ inr (inr (record { copied = one; maps = maps }))
   ]
 
-  pub piece_went : IsMet t old drive part.start → (op : Op) → Transfers op old new drive (disk_node t drive) part outcome buffer
+  pub piece_went : MeetsOwnImage t old drive part.start → (op : Op) → Transfers op old new drive (disk_node t drive) part outcome buffer
       → Went t op old new drive (disk_node t drive) part outcome buffer
   piece_went met (Read span) did = read_went met did
   piece_went met (Write span payload) did = did

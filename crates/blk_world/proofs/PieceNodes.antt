@@ -36,15 +36,15 @@ use Rattle.blk_world.proofs.PieceCopied.{ReadWent, Went, into_image}
 
 -- ---- nodes after it
 
-pub record AreAfter (old new : Nodes) : Type 0 where
+pub record AreNodesAfter (old new : Nodes) : Type 0 where
   pub graph : new.graph ≡ old.graph
   pub rows : (n : ℕ) → AreRowsAfter (row_at old n) (row_at new n)
   pub devices : AreSameDevices old.devices new.devices
 
-of_rows : (old new : Nodes) → RowsAfter old new → AreSameDevices old.devices new.devices → AreAfter old new
+of_rows : (old new : Nodes) → RowsAfter old new → AreSameDevices old.devices new.devices → AreNodesAfter old new
 of_rows old new rows devices = record { graph = rows.graph; rows = rows.rows; devices = devices }
 
-pub after_devices : (old new : Nodes) → new ≡ record old { devices = new.devices } → AreSameDevices old.devices new.devices → AreAfter old new
+pub after_devices : (old new : Nodes) → new ≡ record old { devices = new.devices } → AreSameDevices old.devices new.devices → AreNodesAfter old new
 after_devices old new kept devices = of_rows old new (rows_kept old new kept) devices
 
 module _ (old new : Nodes) (joined : IsJoined old) where
@@ -100,7 +100,7 @@ module _ (old new : Nodes) (joined : IsJoined old) where
     devices_after Flush went = flush_devices (base_of old node) outcome went.flushed
     devices_after (Discard span) went = absurd went
 
-    pub nodes_after : (op : Op) → Transfers op old new drive node part outcome buffer → Went t op old new drive node part outcome buffer → AreAfter old new
+    pub nodes_after : (op : Op) → Transfers op old new drive node part outcome buffer → Went t op old new drive node part outcome buffer → AreNodesAfter old new
     nodes_after op did went = of_rows old new (rows_after old new drive node op part outcome buffer did) (devices_after op went)
 
 -- ---- the table speaks of them as before
@@ -125,7 +125,7 @@ alike_row (Some row) (Some old) new is alike =
     } in
     subst (AreAlike (Some row)) (sym is.1) now
 
-pub alike_after : (t : RunTable) (old new : Nodes) → AreAfter old new → AreNodesOf t old → AreNodesOf t new
+pub alike_after : (t : RunTable) (old new : Nodes) → AreNodesAfter old new → AreNodesOf t old → AreNodesOf t new
 alike_after t old new after are = record {
   listed = ap (λ (g : Graph). g.nodes) after.graph ∙ are.listed;
   edges = ap (λ (g : Graph). g.edges) after.graph ∙ are.edges;
@@ -135,11 +135,11 @@ alike_after t old new after are = record {
 -- ---- whose device stopped it
 
 -- a node that is written in place in its file
-abbrev pub IsPlain : Driver → Type 0
-IsPlain drivers.File = Unit {0}
-IsPlain (drivers.Raw part) = Unit {0}
-IsPlain (drivers.Qcow2 image) = ⊥
-IsPlain drivers.CopyOnRead = ⊥
+abbrev pub IsWrittenInPlace : Driver → Type 0
+IsWrittenInPlace drivers.File = Unit {0}
+IsWrittenInPlace (drivers.Raw part) = Unit {0}
+IsWrittenInPlace (drivers.Qcow2 image) = ⊥
+IsWrittenInPlace drivers.CopyOnRead = ⊥
 
 -- a device that the node leads to; where a count is told, it rose to that
 abbrev pub IsStop : DeviceSeen → DeviceSeen → Outcome → DevNo → Type 0
@@ -233,7 +233,7 @@ module _ (old new : Nodes) (node : ℕ) where
       let same : other ≡ dev = cc named in subst (λ (d : DevNo). StoppedBy before after d count) same cause
   flush_stop_by before after (NoSpace other) dev named cause = absurd cause
 
-plain_leads : (nodes : Nodes) (node file : ℕ) (d : Driver) → IsPlain d → own_file nodes node d ≡ Some file → LeadsTo nodes.graph.edges node file
+plain_leads : (nodes : Nodes) (node file : ℕ) (d : Driver) → IsWrittenInPlace d → own_file nodes node d ≡ Some file → LeadsTo nodes.graph.edges node file
 plain_leads nodes node file drivers.File plain is = inl (cc is)
 plain_leads nodes node file (drivers.Raw part) plain is = child_leads nodes.graph.edges node file FileRole is
 plain_leads nodes node file (drivers.Qcow2 image) plain is = absurd plain
@@ -268,7 +268,7 @@ module _ (old new : Nodes) (node : ℕ) where
       let same : wrote.row ≡ row = cc (sym wrote.there ∙ there) in
       ap (own_file old node) (sym driver ∙ ap (λ (r : Row). r.driver) (sym same)) ∙ wrote.own
 
-  plain_stop : (place : ℕ) (bytes : List ℕ) (outcome : Outcome) (dev : DevNo) (row : Row) (d : Driver) → faulty_device outcome ≡ Some dev → row_at old node ≡ Some row → row.driver ≡ d → IsPlain d
+  plain_stop : (place : ℕ) (bytes : List ℕ) (outcome : Outcome) (dev : DevNo) (row : Row) (d : Driver) → faulty_device outcome ≡ Some dev → row_at old node ≡ Some row → row.driver ≡ d → IsWrittenInPlace d
       → WritesFile old new node place bytes outcome → StoppedOn old new node outcome dev
   plain_stop place bytes outcome dev row d named there driver plain wrote =
       file_stop old new node place bytes outcome dev named wrote

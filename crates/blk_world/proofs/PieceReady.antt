@@ -46,7 +46,7 @@ use Rattle.flat_machine.proofs.WritingKept.{RoleEdge, role_edge}
 use Rattle.world_parts.proofs.InStep.{with-at}
 use Rattle.blk_world.proofs.PiecePaths.{row_there, acyclic, or-left, or-right, OnlyFilters, leads_reads}
 use Rattle.blk_world.proofs.PieceWriters.{own_row, filter_edge, down_disk}
-use Rattle.blk_world.proofs.PieceCopied.{IsMet, images_of}
+use Rattle.blk_world.proofs.PieceCopied.{MeetsOwnImage, images_of}
 
 -- ---- the last edge of a path
 
@@ -396,7 +396,7 @@ module _ (t : RunTable) (nodes : Nodes) (p : Progress) (joined : IsJoined nodes)
     may_copy : (place : ℕ) → AtEach (MayWriteThrough nodes) (images_met nodes drive place)
     may_copy place = by_images (images_of t nodes joined was.alike was.table.stands drive place)
       where
-        by_images : IsMet t nodes drive place → AtEach (MayWriteThrough nodes) (images_met nodes drive place)
+        by_images : MeetsOwnImage t nodes drive place → AtEach (MayWriteThrough nodes) (images_met nodes drive place)
         by_images (inl none) = subst (AtEach (MayWriteThrough nodes)) (sym none) tt
         by_images (inr one) =
             let disk : IsDiskOf t one.top disk_is.row =

@@ -39,7 +39,7 @@ use Rattle.blk_pieces.proofs.Payloads.{IsPutting, taken_is}
 use Rattle.world_commands.specs.Piecing.{table_after}
 use Rattle.world_parts.specs.Progress.{ended_in}
 use Rattle.world_commands.proofs.Quiet.{stands-onward}
-use Rattle.blk_world.proofs.PieceCopied.{IsMet, writes_file}
+use Rattle.blk_world.proofs.PieceCopied.{MeetsOwnImage, writes_file}
 
 -- ---- what stands beside the disks
 
@@ -127,12 +127,12 @@ module _ (t : RunTable) (w v : WorldSeen) (drive : ℕ) (op : Op) (outcome : Out
 -- A read leaves what all nodes read as, but for the `file` node below an image into which a copy-on-read puts it.
 module _ (t : RunTable) (w v : WorldSeen) (drive : ℕ) (outcome : Outcome) (part : Extent) (buffer : List ℕ) (told : AreTold w.nodes.devices)
     (held_else : (name : List ℕ) → (copies_through t drive ≡ true → written_file t (disk_node t drive) ≡ Some name → ⊥) → held v name ≡ held w name)
-    (did : ReadsPart w.nodes v.nodes drive part outcome buffer) (met : IsMet t w.nodes drive part.start)
+    (did : ReadsPart w.nodes v.nodes drive part outcome buffer) (met : MeetsOwnImage t w.nodes drive part.start)
     (beside : (other : ℕ) → (child t (disk_node t drive) File ≡ Some other → ⊥) → IsBeside w.nodes other (disk_node t drive)) where
   stays : (other : ℕ) → (copies_through t drive ≡ true → IsBeside w.nodes other (disk_node t drive)) → disk_of v.nodes other ≡ disk_of w.nodes other
   stays other is = did.disks told other (by_images met)
     where
-      by_images : IsMet t w.nodes drive part.start → AtEach (IsBeside w.nodes other) (images_met w.nodes drive part.start)
+      by_images : MeetsOwnImage t w.nodes drive part.start → AtEach (IsBeside w.nodes other) (images_met w.nodes drive part.start)
       by_images (inl none) = subst (AtEach (IsBeside w.nodes other)) (sym none) tt
       by_images (inr one) = subst (AtEach (IsBeside w.nodes other)) (sym one.met) (is one.copies, tt)
 
@@ -159,7 +159,7 @@ module _ (t : RunTable) (w v : WorldSeen) (drive : ℕ) (outcome : Outcome) (par
 
 pub piece_done : (s : State) (t : RunTable) (w v : WorldSeen) (drive : ℕ) (op : Op) (outcome : Outcome) (part : Extent) (buffer : List ℕ) → s.table ≡ t
     → Transfers op w.nodes v.nodes drive (disk_node t drive) part outcome buffer
-    → IsMet t w.nodes drive part.start
+    → MeetsOwnImage t w.nodes drive part.start
     → ((other : ℕ) → (child t (disk_node t drive) File ≡ Some other → ⊥) → IsBeside w.nodes other (disk_node t drive))
     → ((other : ℕ) → (ReadsWritten t (disk_node t drive) other → ⊥) → IsApartFrom w.nodes other (disk_node t drive))
     → AreTold w.nodes.devices

@@ -32,13 +32,13 @@ use Rattle.world_parts.specs.Coherent.{IsCoherent, AreOnDisks}
 use Rattle.world_commands.specs.Piecing.{table_after}
 use Rattle.world_parts.specs.Progress.{Progress}
 use Rattle.world_commands.proofs.CountLemmas.{out-same}
-use Rattle.world_commands.proofs.EasedTables.{IsEased, eased_at, kept_rows, nodes_of_eased, out_eased}
-use Rattle.blk_world.proofs.PieceNodes.{AreAfter, alike_after}
+use Rattle.world_commands.proofs.EasedTables.{IsTableEased, eased_at, kept_rows, nodes_of_eased, out_eased}
+use Rattle.blk_world.proofs.PieceNodes.{AreNodesAfter, alike_after}
 use Rattle.blk_world.proofs.PieceWriters.{none_over}
 
 -- ---- tables in which rows may have lost their flat disks
 
-module _ (t now : RunTable) (e : IsEased t now) where
+module _ (t now : RunTable) (e : IsTableEased t now) where
   -- what doesn't speak of flat disks is the same of a row
   pub row_same : {A : Type 0} (g : NodeRecord → A) → ((row : NodeRecord) → g (unsettled row) ≡ g row) → (row : NodeRecord) → g (e.f row) ≡ g row
   row_same g blind row = elim (e.only row) [ inl same ↦ ap g same | inr lost ↦ ap g lost ∙ blind row ]
@@ -89,7 +89,7 @@ module _ (t now : RunTable) (e : IsEased t now) where
   writable_same None never = absurd never
   writable_same (Some row) is = row_same (λ r. r.read_only) (λ r. refl) row ∙ is
 
-  module _ (nodes next : Nodes) (opened : List Opened) (p : Progress) (after : AreAfter nodes next) (rests : TableAtRest now) (disks : AreOnDisks now) where
+  module _ (nodes next : Nodes) (opened : List Opened) (p : Progress) (after : AreNodesAfter nodes next) (rests : TableAtRest now) (disks : AreOnDisks now) where
     pub coherent_moved : IsCoherent t nodes opened p → IsCoherent now next opened p
     coherent_moved was = record {
       table = rests;
@@ -117,7 +117,7 @@ over_by : (b : Bool) (row : NodeRecord) → (cond b (unsettled row) row ≡ row)
 over_by true row = inr refl
 over_by false row = inl refl
 
-pub eased_written : (t : RunTable) (node : ℕ) → IsEased t (written_under node t)
+pub eased_written : (t : RunTable) (node : ℕ) → IsTableEased t (written_under node t)
 unfolding written_under
 eased_written t node = record {
   f = unsettled_over t node;
@@ -129,7 +129,7 @@ eased_written t node = record {
   jobs = refl;
 }
 
-pub eased_after : (op : Op) (node : ℕ) (t : RunTable) → IsEased t (table_after op node t)
+pub eased_after : (op : Op) (node : ℕ) (t : RunTable) → IsTableEased t (table_after op node t)
 eased_after (Read span) node t = kept_rows t t refl refl refl refl refl
 eased_after (Write span payload) node t = eased_written t node
 eased_after (Zero span) node t = eased_written t node

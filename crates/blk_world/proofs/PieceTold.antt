@@ -19,7 +19,7 @@ use Rattle.blk_nodes.specs.declared.row.Driver.TheVariants as drivers
 use Rattle.world_commands.specs.Counting.{AreSameDevices}
 use Rattle.qmp_rules.specs.Table.{RunTable}
 use Rattle.world_commands.proofs.CountLemmas.{found-before}
-use Rattle.blk_world.proofs.PieceContents.{content_in, risen_content, only_content}
+use Rattle.blk_world.proofs.PieceContents.{device_content_in, risen_content, only_content}
 use Rattle.blk_world.proofs.PieceCopied.{ReadWent, Went, into_image}
 
 -- a device stands at its node
@@ -34,7 +34,7 @@ noded (d ∷ devices) x once there = elim (Contains-cases d devices x there) [
 
 -- whether a node's device tells its bytes
 abbrev pub is_told : List DeviceSeen → ℕ → Bool
-is_told devices n = is_some (content_in devices n)
+is_told devices n = is_some (device_content_in devices n)
 
 pub only_told : (file : ℕ) (old new : List DeviceSeen) (before after : DeviceSeen) → OnlyAt file old new → device_in old file ≡ Some before → device_in new file ≡ Some after
     → is_some after.content ≡ is_some before.content → (n : ℕ) → is_told new n ≡ is_told old n
@@ -98,7 +98,7 @@ told_after t op old new drive node part outcome buffer joined now same went told
     let before = found-before old.devices new.devices device same there in
     let held : device_in old.devices before.0.node ≡ Some before.0 = noded old.devices before.0 joined.once before.1 in
     let here : device_in new.devices device.node ≡ Some device = noded new.devices device now.once there in
-    let tells : List DeviceSeen → ℕ → Bool = λ devices n. is_some (content_in devices n) in
+    let tells : List DeviceSeen → ℕ → Bool = λ devices n. is_some (device_content_in devices n) in
     sym (ap (λ (d : Option DeviceSeen). is_some (option_and_then (λ (x : DeviceSeen). x.content) d)) here)
     ∙ told_same old new device.node t drive node part outcome buffer op went
     ∙ ap (tells old.devices) before.2.node

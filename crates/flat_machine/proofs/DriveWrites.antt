@@ -18,7 +18,7 @@ use Rattle.flat_machine.specs.Writing.{IsGuestWritable}
 use Rattle.flat_machine.specs.Wiring.{StandsFor, LeadsToFile, IsDiskOf, writes_through}
 use Rattle.flat_machine.specs.Standing.{IsUsedUp, MayGuestWrite, Stands}
 use Rattle.flat_machine.proofs.Kept.{own_disk}
-use Rattle.flat_machine.proofs.WritingKept.{role_edge, WritesFile, writes_file}
+use Rattle.flat_machine.proofs.WritingKept.{role_edge, WritesFileUnder, writes_file}
 
 -- A guest on a node writes what may be written, where a `file` node has its flat disk and was used.
 pub drive_may : (s : State) (device : Device) (row : NodeRecord) → Stands s → Contains s.table.nodes row → device.read_only ≡ row.read_only
@@ -89,7 +89,7 @@ drive_may s device row h there same settled known writes = by_disk (node_by_id s
                 let kept = has.settled in
                 cc
 
-        is_known : (name : List ℕ) → WritesFile s.table disk name → content_in s.files name ≡ Some Unknown
+        is_known : (name : List ℕ) → WritesFileUnder s.table disk name → content_in s.files name ≡ Some Unknown
         is_known name w = by_from w.from
           where
             by_from : ((w.row.id ≡ disk) ⊎ (child s.table disk File ≡ Some w.row.id)) → content_in s.files name ≡ Some Unknown
@@ -98,7 +98,7 @@ drive_may s device row h there same settled known writes = by_disk (node_by_id s
                 known name (ap (λ r. r.filename) (sym drive) ∙ w.stands.filename)
             by_from (inr is) = h.writing.unknown name d w.row (has_file w.row w.stands.there is) w.stands.filename
 
-        not_left : (name : List ℕ) → WritesFile s.table disk name → (l : Left) → IsUsedUp s l → l.file ≡ name → ⊥
+        not_left : (name : List ℕ) → WritesFileUnder s.table disk name → (l : Left) → IsUsedUp s l → l.file ≡ name → ⊥
         not_left name w l used same_file = by_from w.from
           where
             over : StandsFor s.table l.file w.row
@@ -115,7 +115,7 @@ drive_may s device row h there same settled known writes = by_disk (node_by_id s
                 let f = has_file w.row w.stands.there is in
                 used.is_open w.row over (record { edge = f.edge; there = f.there; over = f.role; child = f.child })
 
-        is_named : (name : List ℕ) → WritesFile s.table disk name → has_name name s.named ≡ true
+        is_named : (name : List ℕ) → WritesFileUnder s.table disk name → has_name name s.named ≡ true
         is_named name w = by_from w.from
           where
             by_from : ((w.row.id ≡ disk) ⊎ (child s.table disk File ≡ Some w.row.id)) → has_name name s.named ≡ true

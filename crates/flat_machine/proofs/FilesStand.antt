@@ -25,7 +25,7 @@ use Rattle.flat_machine.proofs.Tables.{file_state-with, file_state-other}
 use Rattle.flat_machine.proofs.Rows.{IsLike, SameRows, rows-same, rows-mapped, same_row, changed_row, like_lost, like_unsettled, kept_lost, kept_unsettled}
 use Rattle.flat_machine.proofs.Wired.{Grows, NoRow, NoEdge}
 use Rattle.flat_machine.proofs.TablesKept.{rows_grow, rows_table}
-use Rattle.flat_machine.proofs.WritingKept.{role_edge, IsEntered, WritesFile, grown_writing, left_still}
+use Rattle.flat_machine.proofs.WritingKept.{role_edge, IsEntered, WritesFileUnder, grown_writing, left_still}
 use Rattle.flat_machine.proofs.WritingAdded.{has_name-grows, drive_there, same_devices}
 
 -- ---- a file whose state changes, over rows that stand as they did
@@ -56,7 +56,7 @@ all-filter P p (x ∷ xs) h = by_test (p x) (all-filter P p xs (All-tail P x xs 
 -- no node that a guest may write has the file
 pub record IsSpared (t : RunTable) (name : List ℕ) : Type 0 where
   pub taken : (over under : NodeRecord) → LeadsToFile t over under → under.filename ≡ Some name → ⊥
-  pub written : (node : ℕ) → IsEntered t node → WritesFile t node name → ⊥
+  pub written : (node : ℕ) → IsEntered t node → WritesFileUnder t node name → ⊥
 
 -- the disks that were left stay, or those in the file are gone
 abbrev pub Forgets : State → State → List ℕ → FileState → Type 0
@@ -107,7 +107,7 @@ module _ (s now : State) (name : List ℕ) (state : FileState) (content : Conten
           | inr gone ↦ subst (All (IsUsedUp now)) (sym gone) (left_filtered s.left h.writing.left)
         ];
         written = λ node n here entered of known. still_unknown n known
-            (λ same. elim spared [ inl unknown ↦ unknown | inr spare ↦ absurd (spare.written node entered (subst (WritesFile s.table node) same of)) ]);
+            (λ same. elim spared [ inl unknown ↦ unknown | inr spare ↦ absurd (spare.written node entered (subst (WritesFileUnder s.table node) same of)) ]);
         emptied = λ node n here entered of none. elim forgets [
           | inl kept ↦ subst (All (λ l. l.file ≢ n)) (sym kept.0) none
           | inr gone ↦ subst (All (λ l. l.file ≢ n)) (sym gone) (all-filter (λ l. l.file ≢ n) (λ l. not (bytes_eq l.file name)) s.left none)

@@ -26,7 +26,7 @@ use Rattle.flat_machine.specs.Writing.{PieceDone, written_file}
 use Rattle.flat_machine.specs.Wiring.{LeadsToFile, IsUnderOne, TableStands}
 use Rattle.flat_machine.specs.Imaging.{maps_some, image_at, is_qcow2_at, ShowsImage, ShowsImages, KeepsMapping}
 use Rattle.flat_machine.proofs.Finds.{find-map}
-use Rattle.flat_machine.proofs.WritingKept.{role_edge, IsEntered, drive-enters, disk-enters, WritesFile, writes_file}
+use Rattle.flat_machine.proofs.WritingKept.{role_edge, IsEntered, drive-enters, disk-enters, WritesFileUnder, writes_file}
 use Rattle.flat_machine.proofs.ImagesKept.{mapped_of, mapped_at-found, nothing_said, image_still, AreOverFiles, IsSameRow, same_over_files, mapped_over_files, image_in_file, images_still}
 
 -- ---- an entry of which less is said
@@ -94,7 +94,7 @@ module _ (s now : State) (node : ℕ) (old new : Contents) (images : now.images 
             i.filename,
           )
 
-      of : WritesFile s.table node name
+      of : WritesFileUnder s.table node name
       of = writes_file s.table node name its
 
       ids : of.row.id ≡ under.0.id

@@ -38,7 +38,7 @@ use Rattle.flat_machine.proofs.Finds.{find-filter, find-push, bytes_eq-same, cas
 use Rattle.flat_machine.proofs.Kept.{with_format, left_alone}
 use Rattle.flat_machine.proofs.Wired.{OldEdge, Grows, NoRow, NoEdge}
 use Rattle.flat_machine.proofs.TablesKept.{IsOther, file_grow, IsNewEdge, format_grow, is_under, of_file, IsFilterEdge, filter_grow, is_child, kept_row, removed_grow, IsDriveEdge, device_grow}
-use Rattle.flat_machine.proofs.WritingKept.{role_edge, IsEntered, WritesFile, writes_file, may_still, grown_writing, left_still}
+use Rattle.flat_machine.proofs.WritingKept.{role_edge, IsEntered, WritesFileUnder, writes_file, may_still, grown_writing, left_still}
 
 -- ---- names, bytes and drives
 
@@ -412,7 +412,7 @@ remove_writing s node suits h =
         let at_b = subst (λ n. node_by_id s.table n ≡ Some b) (sym is) (h.table.apart b there_b) in
         cc
 
-    used_up : (row : NodeRecord) (name : List ℕ) → node_by_id s.table node ≡ Some row → WritesFile s.table node name
+    used_up : (row : NodeRecord) (name : List ℕ) → node_by_id s.table node ≡ Some row → WritesFileUnder s.table node name
         → IsUsedUp now (left_in s.disks row name)
     used_up row name found of = by_from of.from
       where
@@ -450,20 +450,20 @@ remove_writing s node suits h =
 
     -- the disk that it leaves is in the file that it writes
     left_of : (row : NodeRecord) (gone : Left) → node_by_id s.table node ≡ Some row → left_disk s row ≡ Some gone
-        → WritesFile s.table node gone.file × (gone ≡ left_in s.disks row gone.file)
+        → WritesFileUnder s.table node gone.file × (gone ≡ left_in s.disks row gone.file)
     left_of row gone found is =
         by_test (row.is_settled && is_none (child s.table row.id Backing)) (own_filename s.table row row.kind) refl is
       where
         by_test : (b : Bool) (file : Option (List ℕ)) → own_filename s.table row row.kind ≡ file
             → cond b (option_map (left_in s.disks row) file) None ≡ Some gone
-            → WritesFile s.table node gone.file × (gone ≡ left_in s.disks row gone.file)
+            → WritesFileUnder s.table node gone.file × (gone ≡ left_in s.disks row gone.file)
         by_test false file e k = absurd cc
         by_test true None e k = absurd cc
         by_test true (Some name) e k =
             let same : left_in s.disks row name ≡ gone = cc in
             let name_is : name ≡ gone.file = ap (λ l. l.file) same in
             let of = writes_file s.table node name (ap (option_and_then (λ r. own_filename s.table r r.kind)) found ∙ e) in
-            (subst (WritesFile s.table node) name_is of, sym same ∙ ap (left_in s.disks row) name_is)
+            (subst (WritesFileUnder s.table node) name_is of, sym same ∙ ap (left_in s.disks row) name_is)
 
     used_left : (row : NodeRecord) (gone : Left) → node_by_id s.table node ≡ Some row → left_disk s row ≡ Some gone → IsUsedUp now gone
     used_left row gone found is =
@@ -483,7 +483,7 @@ remove_writing s node suits h =
 
     -- no guest that stays writes the same file
     apart : (row : NodeRecord) (other : ℕ) (name : List ℕ) → node_by_id s.table node ≡ Some row → IsOther s.table node other
-        → IsEntered s.table other → WritesFile s.table node name → WritesFile s.table other name → ⊥
+        → IsEntered s.table other → WritesFileUnder s.table node name → WritesFileUnder s.table other name → ⊥
     apart row other name found here entered mine its = by_from mine.from its.from
       where
         ids : mine.row.id ≡ its.row.id
@@ -512,16 +512,16 @@ remove_writing s node suits h =
             let same : other ≡ row.id = (let both = sym e.from ∙ sole.0 in cc) in
             here.1 (same ∙ own.1)
 
-    empty_left : (other : ℕ) (name : List ℕ) → IsOther s.table node other → IsEntered s.table other → WritesFile s.table other name
+    empty_left : (other : ℕ) (name : List ℕ) → IsOther s.table node other → IsEntered s.table other → WritesFileUnder s.table other name
         → All (λ l. l.file ≢ name) s.left → (row : NodeRecord) → node_by_id s.table node ≡ Some row → (gone : Option Left)
         → left_disk s row ≡ gone → now.left ≡ (leave gone s).left → All (λ l. l.file ≢ name) now.left
     empty_left other name here entered of none row found None left is = subst (All (λ l. l.file ≢ name)) (sym is) none
     empty_left other name here entered of none row found (Some gone) left is =
         subst (All (λ l. l.file ≢ name)) (sym is)
         (All-push (λ l. l.file ≢ name) s.left gone none
-        (λ same. apart row other name found here entered (subst (WritesFile s.table node) same (left_of row gone found left).0) of))
+        (λ same. apart row other name found here entered (subst (WritesFileUnder s.table node) same (left_of row gone found left).0) of))
 
-    empty_row : (other : ℕ) (name : List ℕ) → IsOther s.table node other → IsEntered s.table other → WritesFile s.table other name
+    empty_row : (other : ℕ) (name : List ℕ) → IsOther s.table node other → IsEntered s.table other → WritesFileUnder s.table other name
         → All (λ l. l.file ≢ name) s.left → (found : Option NodeRecord) → node_by_id s.table node ≡ found
         → now.left ≡ (leave (option_and_then (left_disk s) found) s).left → All (λ l. l.file ≢ name) now.left
     empty_row other name here entered of none None e is = subst (All (λ l. l.file ≢ name)) (sym is) none

@@ -104,19 +104,19 @@ disk-enters t apart drive here =
 -- ---- the file that a node writes
 
 -- the `file` node is the node or under it
-pub record WritesFile (t : RunTable) (node : ℕ) (name : List ℕ) : Type 0 where
+pub record WritesFileUnder (t : RunTable) (node : ℕ) (name : List ℕ) : Type 0 where
   pub row : NodeRecord
   pub stands : StandsFor t name row
   pub from : (row.id ≡ node) ⊎ (child t node File ≡ Some row.id)
 
-pub writes_file : (t : RunTable) (node : ℕ) (name : List ℕ) → written_file t node ≡ Some name → WritesFile t node name
+pub writes_file : (t : RunTable) (node : ℕ) (name : List ℕ) → written_file t node ≡ Some name → WritesFileUnder t node name
 writes_file t node name = by_row (node_by_id t node) refl
   where
-    under : (found : Option ℕ) → child t node File ≡ found → option_and_then (filename_of t) found ≡ Some name → WritesFile t node name
+    under : (found : Option ℕ) → child t node File ≡ found → option_and_then (filename_of t) found ≡ Some name → WritesFileUnder t node name
     under None e is = absurd cc
     under (Some file) e is = at_file (node_by_id t file) refl is
       where
-        at_file : (row : Option NodeRecord) → node_by_id t file ≡ row → option_and_then (λ r. r.filename) row ≡ Some name → WritesFile t node name
+        at_file : (row : Option NodeRecord) → node_by_id t file ≡ row → option_and_then (λ r. r.filename) row ≡ Some name → WritesFileUnder t node name
         at_file None f named = absurd cc
         at_file (Some row) f named =
             let here = find-Some (λ r. r.id == file) t.nodes row f in
@@ -126,7 +126,7 @@ writes_file t node name = by_row (node_by_id t node) refl
               from = inr (e ∙ ap Some (sym (eqb-true row.id file here.1)));
             }
 
-    by_kind : (row : NodeRecord) → node_by_id t node ≡ Some row → (kind : Kind) → own_filename t row kind ≡ Some name → WritesFile t node name
+    by_kind : (row : NodeRecord) → node_by_id t node ≡ Some row → (kind : Kind) → own_filename t row kind ≡ Some name → WritesFileUnder t node name
     by_kind row e Protocol is =
         let here = find-Some (λ r. r.id == node) t.nodes row e in
         record { row = row; stands = record { there = here.0; filename = is }; from = inl (eqb-true row.id node here.1) }
@@ -142,7 +142,7 @@ writes_file t node name = by_row (node_by_id t node) refl
     by_kind row e Commit is = absurd cc
 
     by_row : (found : Option NodeRecord) → node_by_id t node ≡ found → option_and_then (λ row. own_filename t row row.kind) found ≡ Some name
-        → WritesFile t node name
+        → WritesFileUnder t node name
     by_row None e is = absurd cc
     by_row (Some row) e is = by_kind row e row.kind is
 
@@ -188,8 +188,8 @@ module _ (s now : State) (P : ℕ → Type 0) (IsNewRow : NodeRecord → Type 0)
   -- what is done to the file that it writes
   pub record LeavesFile (node : ℕ) : Type 0 where
     pub bytes : HasBytes s node → HasBytes now node
-    pub known : (name : List ℕ) → WritesFile s.table node name → content_in s.files name ≡ Some Unknown → content_in now.files name ≡ Some Unknown
-    pub left : (name : List ℕ) → WritesFile s.table node name → All (λ l. l.file ≢ name) s.left → All (λ l. l.file ≢ name) now.left
+    pub known : (name : List ℕ) → WritesFileUnder s.table node name → content_in s.files name ≡ Some Unknown → content_in now.files name ≡ Some Unknown
+    pub left : (name : List ℕ) → WritesFileUnder s.table node name → All (λ l. l.file ≢ name) s.left → All (λ l. l.file ≢ name) now.left
     pub named : (name : List ℕ) → has_name name s.named ≡ true → has_name name now.named ≡ true
 
   pub still_writable : (node : ℕ) → P node → LeavesFile node → IsGuestWritable s node → IsGuestWritable now node
@@ -209,7 +209,7 @@ module _ (s now : State) (P : ℕ → Type 0) (IsNewRow : NodeRecord → Type 0)
     named = λ name is. leaves.named name (can.named name (sym (file_same node here) ∙ is));
   }
     where
-      of_file : (name : List ℕ) → written_file now.table node ≡ Some name → WritesFile s.table node name
+      of_file : (name : List ℕ) → written_file now.table node ≡ Some name → WritesFileUnder s.table node name
       of_file name is = writes_file s.table node name (sym (file_same node here) ∙ is)
 
   pub may_still : (device : Device) (drive : ℕ) → P drive → LeavesFile (disk_node s.table drive) → MayGuestWrite s device drive
@@ -239,9 +239,9 @@ module _ (s now : State) (P : ℕ → Type 0) (IsNewRow : NodeRecord → Type 0)
     -- disks that were left are still left in files that were used
     pub left : All (IsUsedUp now) now.left
     -- of the file that a guest may write nothing is known, and no disk is left in it
-    pub written : (node : ℕ) (name : List ℕ) → P node → IsEntered s.table node → WritesFile s.table node name
+    pub written : (node : ℕ) (name : List ℕ) → P node → IsEntered s.table node → WritesFileUnder s.table node name
         → content_in s.files name ≡ Some Unknown → content_in now.files name ≡ Some Unknown
-    pub emptied : (node : ℕ) (name : List ℕ) → P node → IsEntered s.table node → WritesFile s.table node name
+    pub emptied : (node : ℕ) (name : List ℕ) → P node → IsEntered s.table node → WritesFileUnder s.table node name
         → All (λ l. l.file ≢ name) s.left → All (λ l. l.file ≢ name) now.left
     -- a device was there, with its drive, or it may write as it does
     pub devices : (number : ℕ) (device : Device) → device_by_number now.table number ≡ Some device

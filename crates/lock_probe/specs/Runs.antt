@@ -9,7 +9,7 @@ use Rattle.lock_probe.specs.declared.register.Opening.{Opening}
 use Rattle.lock_probe.specs.Replay.{actor_of, script}
 
 -- the first pass of a register that had this value, with room for so many entries
-pub record IsFirst (value most : ℕ) (v : View Entry Opening) : Type 0 where
+pub record IsFirstPass (value most : ℕ) (v : View Entry Opening) : Type 0 where
   pub room : Room
   pub is : v ≡ first_view (record { value = value }) room
   pub enough : most ≤ room.entries

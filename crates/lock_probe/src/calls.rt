@@ -6,7 +6,7 @@ ghost use Rattle.blk_lock.specs.Stamps.{has_actor};
 ghost use Rattle.blk_lock.specs.Views.{view, lock_of, lock_id};
 ghost use Rattle.lock_probe.specs.Face.{one_entry};
 ghost use Rattle.lock_probe.specs.Replay.{script, written_by, Makes};
-ghost use Rattle.lock_probe.specs.Runs.{IsFirst, MayRun, HasRun, MayWrite, HasWritten};
+ghost use Rattle.lock_probe.specs.Runs.{IsFirstPass, MayRun, HasRun, MayWrite, HasWritten};
 
 use crate::register::{Entry, Register};
 use blk_base::{NoMemory, Room};
@@ -22,7 +22,7 @@ pub fn open(
     most: usize,
 ) -> Result<(Turns<Register>, Pass<Register>), NoMemory>
     ensures lock { IfOk result (λ t. lock_of t.1 ≡ lock_id t.0) }
-    ensures pass { IfOk result (λ t. IsFirst value most (view t.1)) }
+    ensures pass { IfOk result (λ t. IsFirstPass value most (view t.1)) }
 {
     let register = Register::new(alloc, value, most)?;
     match Turns::new(alloc, register) {

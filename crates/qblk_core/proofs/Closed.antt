@@ -19,7 +19,7 @@ use Rattle.qblk_core.specs.ImageNodes.{only_device, HaveOneImage, HaveShapeOf, c
 use Rattle.qblk_core.specs.Session.{flush_fault, AreNodesClosed}
 use Rattle.qblk_core.proofs.OneDevice.{head-same, content-is, faults-is, capacity-is}
 use Rattle.blk_pieces.proofs.Rows.{rows_kept}
-use Rattle.qblk_core.proofs.OneImage.{Goes, flush-goes, flush-size, shape-after, one-after, the-one}
+use Rattle.qblk_core.proofs.OneImage.{StepsOnDevice, flush-goes, flush-size, shape-after, one-after, the-one}
 
 -- the last flush was good, or its fault is told
 abbrev pub IsFlushed : DeviceSeen → ℕ → Option FaultAt → Type 0

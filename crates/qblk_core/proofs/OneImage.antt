@@ -141,7 +141,7 @@ pub record StepsTo (d e : DeviceSeen) (outcome : Outcome) : Type 0 where
   pub faults : d.faults ≤ e.faults
   pub cause : CountsOutcome d.faults e.faults outcome
 
-pub record Goes (d : DeviceSeen) (new : List DeviceSeen) (outcome : Outcome) : Type 0 where
+pub record StepsOnDevice (d : DeviceSeen) (new : List DeviceSeen) (outcome : Outcome) : Type 0 where
   pub device : DeviceSeen
   pub is : new ≡ device ∷ []
   pub steps : StepsTo d device outcome
@@ -182,7 +182,7 @@ module _ (old new : Nodes) (one : HaveOneImage old) where
   the-same : (e : DeviceSeen) → new.devices ≡ e ∷ [] → new ≡ old → e ≡ one.device
   the-same e is same = sym (head-same one.device e [] (sym one.only ∙ ap (λ (n : Nodes). n.devices) (sym same) ∙ is))
 
-  pub file-goes : (place : ℕ) (bytes : List ℕ) (outcome : Outcome) → WritesFile old new 1 place bytes outcome → Goes one.device new.devices outcome
+  pub file-goes : (place : ℕ) (bytes : List ℕ) (outcome : Outcome) → WritesFile old new 1 place bytes outcome → StepsOnDevice one.device new.devices outcome
   file-goes place bytes outcome wrote =
       let at = wrote.at in
       let r = the-one wrote.file at.before at.after at.only at.held at.left in
@@ -201,7 +201,7 @@ module _ (old new : Nodes) (one : HaveOneImage old) where
       }
 
   image-goes : (fits : ℕ → Type 0) (own rest : Option ℕ) (n : ℕ) (outcome : Outcome) (wrote : WritesImage fits own rest old new 1 n outcome)
-      → wrote.after.capacity ≡ wrote.before.capacity → Goes one.device new.devices outcome
+      → wrote.after.capacity ≡ wrote.before.capacity → StepsOnDevice one.device new.devices outcome
   image-goes fits own rest n outcome wrote capacity =
       record {
         device = wrote.after;
@@ -240,7 +240,7 @@ module _ (old new : Nodes) (one : HaveOneImage old) where
       )
 
   write-goes : (part : Extent) (bytes : List ℕ) (outcome : Outcome) (row : Row) (driver : Driver) → WritesBy driver old new 1 part bytes outcome
-      → LeavesRow (IsImageWritten (IsToldDisk old 1) part bytes) driver row old new 1 outcome → Goes one.device new.devices outcome
+      → LeavesRow (IsImageWritten (IsToldDisk old 1) part bytes) driver row old new 1 outcome → StepsOnDevice one.device new.devices outcome
   write-goes part bytes outcome row drivers.File wrote left = file-goes part.start bytes outcome wrote
   write-goes part bytes outcome row (drivers.Raw p) wrote left = file-goes part.start bytes outcome wrote
   write-goes part bytes outcome row (drivers.Qcow2 image) wrote left =
@@ -249,7 +249,7 @@ module _ (old new : Nodes) (one : HaveOneImage old) where
   write-goes part bytes outcome row drivers.CopyOnRead wrote left = file-goes part.start bytes outcome wrote
 
   zero-goes : (part : Extent) (outcome : Outcome) (row : Row) (driver : Driver) → ZerosBy driver old new 1 part outcome → LeavesRow (IsZeroed (IsToldDisk old 1) part) driver row old new 1 outcome
-      → Goes one.device new.devices outcome
+      → StepsOnDevice one.device new.devices outcome
   zero-goes part outcome row drivers.File wrote left = file-goes part.start (replicate part.len 0) outcome wrote
   zero-goes part outcome row (drivers.Raw p) wrote left = file-goes part.start (replicate part.len 0) outcome wrote
   zero-goes part outcome row (drivers.Qcow2 image) wrote left =
@@ -257,7 +257,7 @@ module _ (old new : Nodes) (one : HaveOneImage old) where
       (zeroed-capacity (IsToldDisk old 1) image left.now wrote.before wrote.after part outcome (left.changed wrote.file wrote.before wrote.after wrote.edge wrote.held wrote.left))
   zero-goes part outcome row drivers.CopyOnRead wrote left = file-goes part.start (replicate part.len 0) outcome wrote
 
-  read-goes : (outcome : Outcome) → IsReadBelow old new 1 outcome → HaveRisen old.devices new.devices → Goes one.device new.devices outcome
+  read-goes : (outcome : Outcome) → IsReadBelow old new 1 outcome → HaveRisen old.devices new.devices → StepsOnDevice one.device new.devices outcome
   read-goes outcome read risen =
       let e = the-risen risen in
       let same = e.2.same in
@@ -280,7 +280,7 @@ module _ (old new : Nodes) (one : HaveOneImage old) where
       by_outcome e is (Io dev count) stopped = the-stop stopped.file e dev count is stopped.stopped
       by_outcome e is (NoSpace dev) bad = absurd bad
 
-  pub flush-goes : (file : ℕ) (outcome : Outcome) → IsFlushAt file old.devices new.devices outcome → Goes one.device new.devices outcome
+  pub flush-goes : (file : ℕ) (outcome : Outcome) → IsFlushAt file old.devices new.devices outcome → StepsOnDevice one.device new.devices outcome
   flush-goes file outcome flushed =
       let r = the-one file flushed.before flushed.after flushed.only flushed.held flushed.left in
       record {
@@ -300,7 +300,7 @@ module _ (old new : Nodes) (one : HaveOneImage old) where
   pub reads-only : (part : Extent) (outcome : Outcome) (buffer : List ℕ) → ReadsPart old new 1 part outcome buffer → ReadsOnly old new 1 outcome
   reads-only part outcome buffer did = none_met old new 1 part outcome buffer did (none-kept old one part.start)
 
-  pub goes : (op : Op) (part : Extent) (outcome : Outcome) (buffer : List ℕ) → Transfers op old new 1 1 part outcome buffer → Goes one.device new.devices outcome
+  pub goes : (op : Op) (part : Extent) (outcome : Outcome) (buffer : List ℕ) → Transfers op old new 1 1 part outcome buffer → StepsOnDevice one.device new.devices outcome
   goes (Read span) part outcome buffer did =
       let read = reads-only part outcome buffer did in
       read-goes outcome read.outcome_is read.devices
@@ -474,7 +474,7 @@ told-is (Some b) node_disk disk is = (b, refl, cc is)
 
 module _ (old new : Nodes) (joined : IsJoined old) (one : HaveOneImage old) (op : Op) (part : Extent) (outcome : Outcome) (buffer : List ℕ)
     (did : Transfers op old new 1 1 part outcome buffer) where
-  gone : Goes one.device new.devices outcome
+  gone : StepsOnDevice one.device new.devices outcome
   gone = goes old new one op part outcome buffer did
 
   are-told : (b : List ℕ) → one.device.content ≡ Some b → AreTold old.devices

@@ -31,20 +31,20 @@ use Rattle.blk_graph.specs.declared.kind.JobUse.TheVariants.{CommitTop, CommitBe
 
 -- ---- changes that leave devices as they are
 
-abbrev pub Leaves : Change → Type 0
-Leaves (change.AddDevice device node) = ⊥
-Leaves (change.RemoveDevice number) = ⊥
-Leaves _ = Unit {0}
+abbrev pub LeavesDevices : Change → Type 0
+LeavesDevices (change.AddDevice device node) = ⊥
+LeavesDevices (change.RemoveDevice number) = ⊥
+LeavesDevices _ = Unit {0}
 
 abbrev pub AllLeave : List Change → Type 0
 AllLeave [] = Unit {0}
-AllLeave (c ∷ changes) = Leaves c × AllLeave changes
+AllLeave (c ∷ changes) = LeavesDevices c × AllLeave changes
 
 pub record SameDevices (t u : RunTable) : Type 0 where
   pub devices : u.devices ≡ t.devices
   pub guests : u.guests ≡ t.guests
 
-change-leaves : (t : RunTable) (c : Change) → Leaves c → SameDevices t (changed t c)
+change-leaves : (t : RunTable) (c : Change) → LeavesDevices c → SameDevices t (changed t c)
 unfolding changed
 change-leaves t change.Negotiate leaves = record { devices = refl; guests = refl }
 change-leaves t (change.KeepId id) leaves = record { devices = refl; guests = refl }
@@ -84,7 +84,7 @@ leave-both : (xs ys : List Change) → AllLeave xs → AllLeave ys → AllLeave 
 leave-both [] ys front back = back
 leave-both (c ∷ xs) ys front back = (front.0, leave-both xs ys front.1 back)
 
-leave-map : {A : Type 0} (f : A → Change) → ((a : A) → Leaves (f a)) → (xs : List A) → AllLeave (map f xs)
+leave-map : {A : Type 0} (f : A → Change) → ((a : A) → LeavesDevices (f a)) → (xs : List A) → AllLeave (map f xs)
 leave-map f each [] = tt
 leave-map f each (x ∷ xs) = (each x, leave-map f each xs)
 

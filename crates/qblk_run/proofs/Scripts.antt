@@ -14,7 +14,7 @@ use Rattle.world_parts.proofs.InStep.{ended-push}
 use Rattle.qblk_run.specs.Tasks.{Task, ScriptTask, CanGoOn, AreRestsOf, KeepsTo, CanHaveLine, CanHaveLines, entries_of_script}
 use Rattle.qblk_run.specs.Turns.{IsOwnOrder, IsScriptMove}
 use Rattle.qblk_run.proofs.Lists.{with-map, has-stays, has-own}
-use Rattle.qblk_run.proofs.Waits.{Grows, grows-same, grows-more, alike-later}
+use Rattle.qblk_run.proofs.Waits.{StayAnswered, grows-same, grows-more, alike-later}
 use Rattle.qblk_run.proofs.History.{course-push}
 use Rattle.qblk_run.proofs.Moves.{ended-done}
 use Rattle.qblk_run.proofs.Orders.{lines-push}
@@ -90,7 +90,7 @@ is-own c before after (End job outcome offset) same own = absurd own
 record Answers (c d : Course) (after : ScriptTask) : Type 0 where
   pub script : d.script ≡ after.orders
   pub traces : d.traces ≡ c.traces
-  pub answered : Grows c.answered d.answered
+  pub answered : StayAnswered c.answered d.answered
 
 answers : (c : Course) (before after : ScriptTask) (e : Event) → c.script ≡ before.orders → IsOwnOrder before after e → Answers c (onward c e) after
 answers c before after (Reply line given command text) same own =

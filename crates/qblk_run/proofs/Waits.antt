@@ -9,13 +9,13 @@ use Rattle.qblk_inputs.specs.Room.{entries_for, bytes_for, HaveNumbers}
 use Rattle.qblk_run.specs.Turns.{is_over_in}
 
 -- each line that was answered is so later
-abbrev pub Grows : List ℕ → List ℕ → Type 0
-Grows a b = (line : ℕ) → is_answered a line ≡ true → is_answered b line ≡ true
+abbrev pub StayAnswered : List ℕ → List ℕ → Type 0
+StayAnswered a b = (line : ℕ) → is_answered a line ≡ true → is_answered b line ≡ true
 
-pub grows-same : (a : List ℕ) → Grows a a
+pub grows-same : (a : List ℕ) → StayAnswered a a
 grows-same a line is = is
 
-pub grows-more : (a more : List ℕ) → Grows a (a ++ more)
+pub grows-more : (a more : List ℕ) → StayAnswered a (a ++ more)
 grows-more [] more line is = absurd (false≢true is)
 grows-more (x ∷ a) more line is = by_test (x == line) refl (grows-more a more line)
   where
@@ -24,7 +24,7 @@ grows-more (x ∷ a) more line is = by_test (x == line) refl (grows-more a more 
     by_test false e rest = rw e (rest (rw e at is))
 
 -- with the waits that were over before, or without them
-pub through : (a b : List ℕ) → Grows a b → (wishes : List Wish) → past_waits b (past_waits a wishes) ≡ past_waits b wishes
+pub through : (a b : List ℕ) → StayAnswered a b → (wishes : List Wish) → past_waits b (past_waits a wishes) ≡ past_waits b wishes
 through a b grows [] = refl
 through a b grows (Ask op ∷ wishes) = refl
 through a b grows (Wait line ∷ wishes) = by_test (is_answered a line) refl (through a b grows wishes)
@@ -35,7 +35,7 @@ through a b grows (Wait line ∷ wishes) = by_test (is_answered a line) refl (th
     by_test false e rest = rw e refl
 
 -- what is alike past waits stays so
-pub alike-later : (a b : List ℕ) → Grows a b → (x y : List Wish) → past_waits a x ≡ past_waits a y → past_waits b x ≡ past_waits b y
+pub alike-later : (a b : List ℕ) → StayAnswered a b → (x y : List Wish) → past_waits a x ≡ past_waits a y → past_waits b x ≡ past_waits b y
 alike-later a b grows x y same = sym (through a b grows x) ∙ ap (past_waits b) same ∙ through a b grows y
 
 -- a first wish that is no such wait

@@ -9,12 +9,12 @@ use Rattle.qblk_core.specs.declared.status.Status.TheVariants.{Done, Fault, Stuc
 use Rattle.qblk_core.specs.Session.{failed_as}
 
 -- by its first fault, where one came; else by whether an actor is not done
-abbrev pub stopped_as : Option (ℕ × Waits Written) → Status
-stopped_as None = Done
-stopped_as (Some r) = Stuck r.0 r.1
+abbrev pub stuck_as : Option (ℕ × Waits Written) → Status
+stuck_as None = Done
+stuck_as (Some r) = Stuck r.0 r.1
 
 abbrev pub ended_as : Option FaultAt → Option (ℕ × Waits Written) → Status
-ended_as None waiting = stopped_as waiting
+ended_as None waiting = stuck_as waiting
 ended_as (Some fault) waiting = Fault fault.from fault.count
 
 -- the whole transcript went out

@@ -38,7 +38,7 @@ use Rattle.blk_nodes.specs.declared.row.Row.{Row}
 use Rattle.world_parts.specs.Coherent.{AreAlike, AreNodesOf, IsRowOf, node_row}
 use Rattle.world_parts.specs.Handling.{CanAttach, CanAttachBy, is_attachment}
 use Rattle.world_commands.proofs.CreatedAsked.{asked}
-use Rattle.world_commands.proofs.Placed.{used, shape_by, changed_used}
+use Rattle.world_commands.proofs.Placed.{table_with_use, shape_by, changed_used}
 use Rattle.world_parts.proofs.TableKinds.{kinds_alike}
 
 -- ---- one device more
@@ -50,14 +50,14 @@ pub record IsWithDevice (t u : RunTable) (device : Device) (node : ℕ) : Type 0
   pub guests : u.guests ≡ t.guests
   pub jobs : u.jobs ≡ t.jobs
 
-with_device : (t : RunTable) (file : Option (List ℕ)) (device : Device) (node : ℕ) → IsWithDevice t (changed (used t file) (AddDevice device node)) device node
+with_device : (t : RunTable) (file : Option (List ℕ)) (device : Device) (node : ℕ) → IsWithDevice t (changed (table_with_use t file) (AddDevice device node)) device node
 unfolding changed
 with_device t file device node =
     let shape = shape_by t file in
     record {
       rows = shape.nodes;
       edges =
-          ap (λ (rows : List NodeRecord). refreshed (kinds_of rows) (with_edge (device_edge device node) (used t file).edges)) shape.nodes
+          ap (λ (rows : List NodeRecord). refreshed (kinds_of rows) (with_edge (device_edge device node) (table_with_use t file).edges)) shape.nodes
           ∙ ap (λ (edges : List Edge). refreshed (kinds_of t.nodes) (with_edge (device_edge device node) edges)) shape.edges;
       devices = ap (λ (devices : List Device). devices ++ device ∷ []) shape.devices;
       guests = shape.guests;
@@ -104,7 +104,7 @@ module _ (t : RunTable) (h : TableStands t) (c : DeviceAdd (List ℕ)) (none : r
       ∙ ap (λ (more : List Change). more ++ AddDevice device of.row.id ∷ []) uses_is
 
   abbrev pub table_then : RunTable
-  table_then = changed (used t file) (AddDevice device of.row.id)
+  table_then = changed (table_with_use t file) (AddDevice device of.row.id)
 
   pub table_is : all_changed t (command_edits t told_none (command.DeviceAdd c)) ≡ table_then
   table_is = ap (all_changed t) edits ∙ changed_used t file (AddDevice device of.row.id ∷ [])

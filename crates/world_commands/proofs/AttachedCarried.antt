@@ -57,7 +57,7 @@ use Rattle.world_commands.proofs.CountsKept.{hides-same}
 use Rattle.world_parts.proofs.DeletedLists.{find_there, pairs}
 use Rattle.world_commands.proofs.GuestEdges.{guest_edge, guest_stays}
 use Rattle.world_commands.proofs.BitmapsLeft.{left-listed}
-use Rattle.world_commands.proofs.Placed.{answer-is, CarriedUntold, carried_by, rests_by, used, shape_by, performed_used}
+use Rattle.world_commands.proofs.Placed.{answer-is, CarriedUntold, carried_by, rests_by, table_with_use, shape_by, performed_used}
 
 find-past : {A : Type 0} (p : A → Bool) (xs : List A) (y : A) → p y ≡ false → find p (xs ++ y ∷ []) ≡ find p xs
 find-past p [] y fails = rw fails refl
@@ -308,14 +308,14 @@ module _ (w : WorldSeen) (whole : IsWholeWorld w) (joined : IsJoined w.nodes)
     v = record w { nodes = nodes; table = u }
 
     module _ (disks : (other : ℕ) → disk_of nodes other ≡ disk_of w.nodes other) where
-      quiet_then : IsQuiet (contents_of (record w { table = used w.table (file_used w.table h c none) })) (contents_of v)
+      quiet_then : IsQuiet (contents_of (record w { table = table_with_use w.table (file_used w.table h c none) })) (contents_of v)
       quiet_then = record {
         nodes = λ other but. disks other;
         files = λ name but.
             ap (held_in_file v name)
             (ap (λ (rows : List NodeRecord). option_map (λ (r : NodeRecord). r.id) (find (stands_for name) rows))
             (is.rows ∙ sym (shape_by w.table (file_used w.table h c none)).nodes))
-            ∙ by_over name (node_over (used w.table (file_used w.table h c none)) name);
+            ∙ by_over name (node_over (table_with_use w.table (file_used w.table h c none)) name);
       }
         where
           by_over : (name : List ℕ) (over : Option ℕ) → held_in_file v name over ≡ held_in_file w name over

@@ -65,8 +65,8 @@ use Rattle.world_commands.proofs.CarryCalm.{marked_calm}
 use Rattle.world_commands.proofs.CarryWords.{IsTellable}
 use Rattle.world_commands.proofs.CarryNames.{not_found_word}
 use Rattle.world_commands.proofs.CarryImages.{answer_suits, answer_keeps_images}
-use Rattle.world_commands.proofs.CarryState.{is_plain, edits_plain, left_plain, all_tables, all_keep, all_tables_keep}
-use Rattle.world_commands.proofs.CarrySaid.{fault_of, CanBeTold, said_fault, said_edits}
+use Rattle.world_commands.proofs.CarryState.{is_plain_change, edits_plain, left_plain, all_tables, all_keep, all_tables_keep}
+use Rattle.world_commands.proofs.CarrySaid.{reply_fault, CanBeTold, said_fault, said_edits}
 
 -- ---- answers
 
@@ -79,11 +79,11 @@ built_accepted t told c none = at (is_built c) refl (none-both (unbuilt c) _ non
     at true known h = known
     at false known h = absurd (let bad : ⊥ = cc (rw known at h) in bad)
 
-plain-by : (t : RunTable) (told : Told) (c : Cmd) (first : Option Refusal) → refusal_to t told c ≡ first → list_all is_plain (answer_by t told c first).changes ≡ true
+plain-by : (t : RunTable) (told : Told) (c : Cmd) (first : Option Refusal) → refusal_to t told c ≡ first → list_all is_plain_change (answer_by t told c first).changes ≡ true
 plain-by t told c None is = edits_plain t told c (built_accepted t told c is)
 plain-by t told c (Some cause) is = left_plain t told c cause
 
-answer-plain : (t : RunTable) (told : Told) (c : Cmd) → list_all is_plain (answer t told c).changes ≡ true
+answer-plain : (t : RunTable) (told : Told) (c : Cmd) → list_all is_plain_change (answer t told c).changes ≡ true
 unfolding answer
 answer-plain t told c = plain-by t told c (refusal_to t told c) refl
 
@@ -152,12 +152,12 @@ module _ (w u : WorldSeen) (c : Cmd) (refusal' : Option Refusal) (is : IsCarried
   can_tell = can-by (refusal_to w.table is.told c) refl (rw is.answered is.cause)
 
   -- the fault that the reply names was reached
-  reached-by : (first : Option Refusal) → HasAnswerCause w u c first → IsReachedBy w u (fault_of (answer_by w.table is.told c first).reply)
+  reached-by : (first : Option Refusal) → HasAnswerCause w u c first → IsReachedBy w u (reply_fault (answer_by w.table is.told c first).reply)
   reached-by None caused = tt
   reached-by (Some (refusal.Io source count)) caused = caused.reached
   reached-by (Some _) caused = tt
 
-  pub reply-reached : IsReachedBy w u (fault_of (answer w.table is.told c).reply)
+  pub reply-reached : IsReachedBy w u (reply_fault (answer w.table is.told c).reply)
   unfolding answer
   reply-reached = reached-by (refusal_to w.table is.told c) (rw is.answered is.cause)
 
@@ -253,7 +253,7 @@ module _ (w u : WorldSeen) (c : Cmd) (refusal' : Option Refusal) (is : IsCarried
 
       -- ---- the state after it
 
-      plain : list_all is_plain changes ≡ true
+      plain : list_all is_plain_change changes ≡ true
       plain = answer-plain w.table is.told c
 
       abbrev now : State

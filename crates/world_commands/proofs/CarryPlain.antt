@@ -297,14 +297,14 @@ late_nothing o s w c opens prints = record {
 
 -- ---- a table that differs in what is kept and negotiated alone
 
-pub record HasShape (t u : RunTable) : Type 0 where
+pub record HasTableShape (t u : RunTable) : Type 0 where
   pub nodes : u.nodes ≡ t.nodes
   pub edges : u.edges ≡ t.edges
   pub devices : u.devices ≡ t.devices
   pub guests : u.guests ≡ t.guests
   pub jobs : u.jobs ≡ t.jobs
 
-module _ (t u : RunTable) (shape : HasShape t u) where
+module _ (t u : RunTable) (shape : HasTableShape t u) where
   same-node : (id : ℕ) → node_by_id u id ≡ node_by_id t id
   same-node id = rw shape.nodes refl
 
@@ -416,7 +416,7 @@ bitmaps-stay (command.DeviceDel id) is = absurd cc
 bitmaps-stay (command.BlockdevSnapshot c) is = absurd cc
 bitmaps-stay _ is = refl
 
-same-shape : (t : RunTable) → HasShape t t
+same-shape : (t : RunTable) → HasTableShape t t
 same-shape t = record { nodes = refl; edges = refl; devices = refl; guests = refl; jobs = refl }
 
 merged-shape : (t : RunTable) (node target : List ℕ) (sources : SeenSources) (now : RunTable) → all_changed now (merges t node target sources) ≡ now
@@ -424,7 +424,7 @@ unfolding changed
 merged-shape t node target [] now = refl
 merged-shape t node target (s ∷ sources) now = merged-shape t node target sources now
 
-table-edits : (t : RunTable) (c : Cmd) → stays_in_table c ≡ true → is_built c ≡ true → (t' : RunTable) → t' ≡ all_changed t (command_edits t told_none c) → HasShape t t'
+table-edits : (t : RunTable) (c : Cmd) → stays_in_table c ≡ true → is_built c ≡ true → (t' : RunTable) → t' ≡ all_changed t (command_edits t told_none c) → HasTableShape t t'
 unfolding edits_of changed
 table-edits t (command.BlockdevAdd c) alone built u is = absurd cc
 table-edits t (command.BlockdevCreate c) alone built u is = absurd cc
@@ -445,7 +445,7 @@ table-edits t (command.BitmapMerge c) alone built u is = rw (is ∙ merged-shape
 table-edits t _ alone built u is = absurd cc
 
 -- nodes and edges stay, and so does what nodes read as and what files hold
-shape-quiet : (w : WorldSeen) (u : RunTable) (b : List Bitmap) → HasShape w.table u → IsQuiet (contents_of w) (contents_of (record w { table = u; bitmaps = b }))
+shape-quiet : (w : WorldSeen) (u : RunTable) (b : List Bitmap) → HasTableShape w.table u → IsQuiet (contents_of w) (contents_of (record w { table = u; bitmaps = b }))
 shape-quiet w u b shape = record {
   nodes = λ node other. refl;
   files = λ name other. rw shape.nodes refl;
@@ -520,7 +520,7 @@ module _ (w : WorldSeen) (u : RunTable) (b : List Bitmap) (c : Cmd) (alone : sta
   abbrev then : WorldSeen
   then = record w { table = u; bitmaps = b }
 
-  shape-by : (first : Option Refusal) → refusal_to w.table told_none c ≡ first → u ≡ all_changed w.table (answer_by w.table told_none c first).changes → HasShape w.table u
+  shape-by : (first : Option Refusal) → refusal_to w.table told_none c ≡ first → u ≡ all_changed w.table (answer_by w.table told_none c first).changes → HasTableShape w.table u
   shape-by None none is = table-edits w.table c alone (built_accepted w.table told_none c none) u is
   shape-by (Some cause) some is =
       let same : u ≡ w.table = is ∙ ap (all_changed w.table) (stays-left w.table c cause alone) in
@@ -532,7 +532,7 @@ module _ (w : WorldSeen) (u : RunTable) (b : List Bitmap) (c : Cmd) (alone : sta
         jobs = ap (λ (t : RunTable). t.jobs) same;
       }
 
-  performed-by : (s : State) (first : Option Refusal) → refusal_to w.table told_none c ≡ first → HasShape w.table u
+  performed-by : (s : State) (first : Option Refusal) → refusal_to w.table told_none c ≡ first → HasTableShape w.table u
       → AllPerformed s (answer_by w.table told_none c first).changes (contents_of w) (contents_of then)
   performed-by s None none shape =
       alone-performed s c (contents_of w) (contents_of then) alone (built_accepted w.table told_none c none) (shape-quiet w u b shape) w.table
@@ -598,7 +598,7 @@ module _ (w : WorldSeen) (u : RunTable) (b : List Bitmap) (c : Cmd) (alone : sta
 -- want of memory, where the table stays
 pub table_put_back : (w : WorldSeen) (u : RunTable) → u ≡ w.table → IsPutBack w (record w { table = u })
 table_put_back w u same =
-    let shape : HasShape w.table u = rw same (record { nodes = refl; edges = refl; devices = refl; guests = refl; jobs = refl }) in
+    let shape : HasTableShape w.table u = rw same (record { nodes = refl; edges = refl; devices = refl; guests = refl; jobs = refl }) in
     record {
       table = same;
       progress = refl;

@@ -30,9 +30,9 @@ no-words : (text : List ℕ) (id : Option Data) (d : Data) → read text ≡ Som
 no-words text None d reads = rw reads refl
 no-words text (Some id) d reads = rw reads refl
 
-abbrev pub fault_of : Result Data Refusal → Option FaultAt
-fault_of (Ok d) = None
-fault_of (Err cause) = fault_named cause
+abbrev pub reply_fault : Result Data Refusal → Option FaultAt
+reply_fault (Ok d) = None
+reply_fault (Err cause) = fault_named cause
 
 abbrev pub full_of : Result Data Refusal → Option ℕ
 full_of (Ok d) = None
@@ -43,7 +43,7 @@ CanBeTold (Ok d) = Unit {0}
 CanBeTold (Err cause) = IsTellable cause
 
 pub said_fault : (given : List ℕ) (reply : Result Data Refusal) (text : List ℕ) → IsSaid given reply text → CanBeTold reply
-    → named_in_text text ≡ fault_of reply
+    → named_in_text text ≡ reply_fault reply
 said_fault given (Ok d) text said can = rw (no-words text (id_at given) d said.reads) refl
 said_fault given (Err cause) text said can =
     let says = reads_refused text (id_at given) (refusal_class cause) (refusal_text cause) said.reads in

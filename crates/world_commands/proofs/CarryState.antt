@@ -35,28 +35,28 @@ use Rattle.flat_machine.specs.Contents.{file_bytes}
 
 -- ---- the kinds of changes that the commands carried out so far make
 
-abbrev pub is_plain : Change → Bool
-is_plain change.Negotiate = true
-is_plain (change.KeepId id) = true
-is_plain (change.DropId id) = true
-is_plain (change.MakeFile name size) = true
-is_plain (change.FormatFile node name size backing_file backing_fmt) = true
-is_plain (change.SpoilFile name) = true
-is_plain (change.UseFile name) = true
-is_plain (change.AddFile row) = true
-is_plain (change.AddFormat row file backing) = true
-is_plain (change.AddFilter row child) = true
-is_plain (change.RemoveNode node) = true
-is_plain (change.AddDevice device node) = true
-is_plain (change.AddBitmap row) = true
-is_plain (change.RemoveBitmap node name) = true
-is_plain (change.TurnBitmap node name on) = true
-is_plain (change.ClearBitmap node name) = true
-is_plain (change.MergeBitmap node name source_node source) = true
-is_plain (change.RemoveDevice number) = true
-is_plain (change.Attach overlay node) = true
-is_plain (change.Move from to but) = true
-is_plain c = false
+abbrev pub is_plain_change : Change → Bool
+is_plain_change change.Negotiate = true
+is_plain_change (change.KeepId id) = true
+is_plain_change (change.DropId id) = true
+is_plain_change (change.MakeFile name size) = true
+is_plain_change (change.FormatFile node name size backing_file backing_fmt) = true
+is_plain_change (change.SpoilFile name) = true
+is_plain_change (change.UseFile name) = true
+is_plain_change (change.AddFile row) = true
+is_plain_change (change.AddFormat row file backing) = true
+is_plain_change (change.AddFilter row child) = true
+is_plain_change (change.RemoveNode node) = true
+is_plain_change (change.AddDevice device node) = true
+is_plain_change (change.AddBitmap row) = true
+is_plain_change (change.RemoveBitmap node name) = true
+is_plain_change (change.TurnBitmap node name on) = true
+is_plain_change (change.ClearBitmap node name) = true
+is_plain_change (change.MergeBitmap node name source_node source) = true
+is_plain_change (change.RemoveDevice number) = true
+is_plain_change (change.Attach overlay node) = true
+is_plain_change (change.Move from to but) = true
+is_plain_change c = false
 
 both : (p : Change → Bool) (xs ys : List Change) → list_all p xs ≡ true → list_all p ys ≡ true → list_all p (xs ++ ys) ≡ true
 both p [] ys first later = later
@@ -67,58 +67,58 @@ both p (x ∷ xs) ys first later = at (p x) first (λ h. both p xs ys h later)
     at false h rest = h
 
 module _ (t : RunTable) (told : Told) where
-  raw-plain : (name : List ℕ) (read_only : Bool) (raw : AddRaw (List ℕ)) (file : FileRef (List ℕ)) → list_all is_plain (raw_edits t told name read_only raw file) ≡ true
+  raw-plain : (name : List ℕ) (read_only : Bool) (raw : AddRaw (List ℕ)) (file : FileRef (List ℕ)) → list_all is_plain_change (raw_edits t told name read_only raw file) ≡ true
   raw-plain name read_only raw (file_ref.Name file) = refl
   raw-plain name read_only raw (file_ref.Inline file) = refl
 
-  qcow2-plain : (name : List ℕ) (read_only : Bool) (back : Option (List ℕ)) (file : FileRef (List ℕ)) → list_all is_plain (qcow2_edits t told name read_only back file) ≡ true
+  qcow2-plain : (name : List ℕ) (read_only : Bool) (back : Option (List ℕ)) (file : FileRef (List ℕ)) → list_all is_plain_change (qcow2_edits t told name read_only back file) ≡ true
   qcow2-plain name read_only back (file_ref.Name file) = refl
   qcow2-plain name read_only back (file_ref.Inline file) = refl
 
-  added-plain : (name : List ℕ) (read_only : Bool) (driver : Added (List ℕ)) → list_all is_plain (added_edits t told name read_only driver) ≡ true
+  added-plain : (name : List ℕ) (read_only : Bool) (driver : Added (List ℕ)) → list_all is_plain_change (added_edits t told name read_only driver) ≡ true
   added-plain name read_only (added.File filename) = refl
   added-plain name read_only (added.Raw raw) = raw-plain name read_only raw raw.file
   added-plain name read_only (added.Qcow2 image) = qcow2-plain name read_only (backing_name image.backing) image.file
   added-plain name read_only (added.CopyOnRead file) = refl
   added-plain name read_only added.Unknown = refl
 
-  created-plain : (options : Created (List ℕ)) → list_all is_plain (created_change t options) ≡ true
+  created-plain : (options : Created (List ℕ)) → list_all is_plain_change (created_change t options) ≡ true
   created-plain (created.File c) = refl
   created-plain (created.Qcow2 c) = refl
   created-plain created.Unknown = refl
 
-  uses-plain : (name : Option (List ℕ)) → list_all is_plain (file_uses name) ≡ true
+  uses-plain : (name : Option (List ℕ)) → list_all is_plain_change (file_uses name) ≡ true
   uses-plain None = refl
   uses-plain (Some name) = refl
 
-  inline-plain : (node : ℕ) → list_all is_plain (with_inline t node) ≡ true
-  inline-plain node = elim (find (goes_with_node node) t.nodes) as (λ found. list_all is_plain (elim found as (λ _. List Change) [ None ↦ [] | Some row ↦ change.RemoveNode row.id ∷ [] ]) ≡ true) [
+  inline-plain : (node : ℕ) → list_all is_plain_change (with_inline t node) ≡ true
+  inline-plain node = elim (find (goes_with_node node) t.nodes) as (λ found. list_all is_plain_change (elim found as (λ _. List Change) [ None ↦ [] | Some row ↦ change.RemoveNode row.id ∷ [] ]) ≡ true) [
     | None ↦ refl
     | Some row ↦ refl
   ]
 
-  gone-plain : (found : Option NodeRecord) → list_all is_plain (of_row (row_gone t) found) ≡ true
+  gone-plain : (found : Option NodeRecord) → list_all is_plain_change (of_row (row_gone t) found) ≡ true
   gone-plain None = refl
-  gone-plain (Some row) = both is_plain (file_uses (file_under t row)) (change.RemoveNode row.id ∷ with_inline t row.id) (uses-plain (file_under t row)) (inline-plain row.id)
+  gone-plain (Some row) = both is_plain_change (file_uses (file_under t row)) (change.RemoveNode row.id ∷ with_inline t row.id) (uses-plain (file_under t row)) (inline-plain row.id)
 
   device-plain : (c : DeviceAdd (List ℕ)) (found : Option NodeRecord)
-      → list_all is_plain (of_row (λ row. device_uses row ++ change.AddDevice (new_device t c row) row.id ∷ []) found) ≡ true
+      → list_all is_plain_change (of_row (λ row. device_uses row ++ change.AddDevice (new_device t c row) row.id ∷ []) found) ≡ true
   device-plain c None = refl
-  device-plain c (Some row) = both is_plain (device_uses row) (change.AddDevice (new_device t c row) row.id ∷ []) (used (is_file row)) refl
+  device-plain c (Some row) = both is_plain_change (device_uses row) (change.AddDevice (new_device t c row) row.id ∷ []) (used (is_file row)) refl
     where
-      used : (b : Bool) → list_all is_plain (if b then file_uses row.filename else []) ≡ true
+      used : (b : Bool) → list_all is_plain_change (if b then file_uses row.filename else []) ≡ true
       used true = uses-plain row.filename
       used false = refl
 
-  merges-plain : (node target : List ℕ) (sources : SeenSources) → list_all is_plain (merges t node target sources) ≡ true
+  merges-plain : (node target : List ℕ) (sources : SeenSources) → list_all is_plain_change (merges t node target sources) ≡ true
   merges-plain node target [] = refl
   merges-plain node target (source ∷ sources) = merges-plain node target sources
 
-  removed-plain : (found : Option Device) → list_all is_plain (elim found as (λ _. List Change) [ None ↦ [] | Some device ↦ change.RemoveDevice device.number ∷ [] ]) ≡ true
+  removed-plain : (found : Option Device) → list_all is_plain_change (elim found as (λ _. List Change) [ None ↦ [] | Some device ↦ change.RemoveDevice device.number ∷ [] ]) ≡ true
   removed-plain None = refl
   removed-plain (Some device) = refl
 
-  pub edits_plain : (c : Cmd) → is_built c ≡ true → list_all is_plain (command_edits t told c) ≡ true
+  pub edits_plain : (c : Cmd) → is_built c ≡ true → list_all is_plain_change (command_edits t told c) ≡ true
   unfolding edits_of
   edits_plain (command.Capabilities enable) built = refl
   edits_plain (command.BlockdevCreate c) built = created-plain c.options
@@ -138,23 +138,23 @@ module _ (t : RunTable) (told : Told) where
   edits_plain (command.BitmapMerge c) built = merges-plain c.node c.target c.bitmaps
   edits_plain _ built = absurd cc
 
-  pub spoiled_plain : (options : Created (List ℕ)) → list_all is_plain (spoiled t options) ≡ true
+  pub spoiled_plain : (options : Created (List ℕ)) → list_all is_plain_change (spoiled t options) ≡ true
   spoiled_plain (created.File c) = refl
   spoiled_plain (created.Qcow2 c) = refl
   spoiled_plain created.Unknown = refl
 
-  left-create : (options : _) (cause : Refusal) → list_all is_plain (left_by t (command.BlockdevCreate options) cause) ≡ true
+  left-create : (options : _) (cause : Refusal) → list_all is_plain_change (left_by t (command.BlockdevCreate options) cause) ≡ true
   left-create c (refusal.Io source count) = spoiled_plain c.options
   left-create c (refusal.NoSpace dev) = spoiled_plain c.options
   left-create c _ = refl
 
-  pub left_plain : (c : Cmd) (cause : Refusal) → list_all is_plain (left_by t c cause) ≡ true
+  pub left_plain : (c : Cmd) (cause : Refusal) → list_all is_plain_change (left_by t c cause) ≡ true
   left_plain (command.BlockdevCreate c) cause = left-create c cause
   left_plain _ cause = refl
 
 -- ---- what they leave
 
-pub record Keeps (s v : State) : Type 0 where
+pub record KeepsGuests (s v : State) : Type 0 where
   pub room : v.room ≡ s.room
   pub guests : v.guests ≡ s.guests
   pub starts : v.starts ≡ s.starts
@@ -166,10 +166,10 @@ pub record KeepsTable (t u : RunTable) : Type 0 where
   pub jobs : u.jobs ≡ t.jobs
   pub started : u.started ≡ t.started
 
-same : (s : State) → Keeps s s
+same : (s : State) → KeepsGuests s s
 same s = record { room = refl; guests = refl; starts = refl; ending = refl; ended = refl }
 
-keeps-then : (s u v : State) → Keeps s u → Keeps u v → Keeps s v
+keeps-then : (s u v : State) → KeepsGuests s u → KeepsGuests u v → KeepsGuests s v
 keeps-then s u v a b = record {
   room = b.room ∙ a.room;
   guests = b.guests ∙ a.guests;
@@ -178,40 +178,40 @@ keeps-then s u v a b = record {
   ended = b.ended ∙ a.ended;
 }
 
-named-if : (only : Bool) (name : List ℕ) (s : State) → Keeps s (if only then s else name_file name s)
+named-if : (only : Bool) (name : List ℕ) (s : State) → KeepsGuests s (if only then s else name_file name s)
 named-if true name s = same s
 named-if false name s = record { room = refl; guests = refl; starts = refl; ending = refl; ended = refl }
 
-file-keeps : (row : NodeRecord) (s : State) → Keeps s (add_file row s)
+file-keeps : (row : NodeRecord) (s : State) → KeepsGuests s (add_file row s)
 file-keeps row s =
     let put_so : State = put row.id (file_bytes row.size (content_in s.files (name_of_file row))) s in
     keeps-then s put_so _ (record { room = refl; guests = refl; starts = refl; ending = refl; ended = refl }) (named-if row.read_only (name_of_file row) put_so)
 
-image-keeps : (driver : Kind) (node : ℕ) (mapped : _) (s : State) → Keeps s (note_image driver node mapped s)
+image-keeps : (driver : Kind) (node : ℕ) (mapped : _) (s : State) → KeepsGuests s (note_image driver node mapped s)
 image-keeps kind.Qcow2 node mapped s = record { room = refl; guests = refl; starts = refl; ending = refl; ended = refl }
 image-keeps _ node mapped s = same s
 
-know-keeps : (name : Option (List ℕ)) (content : Content) (s : State) → Keeps s (know_if name content s)
+know-keeps : (name : Option (List ℕ)) (content : Content) (s : State) → KeepsGuests s (know_if name content s)
 know-keeps None content s = same s
 know-keeps (Some name) content s = record { room = refl; guests = refl; starts = refl; ending = refl; ended = refl }
 
-format-keeps : (row : NodeRecord) (file : ℕ) (backing : Option ℕ) (s : State) → Keeps s (add_format row file backing s)
+format-keeps : (row : NodeRecord) (file : ℕ) (backing : Option ℕ) (s : State) → KeepsGuests s (add_format row file backing s)
 format-keeps row file backing s =
     let put_so : State = put row.id _ s in
     keeps-then s (note_image row.kind row.id _ put_so) _
     (keeps-then s put_so _ (record { room = refl; guests = refl; starts = refl; ending = refl; ended = refl }) (image-keeps row.kind row.id _ put_so))
     (know-keeps (filename_of s.table file) _ _)
 
-leave-keeps : (left : Option Left) (s : State) → Keeps s (leave left s)
+leave-keeps : (left : Option Left) (s : State) → KeepsGuests s (leave left s)
 leave-keeps None s = same s
 leave-keeps (Some left) s = record { room = refl; guests = refl; starts = refl; ending = refl; ended = refl }
 
-remove-keeps : (node : ℕ) (s : State) → Keeps s (remove_node node s)
+remove-keeps : (node : ℕ) (s : State) → KeepsGuests s (remove_node node s)
 remove-keeps node s =
     let first = leave-keeps _ s in
     record { room = first.room; guests = first.guests; starts = first.starts; ending = first.ending; ended = first.ended }
 
-beside-keeps : (s : State) (c : Change) → is_plain c ≡ true → Keeps s (beside s c)
+beside-keeps : (s : State) (c : Change) → is_plain_change c ≡ true → KeepsGuests s (beside s c)
 beside-keeps s (change.AddFile row) plain = file-keeps row s
 beside-keeps s (change.AddFormat row file backing) plain = format-keeps row file backing s
 beside-keeps s (change.RemoveNode node) plain = remove-keeps node s
@@ -234,7 +234,7 @@ beside-keeps s (change.Attach overlay node) plain = record { room = refl; guests
 beside-keeps s (change.Move from to but) plain = same s
 beside-keeps s _ plain = absurd cc
 
-table-keeps : (t : RunTable) (c : Change) → is_plain c ≡ true → KeepsTable t (changed t c)
+table-keeps : (t : RunTable) (c : Change) → is_plain_change c ≡ true → KeepsTable t (changed t c)
 unfolding changed
 table-keeps t change.Negotiate plain = record { guests = refl; jobs = refl; started = refl }
 table-keeps t (change.KeepId id) plain = record { guests = refl; jobs = refl; started = refl }
@@ -260,10 +260,10 @@ table-keeps t _ plain = absurd cc
 
 -- ---- one change after another
 
-parts : (c : Change) (changes : List Change) → list_all is_plain (c ∷ changes) ≡ true → (is_plain c ≡ true) × (list_all is_plain changes ≡ true)
-parts c changes h = at (is_plain c) refl h
+parts : (c : Change) (changes : List Change) → list_all is_plain_change (c ∷ changes) ≡ true → (is_plain_change c ≡ true) × (list_all is_plain_change changes ≡ true)
+parts c changes h = at (is_plain_change c) refl h
   where
-    at : (b : Bool) → is_plain c ≡ b → (b && list_all is_plain changes) ≡ true → (is_plain c ≡ true) × (list_all is_plain changes ≡ true)
+    at : (b : Bool) → is_plain_change c ≡ b → (b && list_all is_plain_change changes) ≡ true → (is_plain_change c ≡ true) × (list_all is_plain_change changes ≡ true)
     at true known rest = (known, rest)
     at false known rest = absurd cc
 
@@ -271,7 +271,7 @@ pub all_tables : (changes : List Change) (s : State) → (all_stepped s changes)
 all_tables [] s = refl
 all_tables (c ∷ changes) s = all_tables changes (stepped s c)
 
-pub all_keep : (changes : List Change) (s : State) → list_all is_plain changes ≡ true → Keeps s (all_stepped s changes)
+pub all_keep : (changes : List Change) (s : State) → list_all is_plain_change changes ≡ true → KeepsGuests s (all_stepped s changes)
 all_keep [] s plain = same s
 all_keep (c ∷ changes) s plain =
     let p = parts c changes plain in
@@ -280,7 +280,7 @@ all_keep (c ∷ changes) s plain =
     (record { room = one.room; guests = one.guests; starts = one.starts; ending = one.ending; ended = one.ended })
     (all_keep changes (stepped s c) p.1)
 
-pub all_tables_keep : (changes : List Change) (t : RunTable) → list_all is_plain changes ≡ true → KeepsTable t (all_changed t changes)
+pub all_tables_keep : (changes : List Change) (t : RunTable) → list_all is_plain_change changes ≡ true → KeepsTable t (all_changed t changes)
 all_tables_keep [] t plain = record { guests = refl; jobs = refl; started = refl }
 all_tables_keep (c ∷ changes) t plain =
     let p = parts c changes plain in

@@ -134,19 +134,19 @@ IsTellable (refusal.NoSpace dev) = dev.0 < 2 ^ 32
 IsTellable (refusal.NotFound name is_device) = is_word name ≡ true
 IsTellable cause = Unit {0}
 
-pub record Tells (cause : Refusal) : Type 0 where
+pub record RefusalTells (cause : Refusal) : Type 0 where
   pub fault : named_in_words (words (refusal_text cause)) ≡ fault_named cause
   pub full : full_in_words (words (refusal_text cause)) ≡ full_named cause
 
-quiet : (cause : Refusal) → IsSilent (refusal_text cause) → fault_named cause ≡ None → full_named cause ≡ None → Tells cause
+quiet : (cause : Refusal) → IsSilent (refusal_text cause) → fault_named cause ≡ None → full_named cause ≡ None → RefusalTells cause
 quiet cause is fault full = record { fault = is.fault ∙ sym fault; full = is.full ∙ sym full }
 
 verb : (cause : Refusal) (word rest : List ℕ) → refusal_text cause ≡ word ++ 32 ∷ rest → is_word word ≡ true → bytes_eq word (codes "io") ≡ false
-    → bytes_eq word (codes "nospace") ≡ false → fault_named cause ≡ None → full_named cause ≡ None → Tells cause
+    → bytes_eq word (codes "nospace") ≡ false → fault_named cause ≡ None → full_named cause ≡ None → RefusalTells cause
 verb cause word rest text is io full named no_full =
     quiet cause (subst IsSilent (sym text) (silent-verb word rest is io full)) named no_full
 
-store-tells : (count : ℕ) → count < 2 ^ 64 → Tells (refusal.Io from.Store count)
+store-tells : (count : ℕ) → count < 2 ^ 64 → RefusalTells (refusal.Io from.Store count)
 store-tells count small =
     let first = words-begin (codes "io") (codes "store " ++ decimal count) refl in
     let second = words-begin (codes "store") (decimal count) refl in
@@ -177,7 +177,7 @@ device-words a b word last =
     ap words regroup ∙ (second ∙ ap (λ (ws : List (List ℕ)). (codes "dev" ++ a) ∷ ws) third) in
     ap words (device-text a b) ∙ (first ∙ ap (λ (ws : List (List ℕ)). codes "io" ∷ ws) behind)
 
-device-tells : (dev : DevNo) (count : ℕ) → dev.0 < 2 ^ 32 → count < 2 ^ 64 → Tells (refusal.Io (from.Dev dev) count)
+device-tells : (dev : DevNo) (count : ℕ) → dev.0 < 2 ^ 32 → count < 2 ^ 64 → RefusalTells (refusal.Io (from.Dev dev) count)
 device-tells dev count few small =
     let number : dev.0 < 2 ^ 64 = omega arith in
     let parts = device-words (decimal dev.0) (decimal count) (digits-word dev.0 number) (digits-word count small) in
@@ -185,7 +185,7 @@ device-tells dev count few small =
     let device = decimal-value dev.0 number in
     record { fault = ap named_in_words parts ∙ rw (value, device) refl; full = ap full_in_words parts }
 
-full-tells : (dev : DevNo) → dev.0 < 2 ^ 32 → Tells (refusal.NoSpace dev)
+full-tells : (dev : DevNo) → dev.0 < 2 ^ 32 → RefusalTells (refusal.NoSpace dev)
 full-tells dev few =
     let number : dev.0 < 2 ^ 64 = omega arith in
     let first = words-begin (codes "nospace") (codes "dev" ++ decimal dev.0) refl in
@@ -193,12 +193,12 @@ full-tells dev few =
     let device = decimal-value dev.0 number in
     record { fault = rw (first, second) refl; full = rw (first, second, device) refl }
 
-negotiation-tells : (again : Bool) → Tells (refusal.Negotiation again)
+negotiation-tells : (again : Bool) → RefusalTells (refusal.Negotiation again)
 negotiation-tells true = record { fault = refl; full = refl }
 negotiation-tells false = record { fault = refl; full = refl }
 
 -- A refusal names the fault that it tells, and says of the device that it tells that it is full.
-pub tells : (cause : Refusal) → IsTellable cause → Tells cause
+pub tells : (cause : Refusal) → IsTellable cause → RefusalTells cause
 tells refusal.BadJson is = record { fault = refl; full = refl }
 tells (refusal.UnknownCommand name) is = verb _ (codes "command") _ refl refl refl refl refl refl
 tells (refusal.Negotiation again) is = negotiation-tells again

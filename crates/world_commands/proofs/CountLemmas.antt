@@ -37,18 +37,18 @@ with-of None a P e is = absurd (let bad : ⊥ = cc in bad)
 with-of (Some b) a P e is = let same : a ≡ b = cc in subst P same is
 
 -- what holds of what is there, there
-pub record IsThere {A : Type 0} (x : Option A) (P : A → Type 0) : Type 0 where
+pub record HoldsThere {A : Type 0} (x : Option A) (P : A → Type 0) : Type 0 where
   pub at : A
   pub is : x ≡ Some at
   pub holds : P at
 
-pub there : {A : Type 0} (x : Option A) (P : A → Type 0) → With x P → IsThere x P
+pub there : {A : Type 0} (x : Option A) (P : A → Type 0) → With x P → HoldsThere x P
 there None P is = absurd is
 there (Some a) P is = record { at = a; is = refl; holds = is }
 
 -- the first count of an opening
 first-at : (opened : List Opened) (n : ℕ) (count : ℕ) → slice_get (map (λ (o : Opened). o.faults) opened) n ≡ Some count
-    → IsThere (slice_get opened n) (λ o. o.faults ≡ count)
+    → HoldsThere (slice_get opened n) (λ o. o.faults ≡ count)
 first-at [] n count e = absurd (let bad : ⊥ = cc in bad)
 first-at (o ∷ opened) zero count e = record { at = o; is = refl; holds = cc }
 first-at (o ∷ opened) (suc n) count e = first-at opened n count e

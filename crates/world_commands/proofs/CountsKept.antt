@@ -284,14 +284,14 @@ module _ (w v : WorldSeen) (o : Opened) (opened : v.opened ≡ w.opened ++ o ∷
 -- ---- between two moments
 
 -- no count rose, and no file was opened
-pub record KeepsCounts (w v : WorldSeen) : Type 0 where
+pub record KeepsFaultCounts (w v : WorldSeen) : Type 0 where
   pub now : counts_now v ≡ counts_now w
   pub many : length v.opened ≡ length w.opened
 
-pub keeps-then : (w x v : WorldSeen) → KeepsCounts w x → KeepsCounts x v → KeepsCounts w v
+pub keeps-then : (w x v : WorldSeen) → KeepsFaultCounts w x → KeepsFaultCounts x v → KeepsFaultCounts w v
 keeps-then w x v first next = record { now = next.now ∙ first.now; many = next.many ∙ first.many }
 
-pub hides-kept : (w v : WorldSeen) → KeepsCounts w v → HidesNoFault w v None
+pub hides-kept : (w v : WorldSeen) → KeepsFaultCounts w v → HidesNoFault w v None
 hides-kept w v keeps =
     let none : drop (length w.opened) (first_counts v).devices ≡ [] =
     ap (λ (n : ℕ). drop n (first_counts v).devices) (sym keeps.many) ∙ none-behind v.opened in

@@ -37,20 +37,20 @@ use Rattle.world_commands.proofs.Belonging.{belong_of}
 use Rattle.world_commands.proofs.CarryPlain.{quiet-self}
 use Rattle.world_commands.proofs.CloseCounts.{same-back}
 use Rattle.world_commands.proofs.CountLemmas.{runs-devices, runs-then, same-devices}
-use Rattle.world_commands.proofs.CountsKept.{KeepsCounts, hides-kept, keeps-then}
+use Rattle.world_commands.proofs.CountsKept.{KeepsFaultCounts, hides-kept, keeps-then}
 use Rattle.world_commands.proofs.CreatedAsked.{del_asked}
 use Rattle.world_commands.proofs.DeletedParts.{nodes_left, filename_stays}
 use Rattle.world_commands.proofs.DeletedRuns.{counts_left, runs_left, tell_left}
 use Rattle.world_commands.proofs.DeletedSteps.{Parts, parts_left, entered_left, device_out, first_can, file_can, file_differs, free_by}
-use Rattle.world_commands.proofs.DeletedWhole.{Tells, step_removes}
+use Rattle.world_commands.proofs.DeletedWhole.{WorldTells, step_removes}
 use Rattle.world_commands.proofs.EasedTables.{eased_use}
 use Rattle.world_commands.proofs.GuestEdges.{asks_left}
 use Rattle.world_commands.proofs.KeptDrives.{drives_kept, disks_kept, within_kept, writable_kept}
-use Rattle.world_commands.proofs.Placed.{placed, answer-is, CarriedUntold, carried_by, rests_by, Goes, goes_of, goes_shape, coherent_of, allowed_same, used, state_used, shape_used, shape_by, table_used, changed_used, performed_used}
+use Rattle.world_commands.proofs.Placed.{placed, answer-is, CarriedUntold, carried_by, rests_by, BelongsTogether, goes_of, goes_shape, coherent_of, allowed_same, table_with_use, state_used, shape_used, shape_by, table_used, changed_used, performed_used}
 
 -- ---- one node goes
 
-module _ (w : WorldSeen) (node : ℕ) (goes : Goes w) (can : CanLeave w.table (ground_of w) node) (has : HasLeft (ground_of w) node) where
+module _ (w : WorldSeen) (node : ℕ) (goes : BelongsTogether w) (can : CanLeave w.table (ground_of w) node) (has : HasLeft (ground_of w) node) where
   abbrev v : WorldSeen
   v = after_deletion node w
 
@@ -77,7 +77,7 @@ module _ (w : WorldSeen) (node : ℕ) (goes : Goes w) (can : CanLeave w.table (g
   unfolding changed
   jobs_left = refl
 
-  pub goes_left : Goes v
+  pub goes_left : BelongsTogether v
   goes_left =
       let keeps = entered_left w.table (ground_of w) node goes.parts can has in
       record {
@@ -104,7 +104,7 @@ module _ (w : WorldSeen) (node : ℕ) (goes : Goes w) (can : CanLeave w.table (g
       by_files : (files : Option (List StoreFile)) → w.files ≡ files → Removes s node (contents_of w) (contents_of v)
       by_files None is = absurd (let bad : is_some {T = List StoreFile} None ≡ true = subst (λ (f : Option (List StoreFile)). is_some f ≡ true) is told in let e : ⊥ = cc bad in e)
       by_files (Some files) is =
-          let tells : Tells w = record {
+          let tells : WorldTells w = record {
             parts = goes.parts;
             unfolds = goes.unfolds;
             alone = goes.alone;
@@ -126,14 +126,14 @@ removals nodes = map (λ node. RemoveNode node) nodes
 
 -- these nodes have gone, and this is what is left of the ground
 record AreGone (w v : WorldSeen) (nodes : List ℕ) (x : Ground) : Type 0 where
-  goes : Goes v
+  goes : BelongsTogether v
   runs : RunsOn w v
-  counts : KeepsCounts w v
+  counts : KeepsFaultCounts w v
   ground_is : x ≡ ground_of v
   performed : (s : State) → is_some w.files ≡ true → s.table ≡ w.table → AllPerformed s (removals nodes) (contents_of w) (contents_of v)
 
 -- one, whose file has its name by a table of the same rows
-one_gone : (w : WorldSeen) (t : RunTable) (node : ℕ) → Goes w → CanLeave t (ground_of w) node → HasLeft (ground_of w) node → name_under t node ≡ name_under w.table node
+one_gone : (w : WorldSeen) (t : RunTable) (node : ℕ) → BelongsTogether w → CanLeave t (ground_of w) node → HasLeft (ground_of w) node → name_under t node ≡ name_under w.table node
     → AreGone w (after_deletion node w) (node ∷ []) (left t node (ground_of w))
 one_gone w t node goes can has named =
     let can' = can_with t w.table (ground_of w) node goes.parts can in
@@ -147,7 +147,7 @@ one_gone w t node goes can has named =
       performed = λ s told same. (contents_of (after_deletion node w), removes_left w node goes can' has s told same, quiet-self (contents_of (after_deletion node w)));
     }
 
-two_gone : (w : WorldSeen) (t : RunTable) (node file : ℕ) → Goes w → CanLeave t (ground_of w) node → HasLeft (ground_of w) node → name_under t node ≡ name_under w.table node
+two_gone : (w : WorldSeen) (t : RunTable) (node file : ℕ) → BelongsTogether w → CanLeave t (ground_of w) node → HasLeft (ground_of w) node → name_under t node ≡ name_under w.table node
     → CanLeave t (left t node (ground_of w)) file → HasLeft (left t node (ground_of w)) file → name_under t file ≡ name_under (changed w.table (RemoveNode node)) file
     → AreGone w (after_deletion file (after_deletion node w)) (node ∷ file ∷ []) (left t file (left t node (ground_of w)))
 two_gone w t node file goes can has named can_file has_file named_file =
@@ -193,7 +193,7 @@ module _ (w : WorldSeen) (whole : IsWholeWorld w) (joined : IsJoined w.nodes) (u
   abbrev node : ℕ
   node = deleted.row.id
 
-  goes : Goes w
+  goes : BelongsTogether w
   goes = goes_of w whole joined unfolds
 
   belong : Belong w.table (ground_of w)
@@ -207,13 +207,13 @@ module _ (w : WorldSeen) (whole : IsWholeWorld w) (joined : IsJoined w.nodes) (u
   -- ---- the file is used first
 
   abbrev then : Option (List ℕ) → WorldSeen
-  then file = record w { table = used w.table file }
+  then file = record w { table = table_with_use w.table file }
 
-  goes_then : (file : Option (List ℕ)) → Goes (then file)
+  goes_then : (file : Option (List ℕ)) → BelongsTogether (then file)
   goes_then None = goes
   goes_then (Some file) = goes_shape w (changed w.table (UseFile file)) (shape_used w.table file) (eased_use w.table file) goes
 
-  named : (file : Option (List ℕ)) (other : ℕ) → name_under w.table other ≡ name_under (used w.table file) other
+  named : (file : Option (List ℕ)) (other : ℕ) → name_under w.table other ≡ name_under (table_with_use w.table file) other
   named file other = rw (shape_by w.table file).nodes refl
 
   runs_then : (file : Option (List ℕ)) → RunsOn w (then file)
@@ -223,9 +223,9 @@ module _ (w : WorldSeen) (whole : IsWholeWorld w) (joined : IsJoined w.nodes) (u
 
   -- what is known in the end
   record IsEnd (v : WorldSeen) (nodes : List ℕ) : Type 0 where
-    goes : Goes v
+    goes : BelongsTogether v
     runs : RunsOn w v
-    counts : KeepsCounts w v
+    counts : KeepsFaultCounts w v
     ground_is : x ≡ ground_of v
     performed : (s : State) → is_some w.files ≡ true → s.table ≡ w.table
         → AllPerformed s (file_uses (file_under w.table row) ++ removals nodes) (contents_of w) (contents_of v)
@@ -256,7 +256,7 @@ module _ (w : WorldSeen) (whole : IsWholeWorld w) (joined : IsJoined w.nodes) (u
       let differs = file_differs w.table (ground_of w) joined belong node can each.0 file is in
       let gone = two_gone (then (file_under w.table row)) w.table node file (goes_then (file_under w.table row)) can each.0 (named (file_under w.table row) node)
       (file_can w.table (ground_of w) joined belong node can each.0 file is) each.1.0
-      (named (file_under w.table row) file ∙ sym (ap (λ (f : Option (List ℕ)). unwrap_or f []) (filename_stays (used w.table (file_under w.table row)) node file differs))) in
+      (named (file_under w.table row) file ∙ sym (ap (λ (f : Option (List ℕ)). unwrap_or f []) (filename_stays (table_with_use w.table (file_under w.table row)) node file differs))) in
       ended (last (Some file)) (node ∷ file ∷ []) (record { goes = gone.goes; runs = gone.runs; counts = gone.counts; ground_is = all ∙ gone.ground_is; performed = gone.performed })
 
   -- ---- the table
@@ -276,7 +276,7 @@ module _ (w : WorldSeen) (whole : IsWholeWorld w) (joined : IsJoined w.nodes) (u
       ∙ ap (of_row (row_gone w.table)) deleted.found
       ∙ ap (λ (more : List Change). file_uses (file_under w.table row) ++ more) (sym inline_is)
 
-  last_table : (made : Option ℕ) → (last made).table ≡ all_changed (used w.table (file_under w.table row)) (removals (with_node_below node made))
+  last_table : (made : Option ℕ) → (last made).table ≡ all_changed (table_with_use w.table (file_under w.table row)) (removals (with_node_below node made))
   last_table None = refl
   last_table (Some file) = refl
 
@@ -349,7 +349,7 @@ module _ (w : WorldSeen) (whole : IsWholeWorld w) (joined : IsJoined w.nodes) (u
     devices = is.devices;
   }
 
-  counts_with : KeepsCounts w final → KeepsCounts w final_with
+  counts_with : KeepsFaultCounts w final → KeepsFaultCounts w final_with
   counts_with is = record { now = is.now; many = is.many }
 
   final_carried : CarriedUntold w final_with c None

@@ -20,7 +20,7 @@ use Rattle.world_parts.specs.Deleting.{TellsFlush, name_under, with_back, ground
 use Rattle.world_parts.specs.Face.{WorldSeen, device_numbered, count_of_opening, counts_from, counts_now}
 use Rattle.world_parts.specs.Steps.{StoreSeen}
 use Rattle.world_commands.proofs.CountLemmas.{counts-at, goes-on, numbered, same-devices, not-fallen, with-of}
-use Rattle.world_commands.proofs.CountsKept.{KeepsCounts, counts-equal, length-counts}
+use Rattle.world_commands.proofs.CountsKept.{KeepsFaultCounts, counts-equal, length-counts}
 use Rattle.world_parts.proofs.DeletedLists.{kept-in, given-there, given-other}
 use Rattle.world_commands.proofs.DeletedParts.{one_of, was, only_out, out_left}
 use Rattle.world_commands.proofs.DeletedSteps.{Parts}
@@ -210,7 +210,7 @@ module _ (w : WorldSeen) (node : ℕ) (parts : Parts w.table (ground_of w)) (tel
     devices = counts_back d is;
   }
 
-  keeps_by : (found : Option DeviceSeen) → device_in w.nodes.devices node ≡ found → KeepsCounts w (gone found)
+  keeps_by : (found : Option DeviceSeen) → device_in w.nodes.devices node ≡ found → KeepsFaultCounts w (gone found)
   keeps_by None is = record {
     now = ap (λ (ds : List DeviceSeen). let c : Counts = record { store = w.faults; devices = counts_from ds 0 w.opened } in c)
         (none_gone node w.nodes.devices is);
@@ -221,7 +221,7 @@ module _ (w : WorldSeen) (node : ℕ) (parts : Parts w.table (ground_of w)) (tel
     many = many_back d is;
   }
 
-  pub counts_left : KeepsCounts w v
+  pub counts_left : KeepsFaultCounts w v
   counts_left = keeps_by (device_in w.nodes.devices node) refl
 
   pub runs_left : RunsOn w v

@@ -31,7 +31,7 @@ use Rattle.world_parts.specs.Coherent.{AreAlike, AreNodesOf, AreOut}
 use Rattle.world_parts.specs.Deleting.{name_under, with_back, Ground, left, CanLeave, HasLeft, made_with, Belong, IsLoneNode, Deletes}
 use Rattle.world_parts.proofs.DeletedLists.{find_none, kept-in, out_there}
 use Rattle.world_commands.proofs.DeletedParts.{row_stays, filename_stays, apart_left, nodes_of_left, out_left, out_same}
-use Rattle.world_commands.proofs.KeptDrives.{IsEntered, KeepsEntered}
+use Rattle.world_commands.proofs.KeptDrives.{IsLedTo, KeepsEntered}
 
 -- ---- table, nodes and openings
 
@@ -96,7 +96,7 @@ module _ (t : RunTable) (x : Ground) (node : ℕ) (parts : Parts t x) (can : Can
         ∙ child-without (Node node) (Node other) role t.edges (λ bad. differs other here (let e : other ≡ node = cc bad in e));
   }
     where
-      differs : (other : ℕ) → IsEntered t other → other ≢ node
+      differs : (other : ℕ) → IsLedTo t other → other ≢ node
       differs other here same = unentered here.edge here.there (here.leads ∙ same)
 
   -- a node that nothing but it led to can go next

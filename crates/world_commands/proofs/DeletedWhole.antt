@@ -22,7 +22,7 @@ use Rattle.world_commands.proofs.DeletedParts.{nodes_left}
 use Rattle.world_commands.proofs.DeletedSteps.{Parts, parts_left}
 
 -- what is true of a world that tells its files
-pub record Tells (w : WorldSeen) : Type 0 where
+pub record WorldTells (w : WorldSeen) : Type 0 where
   pub parts : Parts w.table (ground_of w)
   pub unfolds : Unfolds w.nodes
   pub alone : StandAlone w.table
@@ -31,7 +31,7 @@ pub record Tells (w : WorldSeen) : Type 0 where
   pub files : List StoreFile
   pub told : w.files ≡ Some files
 
-module _ (w : WorldSeen) (node : ℕ) (tells : Tells w) (can : CanLeave w.table (ground_of w) node) (has : HasLeft (ground_of w) node) where
+module _ (w : WorldSeen) (node : ℕ) (tells : WorldTells w) (can : CanLeave w.table (ground_of w) node) (has : HasLeft (ground_of w) node) where
   abbrev v : WorldSeen
   v = after_deletion node w
 
@@ -86,7 +86,7 @@ module _ (w : WorldSeen) (node : ℕ) (tells : Tells w) (can : CanLeave w.table 
       by_device None is = rw is refl
       by_device (Some d) is = rw is refl
 
-  pub step_tells : Tells v
+  pub step_tells : WorldTells v
   step_tells = record {
     parts = subst (Parts v.table) same_ground (parts_left w.table (ground_of w) node parts can has);
     unfolds = has.unfolds;

@@ -18,13 +18,13 @@ use Rattle.flat_machine.proofs.Finds.{find-map}
 use Rattle.blk_nodes.specs.Nodes.{Nodes, row_at}
 use Rattle.blk_nodes.specs.declared.row.Row.{Row}
 use Rattle.world_parts.specs.Coherent.{AreAlike, AreNodesOf, IsRowOf, IsOfFileLength, AreOut, node_row}
-use Rattle.world_commands.proofs.KeptDrives.{IsEntered, KeepsEntered}
+use Rattle.world_commands.proofs.KeptDrives.{IsLedTo, KeepsEntered}
 
 -- a row is as it was, or has lost its flat disk
 abbrev pub OnlyUnsettles : (NodeRecord → NodeRecord) → Type 0
 OnlyUnsettles f = (row : NodeRecord) → (f row ≡ row) ⊎ (f row ≡ unsettled row)
 
-pub record IsEased (t now : RunTable) : Type 0 where
+pub record IsTableEased (t now : RunTable) : Type 0 where
   pub f : NodeRecord → NodeRecord
   pub only : OnlyUnsettles f
   pub rows : now.nodes ≡ map f t.nodes
@@ -33,7 +33,7 @@ pub record IsEased (t now : RunTable) : Type 0 where
   pub guests : now.guests ≡ t.guests
   pub jobs : now.jobs ≡ t.jobs
 
-module _ (t now : RunTable) (e : IsEased t now) where
+module _ (t now : RunTable) (e : IsTableEased t now) where
   -- what doesn't speak of flat disks is the same of both rows
   same_of : {A : Type 0} (g : NodeRecord → A) → ((row : NodeRecord) → g (unsettled row) ≡ g row) → (row : NodeRecord) → g (e.f row) ≡ g row
   same_of g blind row = elim (e.only row) [ inl same ↦ ap g same | inr lost ↦ ap g lost ∙ blind row ]
@@ -104,7 +104,7 @@ module _ (t now : RunTable) (e : IsEased t now) where
   }
 
   -- guests' disks are as they were where the rows that edges lead to are
-  pub entered_eased : ((row : NodeRecord) → Contains t.nodes row → IsEntered t row.id → e.f row ≡ row) → KeepsEntered t now
+  pub entered_eased : ((row : NodeRecord) → Contains t.nodes row → IsLedTo t row.id → e.f row ≡ row) → KeepsEntered t now
   entered_eased fixed = record {
     devices = λ g. ap (find (λ device. device.number == g)) e.devices;
     drives = λ g. ap (child_of (GuestOf g) Drive) e.edges;
@@ -112,12 +112,12 @@ module _ (t now : RunTable) (e : IsEased t now) where
     children = λ node role here. ap (child_of (Node node) role) e.edges;
   }
     where
-      by_row : (node : ℕ) → IsEntered t node → (row : Option NodeRecord) → node_by_id t node ≡ row → option_map e.f row ≡ row
+      by_row : (node : ℕ) → IsLedTo t node → (row : Option NodeRecord) → node_by_id t node ≡ row → option_map e.f row ≡ row
       by_row node here None at = refl
       by_row node here (Some row) at =
           let found = find-Some (λ (r : NodeRecord). r.id == node) t.nodes row at in
           let is : row.id ≡ node = eqb-true row.id node found.1 in
-          ap (λ (r : NodeRecord). Some r) (fixed row found.0 (subst (IsEntered t) (sym is) here))
+          ap (λ (r : NodeRecord). Some r) (fixed row found.0 (subst (IsLedTo t) (sym is) here))
 
 -- ---- the changes that do no more
 
@@ -126,7 +126,7 @@ map-same [] = refl
 map-same (row ∷ rows) = ap (λ (rs : List NodeRecord). row ∷ rs) (map-same rows)
 
 module _ (t : RunTable) where
-  pub kept_rows : (now : RunTable) → now.nodes ≡ t.nodes → now.edges ≡ t.edges → now.devices ≡ t.devices → now.guests ≡ t.guests → now.jobs ≡ t.jobs → IsEased t now
+  pub kept_rows : (now : RunTable) → now.nodes ≡ t.nodes → now.edges ≡ t.edges → now.devices ≡ t.devices → now.guests ≡ t.guests → now.jobs ≡ t.jobs → IsTableEased t now
   kept_rows now nodes edges devices guests jobs = record {
     f = λ row. row;
     only = λ row. inl refl;
@@ -137,15 +137,15 @@ module _ (t : RunTable) where
     jobs = jobs;
   }
 
-  pub eased_keep : (id : List ℕ) → IsEased t (changed t (KeepId id))
+  pub eased_keep : (id : List ℕ) → IsTableEased t (changed t (KeepId id))
   unfolding changed
   eased_keep id = kept_rows (changed t (KeepId id)) refl refl refl refl refl
 
-  pub eased_make : (name : List ℕ) (size : ℕ) → IsEased t (changed t (MakeFile name size))
+  pub eased_make : (name : List ℕ) (size : ℕ) → IsTableEased t (changed t (MakeFile name size))
   unfolding changed
   eased_make name size = kept_rows (changed t (MakeFile name size)) refl refl refl refl refl
 
-  pub eased_use : (name : List ℕ) → IsEased t (changed t (UseFile name))
+  pub eased_use : (name : List ℕ) → IsTableEased t (changed t (UseFile name))
   unfolding changed
   eased_use name = kept_rows (changed t (UseFile name)) refl refl refl refl refl
 
@@ -154,7 +154,7 @@ module _ (t : RunTable) where
   by_test false row = inl refl
 
   pub eased_format : (node : ℕ) (name : List ℕ) (size : ℕ) (file : Option (List ℕ)) (format : Option ImageFormat)
-      → IsEased t (changed t (FormatFile node name size file format))
+      → IsTableEased t (changed t (FormatFile node name size file format))
   unfolding changed
   eased_format node name size file format = record {
     f = node_changed node unsettled;
@@ -166,7 +166,7 @@ module _ (t : RunTable) where
     jobs = refl;
   }
 
-  pub eased_spoil : (name : List ℕ) → IsEased t (changed t (SpoilFile name))
+  pub eased_spoil : (name : List ℕ) → IsTableEased t (changed t (SpoilFile name))
   unfolding changed
   eased_spoil name = record {
     f = lost_with name;

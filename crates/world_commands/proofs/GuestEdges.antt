@@ -13,7 +13,7 @@ use Rattle.qmp_rules.specs.Table.{RunTable}
 use Rattle.qmp_rules.specs.declared.change.Change.TheVariants.{RemoveNode}
 use Rattle.qmp_rules.specs.declared.rows.Device.{Device}
 use Rattle.world_parts.specs.Coherent.{AskToWrite}
-use Rattle.world_commands.proofs.EasedTables.{IsEased}
+use Rattle.world_commands.proofs.EasedTables.{IsTableEased}
 
 -- the edges of a guest among these are among those
 abbrev pub HaveGuests : List Edge → List Edge → Type 0
@@ -38,7 +38,7 @@ asks_left t node asks g device edge at writes there from =
     let old = guest_edge _ _ edge g there from in
     asks g device edge at writes (Contains-filter (λ (e : Edge). not (same_parent e.parent (Node node))) t.edges edge old).0 from
 
-pub asks_eased : (t now : RunTable) → IsEased t now → AskToWrite t → AskToWrite now
+pub asks_eased : (t now : RunTable) → IsTableEased t now → AskToWrite t → AskToWrite now
 asks_eased t now e asks g device edge at writes there from =
     asks g device edge (sym (ap (find (λ (d : Device). d.number == g)) e.devices) ∙ at) writes
     (subst (λ (edges : List Edge). Contains edges edge) e.edges there) from

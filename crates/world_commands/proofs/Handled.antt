@@ -80,14 +80,14 @@ said_as w given v text c refusal carried said dirty bitmaps = record {
 }
 
 -- the world on other ground, with another table and other bitmaps
-abbrev pub replaced : WorldSeen → Ground → RunTable → List Bitmap → WorldSeen
-replaced w x u b = record (placed w x u) { bitmaps = b }
+abbrev pub world_replaced : WorldSeen → Ground → RunTable → List Bitmap → WorldSeen
+world_replaced w x u b = record (placed w x u) { bitmaps = b }
 
 module _ (w : WorldSeen) (whole : IsWholeWorld w) (joined : IsJoined w.nodes) (unfolds : Unfolds w.nodes)
     (given : List ℕ) (x : Ground) (u : RunTable) (b : List Bitmap) (text : List ℕ) where
   pub deletion_carried : (c : Cmd) → is_deletion c ≡ true → IsHandled given w.table c u (IsDeletedBy w.table c (ground_of w) x) (x ≡ ground_of w) text
       → b ≡ bitmaps_left (refusal_to w.table told_none c) w.table c w.bitmaps
-      → IsCarriedAs w (replaced w x u b) given c text × IsWholeWorld (replaced w x u b)
+      → IsCarriedAs w (world_replaced w x u b) given c text × IsWholeWorld (world_replaced w x u b)
   deletion_carried (command.BlockdevDel name) is handled left =
       by_refusal handled.refusal handled.judged handled.done_is
       (left ∙ ap (λ (found : Option Refusal). bitmaps_left found w.table (command.BlockdevDel name) w.bitmaps) handled.judged)
@@ -95,18 +95,18 @@ module _ (w : WorldSeen) (whole : IsWholeWorld w) (joined : IsJoined w.nodes) (u
       by_refusal : (refusal : Option Refusal) → refusal_to w.table told_none (command.BlockdevDel name) ≡ refusal
           → DoneIf refusal (IsDeletedBy w.table (command.BlockdevDel name) (ground_of w) x) (x ≡ ground_of w)
           → b ≡ bitmaps_left refusal w.table (command.BlockdevDel name) w.bitmaps
-          → IsCarriedAs w (replaced w x u b) given (command.BlockdevDel name) text × IsWholeWorld (replaced w x u b)
+          → IsCarriedAs w (world_replaced w x u b) given (command.BlockdevDel name) text × IsWholeWorld (world_replaced w x u b)
       by_refusal None none done left =
           let all = deleted_carried w whole joined unfolds name none x done u handled.table b left in
-          (said_as w given (replaced w x u b) text (command.BlockdevDel name) None all.0 handled.said all.2.dirty (record { new = None; is_new = tt; are = left }), all.1)
+          (said_as w given (world_replaced w x u b) text (command.BlockdevDel name) None all.0 handled.said all.2.dirty (record { new = None; is_new = tt; are = left }), all.1)
       by_refusal (Some cause) some ground left =
           let all = refused_placed w (command.BlockdevDel name) cause refl refl some refl x u ground handled.table whole in
           let nothing : (answer w.table told_none (command.BlockdevDel name)).changes ≡ [] =
           ap (λ (a : Answer). a.changes) (answer-is w.table told_none (command.BlockdevDel name) (Some cause) some) in
           let carried : IsCarriedAs w (placed w x u) given (command.BlockdevDel name) text =
           said_as w given (placed w x u) text (command.BlockdevDel name) (Some cause) all.0 handled.said (sym (ap (dirty_after w.table (dirty_of w)) nothing)) refl in (
-            subst (λ (rows : List Bitmap). IsCarriedAs w (replaced w x u rows) given (command.BlockdevDel name) text) (sym left) carried,
-            subst (λ (rows : List Bitmap). IsWholeWorld (replaced w x u rows)) (sym left) all.1,
+            subst (λ (rows : List Bitmap). IsCarriedAs w (world_replaced w x u rows) given (command.BlockdevDel name) text) (sym left) carried,
+            subst (λ (rows : List Bitmap). IsWholeWorld (world_replaced w x u rows)) (sym left) all.1,
           )
   deletion_carried c is handled left = absurd (let bad : ⊥ = cc is in bad)
 
@@ -150,28 +150,28 @@ module _ (w : WorldSeen) (whole : IsWholeWorld w) (joined : IsJoined w.nodes) (u
     (given : List ℕ) (x : Ground) (u : RunTable) (b : List Bitmap) (c : Cmd) (is : is_deletion c ≡ true) {A E : Type 0} (r : Result A E) (text : A → List ℕ)
     (handled : IfOk r (λ a. IsHandled given w.table c u (IsDeletedBy w.table c (ground_of w) x) (x ≡ ground_of w) (text a)))
     (left : OnOk r (b ≡ bitmaps_left (refusal_to w.table told_none c) w.table c w.bitmaps)) where
-  pub deletion_texts : IfOk r (λ a. IsCarriedAs w (replaced w x u b) given c (text a))
+  pub deletion_texts : IfOk r (λ a. IsCarriedAs w (world_replaced w x u b) given c (text a))
   deletion_texts = by_result r handled left
     where
       by_result : (r : Result A E) → IfOk r (λ a. IsHandled given w.table c u (IsDeletedBy w.table c (ground_of w) x) (x ≡ ground_of w) (text a))
           → OnOk r (b ≡ bitmaps_left (refusal_to w.table told_none c) w.table c w.bitmaps)
-          → IfOk r (λ a. IsCarriedAs w (replaced w x u b) given c (text a))
+          → IfOk r (λ a. IsCarriedAs w (world_replaced w x u b) given c (text a))
       by_result (Ok a) handled left = (deletion_carried w whole joined unfolds given x u b (text a) c is handled left).0
       by_result (Err e) handled left = handled
 
-  pub deletion_whole : OnErr r (IsUntouched w.table u (x ≡ ground_of w)) → OnErr r (b ≡ w.bitmaps) → IsWholeWorld (replaced w x u b)
+  pub deletion_whole : OnErr r (IsUntouched w.table u (x ≡ ground_of w)) → OnErr r (b ≡ w.bitmaps) → IsWholeWorld (world_replaced w x u b)
   deletion_whole kept same = by_result r handled left kept same
     where
       by_result : (r : Result A E) → IfOk r (λ a. IsHandled given w.table c u (IsDeletedBy w.table c (ground_of w) x) (x ≡ ground_of w) (text a))
           → OnOk r (b ≡ bitmaps_left (refusal_to w.table told_none c) w.table c w.bitmaps)
-          → OnErr r (IsUntouched w.table u (x ≡ ground_of w)) → OnErr r (b ≡ w.bitmaps) → IsWholeWorld (replaced w x u b)
+          → OnErr r (IsUntouched w.table u (x ≡ ground_of w)) → OnErr r (b ≡ w.bitmaps) → IsWholeWorld (world_replaced w x u b)
       by_result (Ok a) handled left kept same = (deletion_carried w whole joined unfolds given x u b (text a) c is handled left).1
       by_result (Err e) handled left kept same =
-          subst (λ (rows : List Bitmap). IsWholeWorld (replaced w x u rows)) (sym same) (untouched_whole w x u whole kept)
+          subst (λ (rows : List Bitmap). IsWholeWorld (world_replaced w x u rows)) (sym same) (untouched_whole w x u whole kept)
 
 pub deletion_back : {A E : Type 0} (r : Result A E) (text : A → List ℕ) (w : WorldSeen) (c : Cmd) (x : Ground) (u : RunTable) (b : List Bitmap)
-    → OnErr r (IsUntouched w.table u (x ≡ ground_of w)) → OnErr r (b ≡ w.bitmaps) → OnErr r (IsPutBackBy w (replaced w x u b) c)
+    → OnErr r (IsUntouched w.table u (x ≡ ground_of w)) → OnErr r (b ≡ w.bitmaps) → OnErr r (IsPutBackBy w (world_replaced w x u b) c)
 deletion_back (Ok a) text w c x u b kept same = kept
 deletion_back (Err e) text w c x u b kept same =
-    subst (λ (rows : List Bitmap). IsPutBackBy w (replaced w x u rows) c) (sym same)
+    subst (λ (rows : List Bitmap). IsPutBackBy w (world_replaced w x u rows) c) (sym same)
     (subst (λ (f : WorldSeen). IsPutBackBy w f c) (placed_same w x u kept.kept kept.table) (put_back_by w c))

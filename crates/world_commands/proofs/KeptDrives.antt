@@ -18,18 +18,18 @@ use Rattle.flat_machine.specs.State.{Guest, drive_of}
 use Rattle.world_parts.specs.Coherent.{HaveDrives, AreOnDisks, AreOnWritable, AreWithin}
 
 -- an edge leads to the node
-pub record IsEntered (t : RunTable) (node : ℕ) : Type 0 where
+pub record IsLedTo (t : RunTable) (node : ℕ) : Type 0 where
   pub edge : Edge
   pub there : Contains t.edges edge
   pub leads : edge.child ≡ node
 
-pub drive-entered : (t : RunTable) (g node : ℕ) → drive_of t g ≡ Some node → IsEntered t node
+pub drive-entered : (t : RunTable) (g node : ℕ) → drive_of t g ≡ Some node → IsLedTo t node
 drive-entered t g node is = let e = child-edge (GuestOf g) Drive t.edges node is in record { edge = e.edge; there = e.there; leads = e.to }
 
-filtered-entered : (t : RunTable) (node below : ℕ) → filtered t node ≡ Some below → IsEntered t below
+filtered-entered : (t : RunTable) (node below : ℕ) → filtered t node ≡ Some below → IsLedTo t below
 filtered-entered t node below is = by_role (option_and_then (λ (row : NodeRecord). filter_role row.kind) (node_by_id t node)) is
   where
-    by_role : (role : Option Role) → option_and_then (child t node) role ≡ Some below → IsEntered t below
+    by_role : (role : Option Role) → option_and_then (child t node) role ≡ Some below → IsLedTo t below
     by_role None bad = absurd (let e : ⊥ = cc bad in e)
     by_role (Some role) at = let e = child-edge (Node node) role t.edges below at in record { edge = e.edge; there = e.there; leads = e.to }
 
@@ -37,11 +37,11 @@ filtered-entered t node below is = by_role (option_and_then (λ (row : NodeRecor
 pub record KeepsEntered (t now : RunTable) : Type 0 where
   pub devices : (g : ℕ) → device_by_number now g ≡ device_by_number t g
   pub drives : (g : ℕ) → drive_of now g ≡ drive_of t g
-  pub rows : (node : ℕ) → IsEntered t node → node_by_id now node ≡ node_by_id t node
-  pub children : (node : ℕ) (role : Role) → IsEntered t node → child now node role ≡ child t node role
+  pub rows : (node : ℕ) → IsLedTo t node → node_by_id now node ≡ node_by_id t node
+  pub children : (node : ℕ) (role : Role) → IsLedTo t node → child now node role ≡ child t node role
 
 module _ (t now : RunTable) (keeps : KeepsEntered t now) where
-  filtered-same : (node : ℕ) → IsEntered t node → filtered now node ≡ filtered t node
+  filtered-same : (node : ℕ) → IsLedTo t node → filtered now node ≡ filtered t node
   filtered-same node here =
       ap (λ (row : Option NodeRecord). option_and_then (child now node) (option_and_then (λ (r : NodeRecord). filter_role r.kind) row)) (keeps.rows node here)
       ∙ by_role (option_and_then (λ (r : NodeRecord). filter_role r.kind) (node_by_id t node))
@@ -54,32 +54,32 @@ module _ (t now : RunTable) (keeps : KeepsEntered t now) where
       → disk_from (suc more) table node ≡ elim below as (λ _. ℕ) [ None ↦ node | Some under ↦ disk_from more table under ]
   at_child more table node below is = ap (λ (b : Option ℕ). elim b as (λ _. ℕ) [ None ↦ node | Some under ↦ disk_from more table under ]) is
 
-  from-same : (more node : ℕ) → IsEntered t node → disk_from more now node ≡ disk_from more t node
+  from-same : (more node : ℕ) → IsLedTo t node → disk_from more now node ≡ disk_from more t node
   from-same zero node here = refl
   from-same (suc more) node here = by_child (filtered t node) refl (from-same more)
     where
-      by_child : (below : Option ℕ) → filtered t node ≡ below → ((n : ℕ) → IsEntered t n → disk_from more now n ≡ disk_from more t n)
+      by_child : (below : Option ℕ) → filtered t node ≡ below → ((n : ℕ) → IsLedTo t n → disk_from more now n ≡ disk_from more t n)
           → disk_from (suc more) now node ≡ disk_from (suc more) t node
       by_child None is rest = at_child more now node None (filtered-same node here ∙ is) ∙ sym (at_child more t node None is)
       by_child (Some under) is rest =
           at_child more now node (Some under) (filtered-same node here ∙ is) ∙ rest under (filtered-entered t node under is)
           ∙ sym (at_child more t node (Some under) is)
 
-  from-entered : (more node : ℕ) → IsEntered t node → IsEntered t (disk_from more t node)
+  from-entered : (more node : ℕ) → IsLedTo t node → IsLedTo t (disk_from more t node)
   from-entered zero node here = here
   from-entered (suc more) node here = by_child (filtered t node) refl (from-entered more)
     where
-      by_child : (below : Option ℕ) → filtered t node ≡ below → ((n : ℕ) → IsEntered t n → IsEntered t (disk_from more t n))
-          → IsEntered t (disk_from (suc more) t node)
-      by_child None is rest = subst (IsEntered t) (sym (at_child more t node None is)) here
+      by_child : (below : Option ℕ) → filtered t node ≡ below → ((n : ℕ) → IsLedTo t n → IsLedTo t (disk_from more t n))
+          → IsLedTo t (disk_from (suc more) t node)
+      by_child None is rest = subst (IsLedTo t) (sym (at_child more t node None is)) here
       by_child (Some under) is rest =
-          subst (IsEntered t) (sym (at_child more t node (Some under) is)) (rest under (filtered-entered t node under is))
+          subst (IsLedTo t) (sym (at_child more t node (Some under) is)) (rest under (filtered-entered t node under is))
 
-  pub disk-same : (node : ℕ) → IsEntered t node → disk_node now node ≡ disk_node t node
+  pub disk-same : (node : ℕ) → IsLedTo t node → disk_node now node ≡ disk_node t node
   unfolding disk_node
   disk-same node here = from-same 64 node here
 
-  pub disk-entered : (node : ℕ) → IsEntered t node → IsEntered t (disk_node t node)
+  pub disk-entered : (node : ℕ) → IsLedTo t node → IsLedTo t (disk_node t node)
   unfolding disk_node
   disk-entered node here = from-entered 64 node here
 

@@ -41,12 +41,12 @@ use Rattle.world_commands.specs.Leaving.{Leaves, LeavesBack, clean_told}
 use Rattle.world_parts.specs.Looking.{Site, StoreIsBack}
 use Rattle.world_parts.specs.Staging.{site_of}
 use Rattle.world_parts.specs.Stores.{StoreInRun}
-use Rattle.world_commands.proofs.CarryPlain.{HasShape, fits_all, opens_nothing, plain_opens, quiet_cause, quiet-leaves, quiet-self, table_quiet, told_nothing, quiet_fault, maps_nothing}
+use Rattle.world_commands.proofs.CarryPlain.{HasTableShape, fits_all, opens_nothing, plain_opens, quiet_cause, quiet-leaves, quiet-self, table_quiet, told_nothing, quiet_fault, maps_nothing}
 use Rattle.world_commands.proofs.CountLemmas.{runs-devices, same-devices}
 use Rattle.world_parts.proofs.AddLooked.{called_itself}
 use Rattle.world_commands.proofs.CountsKept.{hides-same}
 use Rattle.world_commands.proofs.DeletedSteps.{Parts}
-use Rattle.world_commands.proofs.EasedTables.{IsEased, nodes_of_eased, out_eased}
+use Rattle.world_commands.proofs.EasedTables.{IsTableEased, nodes_of_eased, out_eased}
 use Rattle.world_commands.proofs.GuestEdges.{asks_eased}
 use Rattle.world_commands.proofs.KeptDrives.{KeepsEntered, drives_kept, disks_kept, within_kept, writable_kept}
 
@@ -174,7 +174,7 @@ placed_same w x u ground table = ap (λ (y : Ground). placed w y w.table) (sym g
 -- ---- between events and within them
 
 -- what belongs together while nodes go, too
-pub record Goes (w : WorldSeen) : Type 0 where
+pub record BelongsTogether (w : WorldSeen) : Type 0 where
   pub parts : Parts w.table (ground_of w)
   pub unfolds : Unfolds w.nodes
   pub tell : DevicesTell w.files w.nodes.devices
@@ -190,7 +190,7 @@ pub record Goes (w : WorldSeen) : Type 0 where
   pub alone : StandAlone w.table
   pub drivers : AreFileNodes w.table
 
-pub goes_of : (w : WorldSeen) → IsWholeWorld w → IsJoined w.nodes → Unfolds w.nodes → Goes w
+pub goes_of : (w : WorldSeen) → IsWholeWorld w → IsJoined w.nodes → Unfolds w.nodes → BelongsTogether w
 goes_of w whole joined unfolds =
     let is = whole.coherent in
     record {
@@ -210,7 +210,7 @@ goes_of w whole joined unfolds =
       drivers = is.table.stands.drivers;
     }
 
-pub coherent_of : (w : WorldSeen) → Goes w → TableAtRest w.table → IsCoherent w.table w.nodes w.opened w.progress
+pub coherent_of : (w : WorldSeen) → BelongsTogether w → TableAtRest w.table → IsCoherent w.table w.nodes w.opened w.progress
 coherent_of w goes rest = record {
   table = rest;
   drives = goes.drives;
@@ -232,14 +232,14 @@ allowed_same t now guests same are g f flies =
 
 -- ---- a file is used
 
-pub shape_used : (t : RunTable) (name : List ℕ) → HasShape t (changed t (UseFile name))
+pub shape_used : (t : RunTable) (name : List ℕ) → HasTableShape t (changed t (UseFile name))
 unfolding changed
 shape_used t name = record { nodes = refl; edges = refl; devices = refl; guests = refl; jobs = refl }
 
-pub shape_same : (t : RunTable) → HasShape t t
+pub shape_same : (t : RunTable) → HasTableShape t t
 shape_same t = record { nodes = refl; edges = refl; devices = refl; guests = refl; jobs = refl }
 
-module _ (t now : RunTable) (shape : HasShape t now) where
+module _ (t now : RunTable) (shape : HasTableShape t now) where
   pub entered_shape : KeepsEntered t now
   entered_shape = record {
     devices = λ g. ap (find (λ (device : Device). device.number == g)) shape.devices;
@@ -256,33 +256,33 @@ module _ (t now : RunTable) (shape : HasShape t now) where
   }
 
 -- the table and the state behind these changes
-abbrev pub used : RunTable → Option (List ℕ) → RunTable
-used t None = t
-used t (Some file) = changed t (UseFile file)
+abbrev pub table_with_use : RunTable → Option (List ℕ) → RunTable
+table_with_use t None = t
+table_with_use t (Some file) = changed t (UseFile file)
 
 abbrev pub state_used : State → Option (List ℕ) → State
 state_used s None = s
 state_used s (Some file) = stepped s (UseFile file)
 
-pub shape_by : (t : RunTable) (file : Option (List ℕ)) → HasShape t (used t file)
+pub shape_by : (t : RunTable) (file : Option (List ℕ)) → HasTableShape t (table_with_use t file)
 shape_by t None = shape_same t
 shape_by t (Some file) = shape_used t file
 
-pub table_used : (s : State) (t : RunTable) (file : Option (List ℕ)) → s.table ≡ t → (state_used s file).table ≡ used t file
+pub table_used : (s : State) (t : RunTable) (file : Option (List ℕ)) → s.table ≡ t → (state_used s file).table ≡ table_with_use t file
 table_used s t None same = same
 table_used s t (Some file) same = ap (λ (u : RunTable). changed u (UseFile file)) same
 
-pub changed_used : (t : RunTable) (file : Option (List ℕ)) (changes : List Change) → all_changed t (file_uses file ++ changes) ≡ all_changed (used t file) changes
+pub changed_used : (t : RunTable) (file : Option (List ℕ)) (changes : List Change) → all_changed t (file_uses file ++ changes) ≡ all_changed (table_with_use t file) changes
 changed_used t None changes = refl
 changed_used t (Some file) changes = refl
 
 pub performed_used : (w : WorldSeen) (s : State) (file : Option (List ℕ)) (changes : List Change) (now : Contents)
-    → AllPerformed (state_used s file) changes (contents_of (record w { table = used w.table file })) now → AllPerformed s (file_uses file ++ changes) (contents_of w) now
+    → AllPerformed (state_used s file) changes (contents_of (record w { table = table_with_use w.table file })) now → AllPerformed s (file_uses file ++ changes) (contents_of w) now
 performed_used w s None changes now did = did
 performed_used w s (Some file) changes now did =
     (contents_of (record w { table = changed w.table (UseFile file) }), quiet_shape w.table (changed w.table (UseFile file)) (shape_used w.table file) w refl, did)
 
-pub goes_shape : (w : WorldSeen) (now : RunTable) → HasShape w.table now → IsEased w.table now → Goes w → Goes (record w { table = now })
+pub goes_shape : (w : WorldSeen) (now : RunTable) → HasTableShape w.table now → IsTableEased w.table now → BelongsTogether w → BelongsTogether (record w { table = now })
 goes_shape w now shape e goes =
     let keeps = entered_shape w.table now shape in
     record {

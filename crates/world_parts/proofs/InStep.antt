@@ -227,7 +227,7 @@ in-step-done log log' spare spare' rows rows' is_done is_done' lines capacity ac
 
 -- ---- a guest with a request in flight, by its row
 
-pub record IsFlying (es : List Event) (row : GuestProgress) (P : Flight → Type 0) : Type 0 where
+pub record IsFlyingByRow (es : List Event) (row : GuestProgress) (P : Flight → Type 0) : Type 0 where
   pub f : InFlight
   pub flying : row.flight ≡ Some f
   pub placed : IsPlaced es row.done f
@@ -235,7 +235,7 @@ pub record IsFlying (es : List Event) (row : GuestProgress) (P : Flight → Type
   pub holds : P (flight_as f placed.op)
 
 is-flying : (es : List Event) (row : GuestProgress) (flight : Option InFlight) (P : Flight → Type 0) → row.flight ≡ flight → IsPlacedIn es row.done flight
-    → With (option_and_then (flight_in es) flight) P → IsFlying es row P
+    → With (option_and_then (flight_in es) flight) P → IsFlyingByRow es row P
 is-flying es row None P is placed holds = absurd holds
 is-flying es row (Some f) P is placed holds =
     let at = placed.at in
@@ -249,7 +249,7 @@ is-flying es row (Some f) P is placed holds =
     }
 
 pub flying-row : (es : List Event) (rows : List GuestProgress) (g : ℕ) (row : GuestProgress) (P : Flight → Type 0) → HaveTheirPlaces es rows → slice_get rows g ≡ Some row
-    → With (flight_at (guests_in es rows) g) P → IsFlying es row P
+    → With (flight_at (guests_in es rows) g) P → IsFlyingByRow es row P
 flying-row es rows g row P placed there holds =
     let at = guests-at es rows g row there in
     is-flying es row row.flight P refl (placed-at es rows g row placed there) (subst (λ x. With (option_and_then (λ (y : Guest). y.flight) x) P) at holds)

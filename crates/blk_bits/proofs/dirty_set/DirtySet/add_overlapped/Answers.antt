@@ -1,7 +1,7 @@
 use Rattle.std.proofs.Common.{◌≡◌, ◌∙◌, ◌||◌, length, ap, arith}
 use Rattle.std.proofs.lemmas.List.FromFn.{length-map-range_with_len}
 use Rattle.blk_bits.specs.Granules.{contains, overlaps_member}
-use Rattle.blk_bits.proofs.MergeLemmas.{IsRun, merged-none, merged-run, merged-all}
+use Rattle.blk_bits.proofs.MergeLemmas.{IsRunOfMembers, merged-none, merged-run, merged-all}
 use Rattle.blk_bits.proofs.dirty_set.DirtySet.add_overlapped.Goals as goal
 
 pub loop-from-init : goal.loop-from-init
@@ -19,7 +19,7 @@ set_span-requires-clause-within c =
 
 pub loop-from-preserved : goal.loop-from-preserved
 loop-from-preserved c =
-    let run : IsRun c.args.ratio c.args.self.now c.args.other.now c.loop-from.seen c.in-Some.from c.run_end-to.result c.overlapped-span.result.from c.overlapped-span.result.to c.max-seen.result
+    let run : IsRunOfMembers c.args.ratio c.args.self.now c.args.other.now c.loop-from.seen c.in-Some.from c.run_end-to.result c.overlapped-span.result.from c.overlapped-span.result.to c.max-seen.result
     = record {
       some = c.requires;
       least = c.in-Some.ensures;

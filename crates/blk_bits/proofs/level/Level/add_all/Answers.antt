@@ -1,6 +1,6 @@
 use Rattle.std.proofs.Common.{◌≡◌, length, take, drop, ◌++◌, ap, subst, arith}
-use Rattle.blk_bits.proofs.LevelLemmas.{Keeps, keeps-bits_in, length-bits_in}
-use Rattle.blk_bits.proofs.WriteLemmas.{put_back, IsJoined, joined-has, joined-view, joined-used}
+use Rattle.blk_bits.proofs.LevelLemmas.{WordsKeep, keeps-bits_in, length-bits_in}
+use Rattle.blk_bits.proofs.WriteLemmas.{put_back, AreWordsJoined, joined-has, joined-view, joined-used}
 use Rattle.blk_bits.proofs.level.Level.add_all.Goals as goal
 
 pub join-requires : goal.join-requires
@@ -23,11 +23,11 @@ size c = omega (arith, ap length c.as_mut_slice.ensures.value, c.join.auto.words
 whole : (c : goal.After-self-1) → take c.self.inside.words.len (c.join.new.words ++ drop (length c.join.new.words) c.self.inside.words.items) ≡ c.join.new.words
 whole c = put_back c.self.inside.words.items c.join.new.words c.self.inside.words.len (size c) (omega (arith, ap length c.as_mut_slice.ensures.value, c.as_mut_slice.ensures.len))
 
-joined : (c : goal.After-self-1) → IsJoined c.args.self.now c.args.other.now c.self.inside.count c.self.inside.words.items c.other.inside.words.items c.join.new.words
+joined : (c : goal.After-self-1) → AreWordsJoined c.args.self.now c.args.other.now c.self.inside.count c.self.inside.words.items c.other.inside.words.items c.join.new.words
 joined c = record {
   view = c.self.view_is;
   has = c.self.invariant;
-  keeps = subst (λ s. Keeps s c.other.inside.words.items) c.other.view_is (keeps-bits_in c.other.inside.count c.other.inside.words.items c.other.invariant);
+  keeps = subst (λ s. WordsKeep s c.other.inside.words.items) c.other.view_is (keeps-bits_in c.other.inside.count c.other.inside.words.items c.other.invariant);
   same = c.requires;
   size = size c;
   bits = λ k. rw (c.as_mut_slice.ensures.value, c.as_slice.ensures.value) at (c.join.ensures.written k);

@@ -1,6 +1,6 @@
 use Rattle.std.proofs.Common.{◌≡◌, ◌+◌, ◌-◌, ◌/◌, ◌<◌, length, ap, subst, arith, sym, ◌∙◌, get_or}
 use Rattle.std.proofs.lemmas.Grind.{get_or_default_zero}
-use Rattle.blk_bits.proofs.LevelLemmas.{Keeps, keeps-bits_in, length-bits_in}
+use Rattle.blk_bits.proofs.LevelLemmas.{WordsKeep, keeps-bits_in, length-bits_in}
 use Rattle.blk_bits.proofs.FindLemmas.{run-left, member-below}
 use Rattle.blk_bits.proofs.level.Level.run_end.Goals as goal
 
@@ -10,7 +10,7 @@ index-requires c =
 
 pub overflow_add-result : goal.overflow_add-result
 overflow_add-result c =
-    let keeps = subst (λ s. Keeps s c.self.inside.words.items) c.self.view_is (keeps-bits_in c.self.inside.count c.self.inside.words.items c.self.invariant) in
+    let keeps = subst (λ s. WordsKeep s c.self.inside.words.items) c.self.view_is (keeps-bits_in c.self.inside.count c.self.inside.words.items c.self.invariant) in
     let there : c.args.from / 64 < length c.self.inside.words.items
     = omega (arith, member-below c.args.self.now c.args.from c.requires, ap length c.self.view_is, length-bits_in c.self.inside.count c.self.inside.words.items, c.self.invariant.enough) in
     let word : c.index.result.now ≡ get_or c.self.inside.words.items (c.args.from / 64) 0
@@ -22,7 +22,7 @@ overflow_add-result c =
 
 pub returns-clause-further : goal.returns-clause-further
 returns-clause-further c =
-    let keeps = subst (λ s. Keeps s c.self.inside.words.items) c.self.view_is (keeps-bits_in c.self.inside.count c.self.inside.words.items c.self.invariant) in
+    let keeps = subst (λ s. WordsKeep s c.self.inside.words.items) c.self.view_is (keeps-bits_in c.self.inside.count c.self.inside.words.items c.self.invariant) in
     let there : c.args.from / 64 < length c.self.inside.words.items
     = omega (arith, member-below c.args.self.now c.args.from c.requires, ap length c.self.view_is, length-bits_in c.self.inside.count c.self.inside.words.items, c.self.invariant.enough) in
     let word : c.index.result.now ≡ get_or c.self.inside.words.items (c.args.from / 64) 0
@@ -32,7 +32,7 @@ returns-clause-further c =
 
 pub returns-clause-members : goal.returns-clause-members
 returns-clause-members c =
-    let keeps = subst (λ s. Keeps s c.self.inside.words.items) c.self.view_is (keeps-bits_in c.self.inside.count c.self.inside.words.items c.self.invariant) in
+    let keeps = subst (λ s. WordsKeep s c.self.inside.words.items) c.self.view_is (keeps-bits_in c.self.inside.count c.self.inside.words.items c.self.invariant) in
     let there : c.args.from / 64 < length c.self.inside.words.items
     = omega (arith, member-below c.args.self.now c.args.from c.requires, ap length c.self.view_is, length-bits_in c.self.inside.count c.self.inside.words.items, c.self.invariant.enough) in
     let word : c.index.result.now ≡ get_or c.self.inside.words.items (c.args.from / 64) 0

@@ -1,6 +1,6 @@
 use Rattle.std.proofs.Common.{◌≡◌, ◌/◌, ◌<◌, length, ap, subst, arith, sym, ◌∙◌, get_or}
 use Rattle.std.proofs.lemmas.Grind.{get_or_default_zero}
-use Rattle.blk_bits.proofs.LevelLemmas.{Keeps, keeps-bits_in, length-bits_in}
+use Rattle.blk_bits.proofs.LevelLemmas.{WordsKeep, keeps-bits_in, length-bits_in}
 use Rattle.blk_bits.proofs.FindLemmas.{bit-tested}
 use Rattle.blk_bits.proofs.level.Level.test.Goals as goal
 
@@ -10,7 +10,7 @@ index-requires c =
 
 pub returns : goal.returns
 returns c =
-    let keeps = subst (λ s. Keeps s c.self.inside.words.items) c.self.view_is (keeps-bits_in c.self.inside.count c.self.inside.words.items c.self.invariant) in
+    let keeps = subst (λ s. WordsKeep s c.self.inside.words.items) c.self.view_is (keeps-bits_in c.self.inside.count c.self.inside.words.items c.self.invariant) in
     let there : c.args.k / 64 < length c.self.inside.words.items
     = omega (arith, ap length c.self.view_is, length-bits_in c.self.inside.count c.self.inside.words.items, c.self.invariant.enough) in
     let word : c.index.result.now ≡ get_or c.self.inside.words.items (c.args.k / 64) 0

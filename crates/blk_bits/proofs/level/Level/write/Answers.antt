@@ -1,7 +1,7 @@
 use Rattle.std.proofs.Common.{◌≡◌, ◌+◌, ◌-◌, ◌*◌, ◌/◌, ◌<◌, max, length, get_or, take, drop, ◌++◌, ap, sym, ◌∙◌, arith}
 use Rattle.blk_bits.specs.Words.{bits_in, used_words, lacks}
 use Rattle.blk_bits.proofs.LevelLemmas.{length-bits_in}
-use Rattle.blk_bits.proofs.WriteLemmas.{nothing_written, put_back, IsWritten, written-has, written-view, written-used}
+use Rattle.blk_bits.proofs.WriteLemmas.{nothing_written, put_back, AreWordsWritten, written-has, written-view, written-used}
 use Rattle.blk_bits.proofs.level.Level.write.Goals as goal
 
 pub returns-then-span-clause-written : goal.returns-then-span-clause-written
@@ -24,7 +24,7 @@ size c = omega (arith, ap length c.as_mut_slice.ensures.value, c.write_bits.auto
 whole : (c : goal.After-turned_words) → take c.self.inside.words.len (c.write_bits.new.words ++ drop (length c.write_bits.new.words) c.self.inside.words.items) ≡ c.write_bits.new.words
 whole c = put_back c.self.inside.words.items c.write_bits.new.words c.self.inside.words.len (size c) (omega (arith, ap length c.as_mut_slice.ensures.value, c.as_mut_slice.ensures.len))
 
-written : (c : goal.After-turned_words) → IsWritten c.args.self.now c.self.inside.count c.self.inside.words.items c.write_bits.new.words c.args.span.from c.args.span.to c.args.value
+written : (c : goal.After-turned_words) → AreWordsWritten c.args.self.now c.self.inside.count c.self.inside.words.items c.write_bits.new.words c.args.span.from c.args.span.to c.args.value
 written c = record {
   view = c.self.view_is;
   has = c.self.invariant;

@@ -1,5 +1,5 @@
 use Rattle.blk_lock.proofs.Calls.{rests}
-use Rattle.blk_lock.proofs.Ends.{IsWhole, ends, whole_as}
+use Rattle.blk_lock.proofs.Ends.{IsAllOwn, ends, whole_as}
 use Rattle.blk_lock.proofs.turns.Turns.close.Goals as goal
 
 pub unreachable-requires : goal.unreachable-requires
@@ -8,7 +8,7 @@ unreachable-requires g c =
     let back = ends _ _ _ _ _ _ _ _ _ _ _ c.close_with-closed.ensures.values.2 (rests _ _ pass.settled c.requires.free) c.requires.all c.take-world.ensures.value in
     c.in_default.not-Some back.0 back.1
 
-whole : (g : _) (c : goal.In-Some g) → IsWhole g.W.Logged.history g.W.Logged.spare g.W.Logged.comes c.args.pass.seat.me.0 c.in-Some.world
+whole : (g : _) (c : goal.In-Some g) → IsAllOwn g.W.Logged.history g.W.Logged.spare g.W.Logged.comes c.args.pass.seat.me.0 c.in-Some.world
 whole g c =
     let pass = c.args.pass in
     let back = ends _ _ _ _ _ _ _ _ _ _ _ c.close_with-closed.ensures.values.2 (rests _ _ pass.settled c.requires.free) c.requires.all c.take-world.ensures.value in
