@@ -471,7 +471,7 @@ module _ (rows left : List (Option Row)) (old new : List DeviceSeen) (part : Par
           read = s.read;
           risen = s.risen;
           rows_same = s.rows_same;
-          changed = λ after risen. shown w.image s.device after outcome (s.changed after risen);
+          changed = shown w.image s.device s.device outcome s.changed;
         })
         | inr c ↦ inr (inr record {
           now = c.now;
