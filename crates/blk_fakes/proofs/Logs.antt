@@ -5,7 +5,7 @@ use Rattle.std.proofs.lemmas.List.{take-append-le, drop-append-le, drop_at, take
 use Rattle.std.proofs.lemmas.Bool.Decides.{nat_tests}
 use Rattle.blk_base.specs.Content.{Write, after_writes, with_bytes}
 use Rattle.blk_fakes.specs.declared.log.Row.{Row}
-use Rattle.blk_fakes.specs.Rows.{write_of, AllWithin}
+use Rattle.blk_fakes.specs.Rows.{logged_write, AllWithin}
 use Rattle.blk_fakes.specs.Disk.{LogState, goes_in, with_write, logged_with, told_by}
 
 -- a part of the front of a list
@@ -17,7 +17,7 @@ range_last : (bytes more : List ℕ) (i j : ℕ) → i ≡ length bytes → j �
 range_last bytes more i j from to = ap (take (j - i)) (drop_at bytes more i (sym from)) ∙ take_all (j - i) more (omega arith)
 
 pub writes_push : (bytes more : List ℕ) (rows : List Row) (r : Row) → AllWithin (length bytes) rows → r.from ≡ length bytes → r.to ≡ length bytes + length more
-    → map (write_of (bytes ++ more)) (rows ++ r ∷ []) ≡ map (write_of bytes) rows ++ record { offset = r.off; bytes = more } ∷ []
+    → map (logged_write (bytes ++ more)) (rows ++ r ∷ []) ≡ map (logged_write bytes) rows ++ record { offset = r.off; bytes = more } ∷ []
 writes_push bytes more [] r all from to = ap (λ (xs : List ℕ). let w : Write = record { offset = r.off; bytes = xs } in w ∷ []) (range_last bytes more r.from r.to from to)
 writes_push bytes more (x ∷ rows) r all from to =
     let one = range-append bytes more x.from x.to all.0 all.1 in
@@ -33,9 +33,9 @@ within_read n [] k r all below read = absurd (omega arith)
 within_read n (x ∷ rows) zero r all below read = let P : Row → Type 0 = λ v. (v.from ≤ v.to) × (v.to ≤ n) in subst P (sym read) (all.0, all.1)
 within_read n (x ∷ rows) (suc k) r all below read = within_read n rows k r all.2 (omega arith) read
 
-pub row_read : (bytes : List ℕ) (rows : List Row) (k : ℕ) (r : Row) → k < length rows → r ≡ get_or rows k r → slice_get (map (write_of bytes) rows) k ≡ Some (write_of bytes r)
+pub row_read : (bytes : List ℕ) (rows : List Row) (k : ℕ) (r : Row) → k < length rows → r ≡ get_or rows k r → slice_get (map (logged_write bytes) rows) k ≡ Some (logged_write bytes r)
 row_read bytes [] k r below read = absurd (omega arith)
-row_read bytes (x ∷ rows) zero r below read = ap (λ (v : Row). Some (write_of bytes v)) (sym read)
+row_read bytes (x ∷ rows) zero r below read = ap (λ (v : Row). Some (logged_write bytes v)) (sym read)
 row_read bytes (x ∷ rows) (suc k) r below read = row_read bytes rows k r (omega arith) read
 
 -- what goes in finds room

@@ -3,8 +3,8 @@ use Rattle.std.specs.Prelude.{ℕ, ◌≤◌, List, [], ◌∷◌, slice_range}
 use Rattle.blk_base.specs.Content.{Write}
 use Rattle.blk_fakes.specs.declared.log.Row.{Row}
 
-abbrev pub write_of : List ℕ → Row → Write
-write_of bytes row = record { offset = row.off; bytes = slice_range bytes row.from row.to }
+abbrev pub logged_write : List ℕ → Row → Write
+logged_write bytes row = record { offset = row.off; bytes = slice_range bytes row.from row.to }
 
 -- each row's bytes are among so many
 abbrev pub AllWithin : ℕ → List Row → Type 0

@@ -36,12 +36,12 @@ impl Model for WriteLog {
 
     ghost Value = { LogState };
 
-    ghost use Rattle.blk_fakes.specs.Rows.{write_of, AllWithin};
+    ghost use Rattle.blk_fakes.specs.Rows.{logged_write, AllWithin};
 
     ghost view = { λ l. record {
       is_kept = l.is_kept;
       before = l.before.items;
-      writes = map (write_of l.bytes.items) l.rows.items;
+      writes = map (logged_write l.bytes.items) l.rows.items;
       writes_left = l.left.writes;
       bytes_left = l.left.bytes;
     } };

@@ -3,13 +3,13 @@ use Rattle.std.specs.Prelude.{ℕ, List, None}
 use Rattle.blk_base.specs.declared.file.Opened.{Opened}
 
 -- a file that is open: its length, and how often the system has failed on it
-pub record FileState : Type 0 where
+pub record SystemFile : Type 0 where
   pub length : ℕ
   pub faults : ℕ
 
 -- the record of an opening of this file under that name
-abbrev pub opened_as : List ℕ → FileState → Opened
-opened_as name file = record {
+abbrev pub opened_file_as : List ℕ → SystemFile → Opened
+opened_file_as name file = record {
   name = name;
   size = file.length;
   capacity = 9223372036854775807;
@@ -18,10 +18,10 @@ opened_as name file = record {
 }
 
 -- the files by name: their openings, and how often the system has failed on them
-pub record StoreState : Type 0 where
+pub record SystemStore : Type 0 where
   pub opened : List Opened
   pub faults : ℕ
 
 -- where the program writes: how often a put has failed
-pub record SinkState : Type 0 where
+pub record SystemSink : Type 0 where
   pub faults : ℕ

@@ -92,9 +92,9 @@ pub struct FileDevice {
 }
 
 impl Model for FileDevice {
-    ghost use Rattle.blk_files.specs.Seen.{FileState};
+    ghost use Rattle.blk_files.specs.Seen.{SystemFile};
 
-    ghost Value = { FileState };
+    ghost Value = { SystemFile };
 
     ghost view = { λ d. record { length = d.length; faults = d.faults } };
 }

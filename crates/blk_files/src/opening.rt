@@ -36,11 +36,11 @@ impl Opening {
     ghost use Rattle.std.specs.Prelude.{◌≡◌, Some};
     ghost use Rattle.blk_base.specs.declared.file.Opened.{Opened};
     ghost use Rattle.blk_base.specs.Files.{is_out_as};
-    ghost use Rattle.blk_files.specs.Seen.{opened_as};
+    ghost use Rattle.blk_files.specs.Seen.{opened_file_as};
 
     /// An opening of this device.
     pub fn new(name: Text, dev: &FileDevice) -> Self
-        ensures { result ≡ opened_as name.bytes dev.now }
+        ensures { result ≡ opened_file_as name.bytes dev.now }
     {
         Opening {
             name,

@@ -15,9 +15,9 @@ pub struct OutSink<W: Write> {
 }
 
 impl<W: Write> Model for OutSink<W> {
-    ghost use Rattle.blk_files.specs.Seen.{SinkState};
+    ghost use Rattle.blk_files.specs.Seen.{SystemSink};
 
-    ghost Value = { SinkState };
+    ghost Value = { SystemSink };
 
     ghost view = { λ s. record { faults = s.faults } };
 }

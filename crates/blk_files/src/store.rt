@@ -55,9 +55,9 @@ pub struct FileStore<'a, R: Files> {
 }
 
 impl<'a, R: Files> Model for FileStore<'a, R> {
-    ghost use Rattle.blk_files.specs.Seen.{StoreState};
+    ghost use Rattle.blk_files.specs.Seen.{SystemStore};
 
-    ghost Value = { StoreState };
+    ghost Value = { SystemStore };
 
     ghost view = { λ s. record { opened = s.openings.items; faults = s.faults } };
 }

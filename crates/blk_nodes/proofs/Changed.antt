@@ -79,7 +79,7 @@ module _ (image : Known) (cluster : ℕ) where
   KeepsBut now = HasEntriesBut image now cluster
 
   keeps_but : (now : Known) → Keeps now → KeepsBut now
-  keeps_but now same other apart = ap (λ (t : tables.Kept). get_or t.words other 0) same
+  keeps_but now same other apart = ap (λ (t : tables.KeptTables). get_or t.words other 0) same
 
   all_but : (steps : List WriteStep) → AllKnown Keeps steps → AllKnown KeepsBut steps
   all_but [] all = tt
@@ -97,7 +97,7 @@ module _ (image : Known) (cluster : ℕ) where
   entry_but now entry table same = (
     λ other apart.
         get_or-set_other now.tables.words cluster other (word_for now entry) 0 apart
-        ∙ ap (λ (t : tables.Kept). get_or t.words other 0) same,
+        ∙ ap (λ (t : tables.KeptTables). get_or t.words other 0) same,
     tt,
   )
 
@@ -172,7 +172,7 @@ same_entries image now cluster (Io dev count) same = same
 same_entries image now cluster (NoSpace dev) same = same
 
 by_tables : (image now : Known) → now.tables ≡ image.tables → (n : ℕ) → word_in now n ≡ word_in image n
-by_tables image now same n = ap (λ (t : tables.Kept). get_or t.words n 0) same
+by_tables image now same n = ap (λ (t : tables.KeptTables). get_or t.words n 0) same
 
 module _ (image now : Known) (cluster : ℕ) (before after : DeviceSeen) (steps : List WriteStep) (place : ℕ) (bytes : List ℕ) (but : AllKnown (KeepsBut image cluster) steps)
     (first : AllBefore (Keeps image cluster) steps) where

@@ -1,7 +1,7 @@
 -- What is known of the store's files, and what a node that is added over one reads as.
 use Rattle.std.specs.Prelude.{ℕ, max, Bool, true, false, if◌then◌else◌, List, [], ◌∷◌, length, bytes_eq, Option, Some, None, option_map}
 use Rattle.std.specs.List.{list_all, range_with_len}
-use Rattle.q2_format.specs.Bytes.{bytes_at}
+use Rattle.q2_format.specs.Bytes.{place_bytes}
 use Rattle.blk_base.specs.declared.file.File.{File}
 use Rattle.q2_format.specs.Sizes.{cluster_size, clusters_for}
 use Rattle.q2_format.specs.Entry.{l2_entry}
@@ -62,5 +62,5 @@ file_bytes size content = []
 -- zeros past its end
 abbrev pub image_bytes : Option Content → List ℕ → List ℕ
 image_bytes (Some (Bytes file)) below = image_disk file below
-image_bytes (Some (Blank new len)) below = bytes_at below 0 new.size
+image_bytes (Some (Blank new len)) below = place_bytes below 0 new.size
 image_bytes content below = []

@@ -8,7 +8,7 @@ use Rattle.std.proofs.lemmas.List.{get_or-replicate}
 use Rattle.q2_format.specs.Bytes.{number_at, ReadsAlike, IsWritten}
 use Rattle.q2_format.specs.Sizes.{cluster_size, clusters_for, entries_in_cluster, block_entries, refcount_bytes}
 use Rattle.q2_format.specs.Entry.{host_offset, block_offset, l2_entry, is_compressed, has_reserved_in_l2, reads_as_zeros}
-use Rattle.q2_format.specs.Header.{LiesWithin, name_of, area_end, header_length_of, extension_after, format_after, extension_list, extensions_from, extensions_of, header_of, refused_where, header_refusal, format_refusal, profile_refusal, name_refusal, extension_refusal, size_refusal, is_bad_name}
+use Rattle.q2_format.specs.Header.{LiesWithin, name_place_of, area_end, header_length_of, extension_after, format_after, extension_list, extensions_from, extensions_of, header_of, refused_where, header_refusal, format_refusal, profile_refusal, name_refusal, extension_refusal, size_refusal, is_bad_name}
 use Rattle.q2_format.specs.Tables.{active_tree, l2_word_of, refcount_table, refcount_of}
 use Rattle.q2_format.specs.Contents.{byte_by_entry, guest_byte}
 use Rattle.q2_format.specs.References.{in_run, structure_uses, uses, cluster_bound}
@@ -49,8 +49,8 @@ module _ (old new : List ℕ) (written : IsWritten old new 88 (replicate 8 0)) w
 
   -- The header.
 
-  name_stays : name_of new ≡ name_of old
-  unfolding name_of
+  name_stays : name_place_of new ≡ name_place_of old
+  unfolding name_place_of
   name_stays =
       let offset = before 8 8 (omega arith) in
       let len = before 16 4 (omega arith) in
@@ -140,7 +140,7 @@ module _ (old new : List ℕ) (written : IsWritten old new 88 (replicate 8 0)) w
   unfolding name_refusal header_of
   name_refusal_stays len none =
       let limits = within_limits old len none in
-      let bad = bad_name_stays (header_length_of old) _ _ (name_of old) (omega (arith, limits.header_whole)) limits.name in
+      let bad = bad_name_stays (header_length_of old) _ _ (name_place_of old) (omega (arith, limits.header_whole)) limits.name in
       rw name_stays (ap (λ (b : Bool). refused_where b BackingName) bad)
 
   extension_stays : 104 ≤ header_length_of old → extension_refusal new ≡ extension_refusal old

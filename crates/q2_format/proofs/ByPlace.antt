@@ -6,7 +6,7 @@ use Rattle.std.proofs.Math.Seq.{get_or-append_right}
 use Rattle.std.proofs.lemmas.List.FromFn.{get_or-map-range_with_len, length-map-range_with_len}
 use Rattle.byteorder.specs.Endian.{big_from, big_bytes}
 use Rattle.byteorder.specs.Numbers.{big_number-reads_back}
-use Rattle.q2_format.specs.Bytes.{number_at, bytes_at, words_at, ReadsAlike, IsWritten}
+use Rattle.q2_format.specs.Bytes.{number_at, place_bytes, words_at, ReadsAlike, IsWritten}
 
 -- eight bytes are two halves of four
 pub number_at-halves : (file : List ℕ) (at : ℕ) → number_at file at 8 ≡ number_at file at 4 * 4294967296 + number_at file (at + 4) 4
@@ -37,32 +37,32 @@ pub number_at-within : (old new : List ℕ) (from len at n : ℕ) → ReadsAlike
 number_at-within old new from len at n alike low high = number_at-alike old new at n (alike_within old new from len at n alike low high)
 
 -- bytes by their places
-pub get_or-bytes_at : (file : List ℕ) (at n i : ℕ) → i < n → get_or (bytes_at file at n) i 0 ≡ slice_index file (at + i)
-unfolding bytes_at
+pub get_or-bytes_at : (file : List ℕ) (at n i : ℕ) → i < n → get_or (place_bytes file at n) i 0 ≡ slice_index file (at + i)
+unfolding place_bytes
 get_or-bytes_at file at n i h = get_or-map-range_with_len (λ j. slice_index file j) at n i (at + i) 0 h refl
 
-pub length-bytes_at : (file : List ℕ) (at n : ℕ) → length (bytes_at file at n) ≡ n
-unfolding bytes_at
+pub length-bytes_at : (file : List ℕ) (at n : ℕ) → length (place_bytes file at n) ≡ n
+unfolding place_bytes
 length-bytes_at file at n = length-map-range_with_len (λ j. slice_index file j) at n
 
 -- a list that has the bytes of those places is their list
-pub bytes_from_places : (file xs : List ℕ) (at : ℕ) → ((k : ℕ) → k < length xs → get_or xs k 0 ≡ slice_index file (at + k)) → xs ≡ bytes_at file at (length xs)
+pub bytes_from_places : (file xs : List ℕ) (at : ℕ) → ((k : ℕ) → k < length xs → get_or xs k 0 ≡ slice_index file (at + k)) → xs ≡ place_bytes file at (length xs)
 bytes_from_places file xs at same =
-    ext_get_or 0 xs (bytes_at file at (length xs)) (sym (length-bytes_at file at (length xs)))
+    ext_get_or 0 xs (place_bytes file at (length xs)) (sym (length-bytes_at file at (length xs)))
     (λ i h. same i h ∙ sym (get_or-bytes_at file at (length xs) i h))
 
-pub bytes_at-alike : (old new : List ℕ) (at n : ℕ) → ReadsAlike old new at n → bytes_at new at n ≡ bytes_at old at n
+pub bytes_at-alike : (old new : List ℕ) (at n : ℕ) → ReadsAlike old new at n → place_bytes new at n ≡ place_bytes old at n
 bytes_at-alike old new at n alike =
     let len_new = length-bytes_at new at n in
     let len_old = length-bytes_at old at n in
-    ext_get_or 0 (bytes_at new at n) (bytes_at old at n) (len_new ∙ sym len_old)
+    ext_get_or 0 (place_bytes new at n) (place_bytes old at n) (len_new ∙ sym len_old)
     (λ i h. get_or-bytes_at new at n i (omega (arith, len_new)) ∙ alike.same (at + i) (omega arith) (omega (arith, len_new)) ∙ sym (get_or-bytes_at old at n i (omega (arith, len_new))))
 
-pub bytes_at-within : (old new : List ℕ) (from len at n : ℕ) → ReadsAlike old new from len → from ≤ at → at + n ≤ from + len → bytes_at new at n ≡ bytes_at old at n
+pub bytes_at-within : (old new : List ℕ) (from len at n : ℕ) → ReadsAlike old new from len → from ≤ at → at + n ≤ from + len → place_bytes new at n ≡ place_bytes old at n
 bytes_at-within old new from len at n alike low high = bytes_at-alike old new at n (alike_within old new from len at n alike low high)
 
 -- the bytes that were written
-pub bytes_at-written : (old new : List ℕ) (at : ℕ) (bytes : List ℕ) → IsWritten old new at bytes → bytes_at new at (length bytes) ≡ bytes
+pub bytes_at-written : (old new : List ℕ) (at : ℕ) (bytes : List ℕ) → IsWritten old new at bytes → place_bytes new at (length bytes) ≡ bytes
 bytes_at-written old new at bytes w = sym (bytes_from_places new bytes at (λ k h. sym (w.inside k h)))
 
 -- words by their places

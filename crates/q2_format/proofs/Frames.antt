@@ -7,7 +7,7 @@ use Rattle.std.proofs.lemmas.List.{ext_get_or, get_or_past, get_or-replicate, ge
 use Rattle.std.proofs.lemmas.Nat.{row_fits, same_from_place}
 use Rattle.byteorder.specs.Endian.{big_bytes}
 use Rattle.byteorder.specs.Numbers.{length-bytes_high_first}
-use Rattle.q2_format.specs.Bytes.{number_at, bytes_at, words_at, ReadsAlike, IsWritten}
+use Rattle.q2_format.specs.Bytes.{number_at, place_bytes, words_at, ReadsAlike, IsWritten}
 use Rattle.q2_format.specs.Sound.{is_misplaced}
 use Rattle.q2_format.proofs.ByPlace.{number_at-within, number_at-before, number_at-behind, number_at-written, big_from-moved, get_or-bytes_at, get_or-words_at, length-words_at}
 
@@ -61,13 +61,13 @@ words_at-set old new at n k word h w fits =
 
 -- Buffers. What was read into a buffer reads there as in the file.
 
-pub buffer_alike : (file : List ℕ) (n : ℕ) → ReadsAlike file (bytes_at file 0 n) 0 n
+pub buffer_alike : (file : List ℕ) (n : ℕ) → ReadsAlike file (place_bytes file 0 n) 0 n
 buffer_alike file n = record { same = λ i low high. get_or-bytes_at file 0 n i (omega arith) ∙ ap (λ (j : ℕ). get_or file j 0) (omega arith) }
 
-pub number_at-bytes_at : (file : List ℕ) (at n i w : ℕ) → i + w ≤ n → number_at (bytes_at file at n) i w ≡ number_at file (at + i) w
+pub number_at-bytes_at : (file : List ℕ) (at n i w : ℕ) → i + w ≤ n → number_at (place_bytes file at n) i w ≡ number_at file (at + i) w
 unfolding number_at
 number_at-bytes_at file at n i w h =
-    big_from-moved w i (at + i) (bytes_at file at n) file
+    big_from-moved w i (at + i) (place_bytes file at n) file
     (λ k below. get_or-bytes_at file at n (i + k) (omega arith) ∙ ap (λ (j : ℕ). get_or file j 0) (omega arith))
 
 -- Longer files.

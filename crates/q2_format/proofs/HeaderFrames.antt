@@ -4,9 +4,9 @@ use Rattle.std.specs.Option.{option_map_or}
 use Rattle.std.specs.Int.{trailing_zeros, w64}
 use Rattle.std.specs.Str.{is_utf8}
 use Rattle.std.proofs.lemmas.Bool.{cases_lt, lt-ltb, le-ltb, ltb-false, or_parts, eqb-true, not-false}
-use Rattle.q2_format.specs.Bytes.{number_at, bytes_at, ReadsAlike}
+use Rattle.q2_format.specs.Bytes.{number_at, place_bytes, ReadsAlike}
 use Rattle.q2_format.specs.Sizes.{cluster_size, clusters_for}
-use Rattle.q2_format.specs.Header.{first, refused_where, name_of, area_end, cluster_bits_of, header_length_of, refcount_order_of, incompatible_of, crypt_method_of, nb_snapshots_of, magic_of, version_of, size_of, l1_size_of, refcount_table_clusters_of, extension_after, format_after, extension_list, extensions_from, extensions_of, header_of, header_refusal, format_refusal, profile_refusal, name_refusal, extension_refusal, size_refusal, is_bad_name}
+use Rattle.q2_format.specs.Header.{first, refused_where, name_place_of, area_end, cluster_bits_of, header_length_of, refcount_order_of, incompatible_of, crypt_method_of, nb_snapshots_of, magic_of, version_of, size_of, l1_size_of, refcount_table_clusters_of, extension_after, format_after, extension_list, extensions_from, extensions_of, header_of, header_refusal, format_refusal, profile_refusal, name_refusal, extension_refusal, size_refusal, is_bad_name}
 use Rattle.q2_format.specs.declared.header.Place.{Place}
 use Rattle.q2_format.specs.declared.header.HeaderStop.TheVariants.{Short, Magic, Version, ClusterBits, RefcountOrder, Feature, Crypt, Snapshots, BackingName, TooLarge}
 use Rattle.q2_format.proofs.ByPlace.{number_at-within, bytes_at-within}
@@ -41,8 +41,8 @@ extensions_alike old new n at end format alike h = list_alike end old new n at e
 
 -- The fields.
 
-name_alike : (old new : List ℕ) (n : ℕ) → ReadsAlike old new 0 n → 104 ≤ n → name_of new ≡ name_of old
-unfolding name_of
+name_alike : (old new : List ℕ) (n : ℕ) → ReadsAlike old new 0 n → 104 ≤ n → name_place_of new ≡ name_place_of old
+unfolding name_place_of
 name_alike old new n alike room =
     let offset = number_at-within old new 0 n 8 8 alike (omega arith) (omega arith) in
     let len = number_at-within old new 0 n 16 4 alike (omega arith) (omega arith) in
@@ -120,7 +120,7 @@ bad_name_alike old new n name alike room small =
     elim (cases_lt (cluster_size (cluster_bits_of old)) (name.at + name.len)) [
       | inl out ↦
           let leaves = lt-ltb (cluster_size (cluster_bits_of old)) (name.at + name.len) out in
-          rw (bits, header_length, leaves) (or_same (ltb 1023 name.len || ltb name.at (header_length_of old)) (not (is_utf8 (bytes_at new name.at name.len))) (not (is_utf8 (bytes_at old name.at name.len))))
+          rw (bits, header_length, leaves) (or_same (ltb 1023 name.len || ltb name.at (header_length_of old)) (not (is_utf8 (place_bytes new name.at name.len))) (not (is_utf8 (place_bytes old name.at name.len))))
       | inr inside ↦
           let text = bytes_at-within old new 0 n name.at name.len alike (omega arith) (omega arith) in
           rw (bits, header_length, text) refl
@@ -135,7 +135,7 @@ name_refusal_alike : (old new : List ℕ) (n : ℕ) → ReadsAlike old new 0 n �
 unfolding name_refusal
 name_refusal_alike old new n alike room small =
     let name = name_alike old new n alike room in
-    rw name (ap (λ (b : Bool). refused_where b BackingName) (by_name (name_of old)))
+    rw name (ap (λ (b : Bool). refused_where b BackingName) (by_name (name_place_of old)))
   where
     by_name : (name : Option Place) → option_map_or (is_bad_name new) name false ≡ option_map_or (is_bad_name old) name false
     by_name None = refl
@@ -157,7 +157,7 @@ area_by_name : (file : List ℕ) (c : ℕ) (name : Option Place) → option_map_
     → option_map_or (λ (place : Place). place.at) name c ≤ c
 area_by_name file c None good size = omega arith
 area_by_name file c (Some name) good size =
-    let fits = or_parts (ltb 1023 name.len || ltb name.at (header_length_of file) || ltb (cluster_size (cluster_bits_of file)) (name.at + name.len)) (not (is_utf8 (bytes_at file name.at name.len))) good in
+    let fits = or_parts (ltb 1023 name.len || ltb name.at (header_length_of file) || ltb (cluster_size (cluster_bits_of file)) (name.at + name.len)) (not (is_utf8 (place_bytes file name.at name.len))) good in
     let inside = or_parts (ltb 1023 name.len || ltb name.at (header_length_of file)) (ltb (cluster_size (cluster_bits_of file)) (name.at + name.len)) fits.0 in
     let below = ltb-false (cluster_size (cluster_bits_of file)) (name.at + name.len) inside.1 in
     omega (arith, below, size)
@@ -165,7 +165,7 @@ area_by_name file c (Some name) good size =
 pub name_area : (file : List ℕ) → name_refusal file ≡ None → area_end file ≤ cluster_size (cluster_bits_of file)
 unfolding name_refusal
 name_area file none =
-    area_by_name file (cluster_size (cluster_bits_of file)) (name_of file) (refused_where-none (option_map_or (is_bad_name file) (name_of file) false) BackingName none) refl
+    area_by_name file (cluster_size (cluster_bits_of file)) (name_place_of file) (refused_where-none (option_map_or (is_bad_name file) (name_place_of file) false) BackingName none) refl
 
 extension_alike : (old new : List ℕ) (n : ℕ) → ReadsAlike old new 0 n → 104 ≤ n → area_end old ≤ n → extension_refusal new ≡ extension_refusal old
 unfolding extension_refusal

@@ -4,9 +4,9 @@ use Rattle.std.specs.Option.{option_map_or, IfSome}
 use Rattle.std.specs.Int.{trailing_zeros, w64}
 use Rattle.std.specs.Str.{is_utf8}
 use Rattle.std.proofs.lemmas.Bool.{cases_lt, cases_eq, lt-ltb, le-ltb, eq-eqb, ne_eqb, ltb-false, or_parts, eqb-true, not-false}
-use Rattle.q2_format.specs.Bytes.{bytes_at}
+use Rattle.q2_format.specs.Bytes.{place_bytes}
 use Rattle.q2_format.specs.Sizes.{cluster_size, clusters_for}
-use Rattle.q2_format.specs.Header.{refused_where, name_of, area_end, cluster_bits_of, header_length_of, refcount_order_of, incompatible_of, crypt_method_of, nb_snapshots_of, magic_of, version_of, size_of, l1_size_of, refcount_table_clusters_of, extension_type, extension_length, extension_after, format_after, extension_list, extensions_from, extensions_of, header_of, header_refusal, format_refusal, profile_refusal, name_refusal, extension_refusal, size_refusal, is_bad_name, LiesWithin, IsWithinLimits, CanBeRead}
+use Rattle.q2_format.specs.Header.{refused_where, name_place_of, area_end, cluster_bits_of, header_length_of, refcount_order_of, incompatible_of, crypt_method_of, nb_snapshots_of, magic_of, version_of, size_of, l1_size_of, refcount_table_clusters_of, extension_type, extension_length, extension_after, format_after, extension_list, extensions_from, extensions_of, header_of, header_refusal, format_refusal, profile_refusal, name_refusal, extension_refusal, size_refusal, is_bad_name, LiesWithin, IsWithinLimits, CanBeRead}
 use Rattle.q2_format.specs.declared.header.Header.{Header}
 use Rattle.q2_format.specs.declared.header.Place.{Place}
 use Rattle.q2_format.specs.declared.header.HeaderStop.TheVariants.{Short, Magic, Version, ClusterBits, RefcountOrder, Feature, Crypt, Snapshots, BackingName, Extension, TooLarge}
@@ -68,7 +68,7 @@ name_within : (file : List ℕ) (name : Option Place) → option_map_or (is_bad_
     → IfSome name (λ place. LiesWithin (header_length_of file) (cluster_size (cluster_bits_of file)) place × (place.len ≤ 1023))
 name_within file None good = tt
 name_within file (Some name) good =
-    let fits = or_parts (ltb 1023 name.len || ltb name.at (header_length_of file) || ltb (cluster_size (cluster_bits_of file)) (name.at + name.len)) (not (is_utf8 (bytes_at file name.at name.len))) good in
+    let fits = or_parts (ltb 1023 name.len || ltb name.at (header_length_of file) || ltb (cluster_size (cluster_bits_of file)) (name.at + name.len)) (not (is_utf8 (place_bytes file name.at name.len))) good in
     let inside = or_parts (ltb 1023 name.len || ltb name.at (header_length_of file)) (ltb (cluster_size (cluster_bits_of file)) (name.at + name.len)) fits.0 in
     let behind = or_parts (ltb 1023 name.len) (ltb name.at (header_length_of file)) inside.0 in (
       record {
@@ -103,7 +103,7 @@ within_limits file len none =
     ∷ refused_where (not (eqb (incompatible_of file) 0)) (Feature (trailing_zeros w64 (incompatible_of file)))
     ∷ refused_where (not (eqb (crypt_method_of file) 0)) Crypt
     ∷ refused_where (not (eqb (nb_snapshots_of file) 0)) Snapshots ∷ []) stages.1.1.0 in
-    let name = name_within file (name_of file) (refused_where-none (option_map_or (is_bad_name file) (name_of file) false) BackingName stages.1.1.1.0) in
+    let name = name_within file (name_place_of file) (refused_where-none (option_map_or (is_bad_name file) (name_place_of file) false) BackingName stages.1.1.1.0) in
     let extensions = first-none (refused_where (ltb c (header_length_of file)) Extension ∷ refused_where (extensions_of file).overruns Extension ∷ []) stages.1.1.1.1.0 in
     let sizes = first-none (refused_where (ltb 274877906944 (size_of file)) TooLarge
     ∷ refused_where (ltb 4194304 (clusters_for c (size_of file))) TooLarge

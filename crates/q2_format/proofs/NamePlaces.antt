@@ -10,7 +10,7 @@ use Rattle.byteorder.specs.Endian.{big_bytes, big_from}
 use Rattle.byteorder.specs.Numbers.{length-bytes_high_first, big_number-reads_back}
 use Rattle.q2_format.specs.Bytes.{number_at, IsWritten}
 use Rattle.q2_format.specs.Sizes.{cluster_size}
-use Rattle.q2_format.specs.Header.{name_of}
+use Rattle.q2_format.specs.Header.{name_place_of}
 use Rattle.q2_format.specs.Renamed.{middle_of, is_in_middle, new_name_offset}
 use Rattle.q2_format.specs.declared.header.Header.{Header}
 use Rattle.q2_format.specs.declared.header.Place.{Place}
@@ -40,15 +40,15 @@ number_first n value rest fits = big_number-reads_back n value rest fits
 
 -- The fields of a name.
 
-name_by_fields : (file : List ℕ) (offset len : ℕ) → number_at file 8 8 ≡ offset → number_at file 16 4 ≡ len → offset ≢ 0 → len ≢ 0 → name_of file ≡ Some (record { at = offset; len = len })
-unfolding name_of
+name_by_fields : (file : List ℕ) (offset len : ℕ) → number_at file 8 8 ≡ offset → number_at file 16 4 ≡ len → offset ≢ 0 → len ≢ 0 → name_place_of file ≡ Some (record { at = offset; len = len })
+unfolding name_place_of
 name_by_fields file offset len at size there some =
     let first = ne_eqb offset 0 there in
     let second = ne_eqb len 0 some in
     rw (at, size, first, second) refl
 
 pub name_written : (old new : List ℕ) (offset len : ℕ) (rest : List ℕ) → IsWritten old new 8 (big_bytes 8 offset ++ (big_bytes 4 len ++ rest)) → offset ≢ 0 → len ≢ 0
-    → offset < 256 ^ 8 → len < 256 ^ 4 → name_of new ≡ Some (record { at = offset; len = len })
+    → offset < 256 ^ 8 → len < 256 ^ 4 → name_place_of new ≡ Some (record { at = offset; len = len })
 name_written old new offset len rest w there some fits short =
     let front : List ℕ = big_bytes 8 offset in
     let behind : List ℕ = big_bytes 4 len ++ rest in
@@ -62,8 +62,8 @@ name_written old new offset len rest w there some fits short =
     number_within old new 8 8 4 (front ++ behind) w (omega arith) ∙ subst P eight (number_behind front behind 4) ∙ number_first 4 len rest short in
     name_by_fields new offset len at size there some
 
-pub no_name_written : (file : List ℕ) → ((i : ℕ) → 8 ≤ i → i < 20 → slice_index file i ≡ 0) → name_of file ≡ None
-unfolding name_of
+pub no_name_written : (file : List ℕ) → ((i : ℕ) → 8 ≤ i → i < 20 → slice_index file i ≡ 0) → name_place_of file ≡ None
+unfolding name_place_of
 no_name_written file zeros = let at = number_at-zeros file 8 8 (λ i low high. zeros i low (omega arith)) in rw at refl
 
 -- A number whose bytes were lowered is lower.

@@ -5,7 +5,7 @@ use Rattle.std.proofs.lemmas.Bool.Decides.{nat_tests}
 use Rattle.std.specs.Option.{option_map_or}
 use Rattle.q2_format.specs.Bytes.{number_at, ReadsAlike}
 use Rattle.q2_format.specs.Sizes.{cluster_size}
-use Rattle.q2_format.specs.Header.{name_of, area_end, extension_type, extension_length, header_of, header_refusal, name_refusal}
+use Rattle.q2_format.specs.Header.{name_place_of, area_end, extension_type, extension_length, header_of, header_refusal, name_refusal}
 use Rattle.q2_format.specs.Renamed.{next_extension, ending_place}
 use Rattle.q2_format.specs.Sound.{IsSound, is_header_full}
 use Rattle.q2_format.specs.declared.header.Header.{Header}
@@ -29,7 +29,7 @@ at_length new n size none = let P : ℕ → Type 0 = λ k. header_refusal new k 
 
 -- text behind the list, beside the present name
 pub text_sound : (old new : List ℕ) (from to : ℕ) → IsSound old → 104 ≤ from → (header_of old).ext_end ≤ from → to ≤ cluster_size (header_of old).cluster_bits
-    → IsBeside from to (name_of old) → ((i : ℕ) → (i < from) ⊎ (to ≤ i) → slice_index new i ≡ slice_index old i) → length new ≡ length old → StaysSound new (header_of old)
+    → IsBeside from to (name_place_of old) → ((i : ℕ) → (i < from) ⊎ (to ≤ i) → slice_index new i ≡ slice_index old i) → length new ≡ length old → StaysSound new (header_of old)
 text_sound old new from to sound long list within beside outside size =
     let none = sound_header old sound in
     let h : Header = header_of old in
@@ -111,7 +111,7 @@ pub last_sound : (old new : List ℕ) (name : Option Place) → IsSound old → 
     → ((i : ℕ) → 20 ≤ i → i < ending_place (header_of old) → slice_index new i ≡ slice_index old i)
     → ((i : ℕ) → cluster_size (header_of old).cluster_bits ≤ i → slice_index new i ≡ slice_index old i)
     → extension_type new (ending_place (header_of old)) ≡ END_OF_EXTENSIONS
-    → ending_place (header_of old) + 8 + extension_length new (ending_place (header_of old)) ≤ area_end new → name_of new ≡ name → name_refusal new ≡ None → length new ≡ length old
+    → ending_place (header_of old) + 8 + extension_length new (ending_place (header_of old)) ≤ area_end new → name_place_of new ≡ name → name_refusal new ≡ None → length new ≡ length old
     → StaysSound new (with_naming (header_of old) name (header_of old).format (ending_place (header_of old) + 8) true)
 last_sound old new name sound front same behind kind fits is named size =
     let none = sound_header old sound in

@@ -3,7 +3,7 @@ use Rattle.std.proofs.Common.{◌≡◌, ℕ, ◌+◌, ◌-◌, ◌%◌, ◌<◌
 use Rattle.std.specs.Option.{option_map_or}
 use Rattle.q2_format.specs.Bytes.{number_at, ReadsAlike}
 use Rattle.q2_format.specs.Sizes.{cluster_size}
-use Rattle.q2_format.specs.Header.{LiesWithin, name_of, area_end, header_length_of, cluster_bits_of, extension_type, extension_length, extension_after, format_after, extensions_from, extensions_of, header_of, refused_where, is_bad_name, header_refusal, format_refusal, profile_refusal, name_refusal, extension_refusal, size_refusal}
+use Rattle.q2_format.specs.Header.{LiesWithin, name_place_of, area_end, header_length_of, cluster_bits_of, extension_type, extension_length, extension_after, format_after, extensions_from, extensions_of, header_of, refused_where, is_bad_name, header_refusal, format_refusal, profile_refusal, name_refusal, extension_refusal, size_refusal}
 use Rattle.q2_format.specs.Renamed.{ending_place}
 use Rattle.q2_format.specs.declared.header.Place.{Place}
 use Rattle.q2_format.specs.declared.header.HeaderStop.TheVariants.{Short, BackingName, Extension}
@@ -25,11 +25,11 @@ whole_list file len none =
     let parts = first-none (refused_where (ltb (cluster_size (cluster_bits_of file)) (header_length_of file)) Extension ∷ refused_where (extensions_of file).overruns Extension ∷ []) each.1.1.1.1.0 in
     refused_where-none (extensions_of file).overruns Extension parts.1.0
 
-accepted_name : (file : List ℕ) (len : ℕ) → header_refusal file len ≡ None → option_map_or (is_bad_name file) (name_of file) false ≡ false
+accepted_name : (file : List ℕ) (len : ℕ) → header_refusal file len ≡ None → option_map_or (is_bad_name file) (name_place_of file) false ≡ false
 unfolding header_refusal name_refusal
 accepted_name file len none =
     let each = first-none (refused_where (ltb len 104) Short ∷ format_refusal file len ∷ profile_refusal file ∷ name_refusal file ∷ extension_refusal file ∷ size_refusal file len ∷ []) none in
-    refused_where-none (option_map_or (is_bad_name file) (name_of file) false) BackingName each.1.1.1.0
+    refused_where-none (option_map_or (is_bad_name file) (name_place_of file) false) BackingName each.1.1.1.0
 
 -- the walk through it
 abbrev pub WalkOf : List ℕ → Type 0
@@ -56,7 +56,7 @@ next_by_numbers e q end start low below is short near even = omega (arith, low, 
 -- a name begins behind the header
 area_low : (file : List ℕ) (len : ℕ) → header_refusal file len ≡ None → header_length_of file ≤ area_end file
 unfolding header_of
-area_low file len none = let limits = within_limits file len none in low (name_of file) _ limits.name limits.header_in_cluster
+area_low file len none = let limits = within_limits file len none in low (name_place_of file) _ limits.name limits.header_in_cluster
   where
     low : (name : Option Place) (limit : ℕ) → IfSome name (λ name. LiesWithin (header_length_of file) (cluster_size (cluster_bits_of file)) name × (name.len ≤ limit))
         → header_length_of file ≤ cluster_size (cluster_bits_of file) → header_length_of file ≤ option_map_or (λ (name : Place). name.at) name (cluster_size (cluster_bits_of file))
@@ -109,7 +109,7 @@ abbrev pub IsBeside : ℕ → ℕ → Option Place → Type 0
 IsBeside from to name = IfSome name (λ name. (to ≤ name.at) ⊎ (name.at + name.len ≤ from))
 
 module _ (old new : List ℕ) (len from to : ℕ) (none : header_refusal old len ≡ None) (long : 104 ≤ from)
-    (beside : IsBeside from to (name_of old)) (outside : (i : ℕ) → (i < from) ⊎ (to ≤ i) → slice_index new i ≡ slice_index old i) where
+    (beside : IsBeside from to (name_place_of old)) (outside : (i : ℕ) → (i < from) ⊎ (to ≤ i) → slice_index new i ≡ slice_index old i) where
   front : ReadsAlike old new 0 8
   front = record { same = λ i low below. outside i (inl (omega arith)) }
 
@@ -122,8 +122,8 @@ module _ (old new : List ℕ) (len from to : ℕ) (none : header_refusal old len
   pub after : (at n : ℕ) → to ≤ at → number_at new at n ≡ number_at old at n
   after at n h = number_at-alike old new at n (record { same = λ i low below. outside i (inr (omega arith)) })
 
-  name_stays : name_of new ≡ name_of old
-  unfolding name_of
+  name_stays : name_place_of new ≡ name_place_of old
+  unfolding name_place_of
   name_stays =
       let offset = before 8 8 (omega arith) in
       let size = before 16 4 (omega arith) in
@@ -147,10 +147,10 @@ module _ (old new : List ℕ) (len from to : ℕ) (none : header_refusal old len
 
   name_none : name_refusal new ≡ None
   unfolding name_refusal
-  name_none = let test = text_stays (name_of old) beside ∙ accepted_name old len none in rw (name_stays, test) refl
+  name_none = let test = text_stays (name_place_of old) beside ∙ accepted_name old len none in rw (name_stays, test) refl
 
-  pub beside_header : (list : ExtensionList) → extensions_of new ≡ list → header_of new ≡ with_naming (header_of old) (name_of old) list.format list.end list.ended
-  beside_header list is = renamed_header old new front fields (name_of old) list name_stays is
+  pub beside_header : (list : ExtensionList) → extensions_of new ≡ list → header_of new ≡ with_naming (header_of old) (name_place_of old) list.format list.end list.ended
+  beside_header list is = renamed_header old new front fields (name_place_of old) list name_stays is
 
   pub beside_refusal : (list : ExtensionList) → list.overruns ≡ false → extensions_of new ≡ list → header_refusal new len ≡ None
   beside_refusal list whole is = renamed_refusal old new front fields len none name_none (ap (λ (l : ExtensionList). l.overruns) is ∙ whole)
@@ -199,8 +199,8 @@ module _ (old new : List ℕ) (len e : ℕ) (none : header_refusal old len ≡ N
   long : 104 ≤ e + 4
   long = omega (arith, header_long old len none, low)
 
-  beside : IsBeside (e + 4) (e + 8) (name_of old)
-  beside = in_area (name_of old) (cluster_size (cluster_bits_of old)) (e + 4) (e + 8) (let within = ending_is.1 in omega (arith, within))
+  beside : IsBeside (e + 4) (e + 8) (name_place_of old)
+  beside = in_area (name_place_of old) (cluster_size (cluster_bits_of old)) (e + 4) (e + 8) (let within = ending_is.1 in omega (arith, within))
 
   same_list : extensions_of new ≡ extensions_of old
   unfolding extensions_of
@@ -263,8 +263,8 @@ module _ (old new : List ℕ) (len : ℕ) (p : Place) (none : header_refusal old
   format_long : 104 ≤ from
   format_long = omega (arith, header_long old len none, format_low, at_is, front_of)
 
-  format_beside : IsBeside from (p.at + 8) (name_of old)
-  format_beside = in_area (name_of old) (cluster_size (cluster_bits_of old)) from (p.at + 8) room
+  format_beside : IsBeside from (p.at + 8) (name_place_of old)
+  format_beside = in_area (name_place_of old) (cluster_size (cluster_bits_of old)) from (p.at + 8) room
 
   abbrev moved_format : Option Place
   moved_format = Some (record { at = p.at; len = number_at new from 4 })
@@ -334,7 +334,7 @@ module _ (old new : List ℕ) (len : ℕ) (p : Place) (none : header_refusal old
 module _ (old new : List ℕ) (len : ℕ) (name : Option Place) (none : header_refusal old len ≡ None) (front : ReadsAlike old new 0 8)
     (same : (i : ℕ) → 20 ≤ i → i < ending_place (header_of old) → slice_index new i ≡ slice_index old i)
     (kind : extension_type new (ending_place (header_of old)) ≡ END_OF_EXTENSIONS)
-    (fits : ending_place (header_of old) + 8 + extension_length new (ending_place (header_of old)) ≤ area_end new) (name_is : name_of new ≡ name) where
+    (fits : ending_place (header_of old) + 8 + extension_length new (ending_place (header_of old)) ≤ area_end new) (name_is : name_place_of new ≡ name) where
   abbrev place : ℕ
   place = ending_place (header_of old)
 

@@ -5,7 +5,7 @@ use Rattle.std.specs.Str.{IsUtf8}
 use Rattle.std.proofs.lemmas.Bool.{ne_eqb, le-ltb}
 use Rattle.std.proofs.lemmas.Str.{is_utf8-from_IsUtf8}
 use Rattle.q2_format.specs.Sizes.{clusters_for}
-use Rattle.q2_format.specs.Header.{name_of, area_end, extension_after, format_after, extensions_from, extensions_of, header_of, header_refusal, format_refusal, profile_refusal, name_refusal, extension_refusal, size_refusal, is_bad_name}
+use Rattle.q2_format.specs.Header.{name_place_of, area_end, extension_after, format_after, extensions_from, extensions_of, header_of, header_refusal, format_refusal, profile_refusal, name_refusal, extension_refusal, size_refusal, is_bad_name}
 use Rattle.q2_format.specs.Created.{creation_of, created_l1_size, created_table_clusters, created_end_extension, created_header, AreZeros, HasCreatedFields, HasCreatedExtensions, HasCreatedHeader, IsNewName, IsNewFormat}
 use Rattle.q2_format.specs.declared.header.Place.{Place}
 use Rattle.q2_format.proofs.Creating.{zero_number, one_table_cluster}
@@ -14,8 +14,8 @@ use Rattle.q2_format.proofs.Extending.{extensions_ended, extensions_next}
 -- where the name is
 
 name_read : (file : List ℕ) (size : ℕ) (name format : Option (List ℕ)) → HasCreatedFields (creation_of size name format) file
-    → ForSome name IsNewName → name_of file ≡ (created_header (creation_of size name format)).name
-unfolding name_of
+    → ForSome name IsNewName → name_place_of file ≡ (created_header (creation_of size name format)).name
+unfolding name_place_of
 name_read file size None format fields new = let offset = fields.name_offset in rw offset refl
 name_read file size (Some name) format fields new =
     let offset = fields.name_offset in
@@ -47,7 +47,7 @@ list_read file size end name (Some format) extensions new far =
 
 module _ (file : List ℕ) (size : ℕ) (name format : Option (List ℕ)) (header : HasCreatedHeader (creation_of size name format) file)
     (new_name : ForSome name IsNewName) (new_format : ForSome format IsNewFormat) where
-  created_name_read : name_of file ≡ (created_header (creation_of size name format)).name
+  created_name_read : name_place_of file ≡ (created_header (creation_of size name format)).name
   created_name_read = name_read file size name format header.fields new_name
 
   area_read : area_end file ≡ option_map_or (λ (place : Place). place.at) (created_header (creation_of size name format)).name 65536

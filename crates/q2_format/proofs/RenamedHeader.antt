@@ -2,9 +2,9 @@
 use Rattle.std.proofs.Common.{◌≡◌, ℕ, ◌+◌, ◌≤◌, true, false, ltb, List, [], ◌∷◌, Option, Some, None, refl, ◌∙◌, arith}
 use Rattle.std.proofs.lemmas.Bool.{le-ltb}
 use Rattle.std.specs.Str.{is_utf8}
-use Rattle.q2_format.specs.Bytes.{number_at, bytes_at, ReadsAlike}
+use Rattle.q2_format.specs.Bytes.{number_at, place_bytes, ReadsAlike}
 use Rattle.q2_format.specs.Sizes.{cluster_size}
-use Rattle.q2_format.specs.Header.{name_of, header_length_of, cluster_bits_of, extensions_of, header_of, refused_where, header_refusal, format_refusal, profile_refusal, name_refusal, extension_refusal, size_refusal}
+use Rattle.q2_format.specs.Header.{name_place_of, header_length_of, cluster_bits_of, extensions_of, header_of, refused_where, header_refusal, format_refusal, profile_refusal, name_refusal, extension_refusal, size_refusal}
 use Rattle.q2_format.specs.declared.header.Place.{Place}
 use Rattle.q2_format.specs.declared.header.HeaderStop.TheVariants.{Short, Extension}
 use Rattle.q2_format.specs.declared.extensions.ExtensionList.{ExtensionList}
@@ -19,7 +19,7 @@ module _ (old new : List ℕ) (front : ReadsAlike old new 0 8) (fields : ReadsAl
   behind : (at n : ℕ) → 20 ≤ at → at + n ≤ 104 → number_at new at n ≡ number_at old at n
   behind at n low high = number_at-within old new 20 84 at n fields low (omega arith)
 
-  pub renamed_header : (name : Option Place) (list : ExtensionList) → name_of new ≡ name → extensions_of new ≡ list
+  pub renamed_header : (name : Option Place) (list : ExtensionList) → name_place_of new ≡ name → extensions_of new ≡ list
       → header_of new ≡ with_naming (header_of old) name list.format list.end list.ended
   unfolding header_of
   renamed_header name list name_is list_is =
@@ -85,8 +85,8 @@ module _ (old new : List ℕ) (front : ReadsAlike old new 0 8) (fields : ReadsAl
       rw (each.0, format, profile, named, extension, size) refl
 
 -- a name that may stand where it does
-pub name_accepted : (file : List ℕ) (name : Place) → name_of file ≡ Some name → name.len ≤ 1023 → header_length_of file ≤ name.at
-    → name.at + name.len ≤ cluster_size (cluster_bits_of file) → is_utf8 (bytes_at file name.at name.len) ≡ true → name_refusal file ≡ None
+pub name_accepted : (file : List ℕ) (name : Place) → name_place_of file ≡ Some name → name.len ≤ 1023 → header_length_of file ≤ name.at
+    → name.at + name.len ≤ cluster_size (cluster_bits_of file) → is_utf8 (place_bytes file name.at name.len) ≡ true → name_refusal file ≡ None
 unfolding name_refusal
 name_accepted file name is short behind_header in_cluster text =
     let long = le-ltb 1023 name.len short in
@@ -95,6 +95,6 @@ name_accepted file name is short behind_header in_cluster text =
     rw (is, long, low, high, text) refl
 
 -- and none
-pub no_name_accepted : (file : List ℕ) → name_of file ≡ None → name_refusal file ≡ None
+pub no_name_accepted : (file : List ℕ) → name_place_of file ≡ None → name_refusal file ≡ None
 unfolding name_refusal
 no_name_accepted file is = rw is refl

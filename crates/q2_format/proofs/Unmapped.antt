@@ -6,7 +6,7 @@ use Rattle.std.proofs.lemmas.Grind.{div_ceil_times}
 use Rattle.std.proofs.lemmas.List.{get_or-map, get_or_past, length-map}
 use Rattle.std.proofs.lemmas.List.FromFn.{get_or-map-range_with_len, length-map-range_with_len}
 use Rattle.std.proofs.Math.Nat.{mul-le-mul_right, le-max_right, one-le-pow}
-use Rattle.q2_format.specs.Bytes.{words_at, bytes_at}
+use Rattle.q2_format.specs.Bytes.{words_at, place_bytes}
 use Rattle.q2_format.specs.Sizes.{cluster_size, clusters_for, entries_in_cluster}
 use Rattle.q2_format.specs.Entry.{l2_entry}
 use Rattle.q2_format.specs.Header.{header_of}
@@ -85,12 +85,12 @@ created_byte new file backing place created =
     rw entry refl
 
 -- so its disk is its backing disk, cut at its own size or filled up with zeros
-pub created_disk : (new : Creation) (file backing : List ℕ) → IsCreated new file → image_disk file backing ≡ bytes_at backing 0 new.size
+pub created_disk : (new : Creation) (file backing : List ℕ) → IsCreated new file → image_disk file backing ≡ place_bytes backing 0 new.size
 unfolding image_disk
 created_disk new file backing created =
     let size = created_size new file created in
     let len = length-map-range_with_len (guest_byte file backing) 0 new.size in
-    let same : map (guest_byte file backing) (range_with_len 0 new.size) ≡ bytes_at backing 0 (length (map (guest_byte file backing) (range_with_len 0 new.size))) =
+    let same : map (guest_byte file backing) (range_with_len 0 new.size) ≡ place_bytes backing 0 (length (map (guest_byte file backing) (range_with_len 0 new.size))) =
     bytes_from_places backing (map (guest_byte file backing) (range_with_len 0 new.size)) 0
     (λ k below. get_or-map-range_with_len (guest_byte file backing) 0 new.size k (0 + k) 0 (omega (arith, len)) refl ∙ created_byte new file backing (0 + k) created) in
-    rw size (same ∙ ap (bytes_at backing 0) len)
+    rw size (same ∙ ap (place_bytes backing 0) len)

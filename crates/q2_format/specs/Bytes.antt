@@ -8,8 +8,8 @@ unfoldable pub number_at : List ℕ → ℕ → ℕ → ℕ
 number_at file at n = big_from at n file
 
 -- the n bytes from a place on
-unfoldable pub bytes_at : List ℕ → ℕ → ℕ → List ℕ
-bytes_at file at n = map (λ i. slice_index file i) (range_with_len at n)
+unfoldable pub place_bytes : List ℕ → ℕ → ℕ → List ℕ
+place_bytes file at n = map (λ i. slice_index file i) (range_with_len at n)
 
 -- the n words of 8 bytes from a place on
 unfoldable pub words_at : List ℕ → ℕ → ℕ → List ℕ

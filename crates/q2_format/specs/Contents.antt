@@ -1,7 +1,7 @@
 -- What one node of a graph reads as: a file, a part of a file, and a qcow2 image over its backing node's disk. A disk is a list of bytes.
 use Rattle.std.specs.Prelude.{ℕ, ◌+◌, ◌/◌, ◌%◌, List, map, slice_index}
 use Rattle.std.specs.List.{range_with_len}
-use Rattle.q2_format.specs.Bytes.{bytes_at}
+use Rattle.q2_format.specs.Bytes.{place_bytes}
 use Rattle.q2_format.specs.Sizes.{cluster_size}
 use Rattle.q2_format.specs.Entry.{l2_entry}
 use Rattle.q2_format.specs.Header.{header_of}
@@ -31,11 +31,11 @@ guest_byte file backing place = let h = header_of file in
 
 -- the disk of a file that had `size` bytes when its node was added
 abbrev pub file_disk : ℕ → List ℕ → List ℕ
-file_disk size file = bytes_at file 0 size
+file_disk size file = place_bytes file 0 size
 
 -- the disk of a raw part
 abbrev pub raw_disk : ℕ → ℕ → List ℕ → List ℕ
-raw_disk offset size file_node = bytes_at file_node offset size
+raw_disk offset size file_node = place_bytes file_node offset size
 
 -- the disk of an image over its backing node's disk
 unfoldable pub image_disk : List ℕ → List ℕ → List ℕ

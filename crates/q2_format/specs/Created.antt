@@ -3,7 +3,7 @@ use Rattle.std.specs.Prelude.{◌≡◌, ℕ, ◌+◌, ◌*◌, ◌/◌, ◌<◌
 use Rattle.std.specs.Int.{div_ceil}
 use Rattle.std.specs.Option.{option_map, option_map_or, ForSome}
 use Rattle.std.specs.Str.{IsUtf8}
-use Rattle.q2_format.specs.Bytes.{number_at, bytes_at}
+use Rattle.q2_format.specs.Bytes.{number_at, place_bytes}
 use Rattle.q2_format.specs.Sizes.{cluster_size, clusters_for, entries_in_cluster, refcount_bytes, block_entries, l1_entries_for}
 use Rattle.q2_format.specs.Header.{magic_of, version_of, name_offset_of, name_length_of, cluster_bits_of, size_of, crypt_method_of, l1_size_of, l1_offset_of, refcount_table_offset_of, refcount_table_clusters_of, nb_snapshots_of, snapshots_offset_of, incompatible_of, compatible_of, autoclear_of, refcount_order_of, header_length_of, extension_type, extension_length}
 use Rattle.q2_format.specs.declared.header.Header.{Header}
@@ -86,7 +86,7 @@ AreZeros file from to = (i : ℕ) → from ≤ i → i < to → slice_index file
 pub record IsFormatExtension (file format : List ℕ) : Type 0 where
   pub kind : extension_type file 112 ≡ BACKING_FORMAT
   pub length_field : extension_length file 112 ≡ length format
-  pub text : bytes_at file 120 (length format) ≡ format
+  pub text : place_bytes file 120 (length format) ≡ format
   pub padding : AreZeros file (120 + length format) (120 + (length format + 7) / 8 * 8)
 
 -- The header cluster of a created image, each byte of it: its fields up to 112, its extensions up to the
@@ -120,7 +120,8 @@ pub record HasCreatedExtensions (new : Creation) (file : List ℕ) : Type 0 wher
   pub ending : AreZeros file (created_end_extension new) (created_name_offset new)
 
 pub record HasCreatedName (new : Creation) (file : List ℕ) : Type 0 where
-  pub text : IfSome new.name (λ name. bytes_at file (created_name_offset new) (length name) ≡ name)
+  pub text : IfSome new.name
+      (λ name. place_bytes file (created_name_offset new) (length name) ≡ name)
   pub behind : AreZeros file (created_name_offset new + option_map_or length new.name 0)
       (created_cluster_size new)
 

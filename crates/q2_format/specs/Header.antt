@@ -3,7 +3,7 @@ use Rattle.std.specs.Prelude.{◌≡◌, ◌≤◌, ℕ, zero, suc, ◌+◌, ◌
 use Rattle.std.specs.Option.{option_map_or}
 use Rattle.std.specs.Int.{trailing_zeros, w64}
 use Rattle.std.specs.Str.{is_utf8}
-use Rattle.q2_format.specs.Bytes.{number_at, bytes_at}
+use Rattle.q2_format.specs.Bytes.{number_at, place_bytes}
 use Rattle.q2_format.specs.Sizes.{cluster_size, clusters_for}
 use Rattle.q2_format.specs.declared.header.Header.{Header}
 use Rattle.q2_format.specs.declared.header.Place.{Place}
@@ -70,8 +70,8 @@ abbrev pub header_length_of : List ℕ → ℕ
 header_length_of file = number_at file 100 4
 
 -- a backing name is present exactly where its offset and its size aren't 0
-unfoldable pub name_of : List ℕ → Option Place
-name_of file =
+unfoldable pub name_place_of : List ℕ → Option Place
+name_place_of file =
     if name_offset_of file == 0 || name_length_of file == 0 then None
     else Some (record { at = name_offset_of file; len = name_length_of file })
 
@@ -118,7 +118,8 @@ extensions_from file at end format = extension_list end file at end format
 -- the area ends at the backing name where one is present, and else with the header's cluster
 abbrev pub area_end : List ℕ → ℕ
 area_end file =
-    option_map_or (λ (name : Place). name.at) (name_of file) (cluster_size (cluster_bits_of file))
+    option_map_or (λ (name : Place). name.at) (name_place_of file)
+    (cluster_size (cluster_bits_of file))
 
 -- the extensions of a file
 unfoldable pub extensions_of : List ℕ → ExtensionList
@@ -139,7 +140,7 @@ header_of file = record {
   snaps_offset = snapshots_offset_of file;
   compat = compatible_of file;
   autoclear = autoclear_of file;
-  name = name_of file;
+  name = name_place_of file;
   format = (extensions_of file).format;
   ext_end = (extensions_of file).end;
   ended = (extensions_of file).ended;
@@ -189,11 +190,11 @@ is_bad_name file name =
     nat_lt MAX_NAME_LENGTH name.len
     || nat_lt name.at (header_length_of file)
     || nat_lt (cluster_size (cluster_bits_of file)) (name.at + name.len)
-    || not (is_utf8 (bytes_at file name.at name.len))
+    || not (is_utf8 (place_bytes file name.at name.len))
 
 unfoldable pub name_refusal : List ℕ → Option HeaderStop
 name_refusal file =
-    refused_where (option_map_or (is_bad_name file) (name_of file) false) BackingName
+    refused_where (option_map_or (is_bad_name file) (name_place_of file) false) BackingName
 
 -- the header ends past its cluster, or an extension past its area
 unfoldable pub extension_refusal : List ℕ → Option HeaderStop

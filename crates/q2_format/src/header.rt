@@ -102,9 +102,9 @@ pub enum HeaderStop {
 
 impl fmt::Display for HeaderStop {
     ghost use Rattle.std.specs.Prelude.{Some};
-    ghost use Rattle.q2_format.specs.Text.{stop_text};
+    ghost use Rattle.q2_format.specs.Text.{header_stop_text};
 
-    ghost output = { λ stop. Some (stop_text stop) };
+    ghost output = { λ stop. Some (header_stop_text stop) };
 
     fn fmt<W: fmt::Write>(&self, f: &mut fmt::Formatter<W>) -> fmt::Result {
         match self {

@@ -1,7 +1,7 @@
 //! What follows from the definitions, each law the contract of a function that does nothing.
 
 ghost use Rattle.std.specs.Prelude.{◌≡◌, ◌^◌, ◌<◌, ◌≤◌, ℕ, List, Option, None, length, slice_index};
-ghost use Rattle.q2_format.specs.Bytes.{bytes_at};
+ghost use Rattle.q2_format.specs.Bytes.{place_bytes};
 ghost use Rattle.q2_format.specs.Sizes.{cluster_size, clusters_for};
 ghost use Rattle.q2_format.specs.Contents.{guest_byte, image_disk};
 ghost use Rattle.q2_format.specs.Created.{Creation, CanBeCreated, HasCreatedHeader, IsCreated, created_cluster_size, created_header, creation_of};
@@ -30,7 +30,7 @@ pub fn created_images_map_nothing()
     ensures byte { (new : Creation) (file backing : List ℕ) (place : ℕ) → IsCreated new file
         → guest_byte file backing place ≡ slice_index backing place }
     ensures disk { (new : Creation) (file backing : List ℕ) → IsCreated new file
-        → image_disk file backing ≡ bytes_at backing 0 new.size }
+        → image_disk file backing ≡ place_bytes backing 0 new.size }
 {}
 
 /// The header of a created image is accepted, in a file within the limits, and says what the image was

@@ -1,7 +1,7 @@
 //! Big-endian numbers at places of a slice. What lies past the slice's end reads as 0, as in a file.
 
 ghost use Rattle.std.specs.Prelude.{◌≡◌, ◌+◌, ◌^◌, ◌<◌, ◌≤◌, ◌++◌, ℕ, length, take, drop, slice_index};
-ghost use Rattle.q2_format.specs.Bytes.{number_at, bytes_at, IsWritten};
+ghost use Rattle.q2_format.specs.Bytes.{number_at, place_bytes, IsWritten};
 
 use byteorder::{BigEndian, ByteOrder};
 
@@ -15,7 +15,7 @@ pub(crate) fn byte_at(bytes: &[u8], at: usize) -> u8
 #[tactic(auto, using(crate::proofs::ByPlace::bytes_from_places))]
 pub(crate) fn copy_from(bytes: &[u8], at: usize, out: &mut [u8])
     requires { at < 2 ^ 32 }
-    ensures { out.new ≡ bytes_at bytes.now at (length out.old) }
+    ensures { out.new ≡ place_bytes bytes.now at (length out.old) }
 {
     for (i, byte) in out.iter_mut().enumerate() {
         *byte = byte_at(bytes, at + i);

@@ -2,9 +2,9 @@
 
 ghost use Rattle.std.specs.Prelude.{◌≡◌, length, ◌+◌, ◌^◌, ◌<◌, ◌≤◌, IfOk, OnOk};
 ghost use Rattle.std.specs.Str.{is_utf8};
-ghost use Rattle.q2_format.specs.Bytes.{bytes_at};
+ghost use Rattle.q2_format.specs.Bytes.{place_bytes};
 ghost use Rattle.q2_format.specs.Sizes.{cluster_size};
-ghost use Rattle.q2_format.specs.Header.{refusal_in, header_refusal, format_refusal, profile_refusal, name_refusal, extension_refusal, size_refusal, header_of, name_of, extensions_of, area_end, is_bad_name, cluster_bits_of, IsWithinLimits};
+ghost use Rattle.q2_format.specs.Header.{refusal_in, header_refusal, format_refusal, profile_refusal, name_refusal, extension_refusal, size_refusal, header_of, name_place_of, extensions_of, area_end, is_bad_name, cluster_bits_of, IsWithinLimits};
 
 use crate::extensions::{ExtensionList, read_extensions};
 use crate::header::{
@@ -69,9 +69,9 @@ fn check_profile(cluster: &[u8]) -> Result<(), HeaderStop>
 }
 
 /// Where the backing name stands, where there is one.
-#[tactic(auto, unfolding(crate::specs::Header::name_of))]
+#[tactic(auto, unfolding(crate::specs::Header::name_place_of))]
 fn name_place(cluster: &[u8]) -> Option<Place>
-    ensures { result ≡ name_of cluster.now }
+    ensures { result ≡ name_place_of cluster.now }
 {
     let at = u64_at(cluster, 8);
     let len = u32_at(cluster, 16);
@@ -86,7 +86,7 @@ fn name_place(cluster: &[u8]) -> Option<Place>
 /// may end before them.
 fn copies_text(cluster: &[u8], at: usize, name: &mut [u8]) -> bool
     requires { at < 2 ^ 32 }
-    ensures { result ≡ is_utf8 (bytes_at cluster.now at (length name.old)) }
+    ensures { result ≡ is_utf8 (place_bytes cluster.now at (length name.old)) }
 {
     copy_from(cluster, at, name);
     str::from_utf8(name).is_ok()
@@ -96,7 +96,7 @@ fn copies_text(cluster: &[u8], at: usize, name: &mut [u8]) -> bool
 fn is_text(cluster: &[u8], at: usize, len: usize) -> bool
     requires at { at < 2 ^ 32 }
     requires len { len ≤ MAX_NAME_LENGTH }
-    ensures { result ≡ is_utf8 (bytes_at cluster.now at len) }
+    ensures { result ≡ is_utf8 (place_bytes cluster.now at len) }
 {
     let mut name = [0; MAX_NAME_LENGTH as usize];
     copies_text(cluster, at, &mut name[..len])
@@ -130,7 +130,7 @@ fn check_name(cluster: &[u8], c: u64) -> Result<Option<Place>, HeaderStop>
     requires size { c ≡ cluster_size (cluster_bits_of cluster.now) }
     requires small { c < 2 ^ 32 }
     ensures refused { refusal_in result ≡ name_refusal cluster.now }
-    ensures name { IfOk result (λ name. name ≡ name_of cluster.now) }
+    ensures name { IfOk result (λ name. name ≡ name_place_of cluster.now) }
     ensures within { OnOk result (area_end cluster.now ≤ c) }
 {
     let Some(name) = name_place(cluster) else {
@@ -151,7 +151,7 @@ fn check_extensions(
 ) -> Result<ExtensionList, HeaderStop>
     requires size { c ≡ cluster_size (cluster_bits_of cluster.now) }
     requires small { c < 2 ^ 32 }
-    requires name { name ≡ name_of cluster.now }
+    requires name { name ≡ name_place_of cluster.now }
     requires within { area_end cluster.now ≤ c }
     ensures refused { refusal_in result ≡ extension_refusal cluster.now }
     ensures list { IfOk result (λ list. list ≡ extensions_of cluster.now) }
@@ -190,7 +190,7 @@ fn check_sizes(cluster: &[u8], c: u64, file_len: u64) -> Result<(), HeaderStop>
 /// The fields by position, beside what was found of the name and the extensions.
 #[tactic(auto, unfolding(crate::specs::Header::header_of))]
 fn fields(cluster: &[u8], name: Option<Place>, list: &ExtensionList) -> Header
-    requires name { name ≡ name_of cluster.now }
+    requires name { name ≡ name_place_of cluster.now }
     requires list { list.now ≡ extensions_of cluster.now }
     ensures { result ≡ header_of cluster.now }
 {

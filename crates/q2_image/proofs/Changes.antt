@@ -49,22 +49,22 @@ fill_are zeroth first second cluster table host capacity bytes put =
 
 -- Taking a cluster.
 
-count_torn : (kept : refs.Kept) (n : ℕ) → IsTorn (count_write kept n) (first_bytes 0 (count_write kept n))
+count_torn : (kept : refs.KeptRefs) (n : ℕ) → IsTorn (count_write kept n) (first_bytes 0 (count_write kept n))
 unfolding count_write
 count_torn kept n = record { n = 0; short = omega (arith, length-bytes_high_first 2 1); sector = inl refl; first = refl }
 
 module _ {D : Type 0} (g : Ghosts D) where
-  pub take_made : (image : Known) (n : ℕ) (next : refs.Kept) (a b : D) → n ≡ free_cluster image.refs 0 → Writes g (allocation_writes image.refs n) None a b
+  pub take_made : (image : Known) (n : ℕ) (next : refs.KeptRefs) (a b : D) → n ≡ free_cluster image.refs 0 → Writes g (allocation_writes image.refs n) None a b
       → next ≡ with_one (with_block_for image.refs n) n → MakesSteps g image (take_steps image) None (record image { refs = next }) a b
   take_made image n next a b first writes kept =
       let W : ℕ → Type 0 = λ k. Writes g (allocation_writes image.refs k) None a b in
       record {
         writes = subst W first writes;
-        known = ap (λ (r : refs.Kept). record image { refs = r }) (kept ∙ ap (λ (k : ℕ). with_one (with_block_for image.refs k) k) first);
+        known = ap (λ (r : refs.KeptRefs). record image { refs = r }) (kept ∙ ap (λ (k : ℕ). with_one (with_block_for image.refs k) k) first);
       }
 
   -- where it stopped, there was room
-  pub take_stopped : (image : Known) (stop : DevStop) (next : refs.Kept) (a b : D) → end_of_allocation image.refs (free_cluster image.refs 0) ≤ g.capacity a
+  pub take_stopped : (image : Known) (stop : DevStop) (next : refs.KeptRefs) (a b : D) → end_of_allocation image.refs (free_cluster image.refs 0) ≤ g.capacity a
       → Writes g (allocation_writes image.refs (free_cluster image.refs 0)) (Some stop) a b → StopsAllocating g image.refs (free_cluster image.refs 0) stop next a b
       → MakesSteps g image (take_steps image) (Some stop) (record image { refs = next }) a b
   take_stopped image stop next a b fits writes (inl block) =
@@ -73,12 +73,12 @@ module _ {D : Type 0} (g : Ghosts D) where
       let left : Known = record image { refs = next } in
       let count : WriteStep = record { writes = count_write (with_block_for image.refs n) n ∷ []; known = record image { refs = with_one (with_block_for image.refs n) n } } in
       let r : Result (Unit {0}) DevStop = Err stop in
-      let one = makes_one g image mid left (block_writes_for image.refs n) r a b block.1 tt (ap (λ (k : refs.Kept). record image { refs = k }) block.0) in
+      let one = makes_one g image mid left (block_writes_for image.refs n) r a b block.1 tt (ap (λ (k : refs.KeptRefs). record image { refs = k }) block.0) in
       makes_sooner g image left (record { writes = block_writes_for image.refs n; known = mid } ∷ []) (count ∷ []) stop a b one
   take_stopped image NoSpace next a b fits writes (inr placed) = absurd (let beyond = writes.cause.0 in omega (arith, fits, beyond))
   take_stopped image (Io fault) next a b fits writes (inr placed) =
       let n : ℕ = free_cluster image.refs 0 in
-      let block : refs.Kept = with_block_for image.refs n in
+      let block : refs.KeptRefs = with_block_for image.refs n in
       let cut : List Write = first_bytes 0 (count_write block n) ∷ [] in
       let part : IsPart IsTorn (count_write block n ∷ []) cut = inr (count_torn block n, refl) in
       record {
@@ -96,18 +96,18 @@ module _ {D : Type 0} (g : Ghosts D) where
           cut = cut;
           part = part;
           made_are = ap (λ (ws : List Write). ws ++ cut) (sym (append-nil (block_writes_for image.refs n)));
-          known = ap (λ (k : refs.Kept). record image { refs = k }) placed.0;
+          known = ap (λ (k : refs.KeptRefs). record image { refs = k }) placed.0;
         };
       }
 
   -- An entry.
 
-  pub entry_made : (image : Known) (cluster : ℕ) (entry : L2Entry) (single : Bool) (table : ℕ) (next : tables.Kept) (r : Result (Unit {0}) DevStop) (a b : D)
+  pub entry_made : (image : Known) (cluster : ℕ) (entry : L2Entry) (single : Bool) (table : ℕ) (next : tables.KeptTables) (r : Result (Unit {0}) DevStop) (a b : D)
       → single ≡ counts_once image (host_of entry) → Writes g (link_writes image.tables cluster (l2_spelling entry single) table) (stop_of r) a b
       → OnOk r (next ≡ with_entry image.tables cluster (l2_spelling entry single) table) → OnErr r (next ≡ image.tables)
       → MakesSteps g image (entry_steps image cluster entry table) (stop_of r) (record image { tables = next }) a b
   entry_made image cluster entry single table next r a b counted writes linked kept =
-      let K : tables.Kept → Known = λ t. record image { tables = t } in
+      let K : tables.KeptTables → Known = λ t. record image { tables = t } in
       let word = ap (l2_spelling entry) counted in
       let W : ℕ → Type 0 = λ w. Writes g (link_writes image.tables cluster w table) (stop_of r) a b in
       makes_one g image (K (with_entry image.tables cluster (word_for image entry) table)) (K next) (link_writes image.tables cluster (word_for image entry) table) r a b

@@ -4,7 +4,7 @@ use Rattle.std.specs.List.{range_with_len}
 use Rattle.std.proofs.lemmas.Bool.{cases_eq, cases_lt, lt-ltb, le-ltb, ne_eqb}
 use Rattle.std.proofs.lemmas.List.{get_or_past}
 use Rattle.std.proofs.lemmas.List.FromFn.{get_or-map-range_with_len, length-map-range_with_len}
-use Rattle.q2_format.specs.Bytes.{bytes_at, IsWritten}
+use Rattle.q2_format.specs.Bytes.{place_bytes, IsWritten}
 use Rattle.q2_format.specs.Entry.{block_offset}
 use Rattle.q2_format.specs.Header.{header_of}
 use Rattle.q2_format.specs.References.{names_cluster}
@@ -24,7 +24,7 @@ use Rattle.q2_image.proofs.TreeChanged.{HoldsNoCount, KeepsCounts, counts_kept_b
 use Rattle.q2_image.proofs.EntryWrites.{EntryPlace, entry_place}
 
 -- new reads as old but for n bytes from a place on
-bytes_written : (old new : List ℕ) (at n : ℕ) → ((i : ℕ) → (i < at) ⊎ (at + n ≤ i) → get_or new i 0 ≡ get_or old i 0) → IsWritten old new at (bytes_at new at n)
+bytes_written : (old new : List ℕ) (at n : ℕ) → ((i : ℕ) → (i < at) ⊎ (at + n ≤ i) → get_or new i 0 ≡ get_or old i 0) → IsWritten old new at (place_bytes new at n)
 bytes_written old new at n outside =
     let len = length-bytes_at new at n in
     record {
@@ -63,12 +63,12 @@ module _ (old new : List ℕ) (at n : ℕ) (grows : length old ≤ length new) w
   not_in_place i (inr behind) = let low = le-ltb i at (omega arith) in let test = le-ltb i (at + n) behind in rw (low, test) refl
 
   -- the write in that place comes last
-  last_write : IsWritten before_write new at (bytes_at new at n)
+  last_write : IsWritten before_write new at (place_bytes new at n)
   last_write = bytes_written before_write new at n (λ i side. let none = not_in_place i side in sym (byte_before i ∙ rw none refl))
 
   -- and what was written elsewhere before it
   first_write : (place len : ℕ) → ((i : ℕ) → (i < at) ⊎ (at + n ≤ i) → (i < place) ⊎ (place + len ≤ i) → get_or new i 0 ≡ get_or old i 0)
-      → IsWritten old before_write place (bytes_at before_write place len)
+      → IsWritten old before_write place (place_bytes before_write place len)
   first_write place len outside = bytes_written old before_write place len (λ i side. elim (cases_lt i at) [
     | inl before ↦ let none = not_in_place i (inl before) in byte_before i ∙ rw none (outside i (inl before) side)
     | inr low ↦ elim (cases_lt i (at + n)) [
@@ -103,7 +103,7 @@ module _ (old new : List ℕ) (image : Known) (cluster table : ℕ) (is : IsImag
   size : cluster_size (header_of old).cluster_bits ≡ 65536
   size = let b = ap (λ (h : Header). h.cluster_bits) is.header ∙ ready.cluster_bits in rw b refl
 
-  within_entry : (file : List ℕ) → header_of file ≡ header_of old → IsWithin (at / 65536) (cluster_size (header_of file).cluster_bits) at (bytes_at new at 8)
+  within_entry : (file : List ℕ) → header_of file ≡ header_of old → IsWithin (at / 65536) (cluster_size (header_of file).cluster_bits) at (place_bytes new at 8)
   within_entry file same =
       let len = length-bytes_at new at 8 in
       let c : cluster_size (header_of file).cluster_bits ≡ 65536 = ap (λ (h : Header). cluster_size h.cluster_bits) same ∙ size in
@@ -114,7 +114,7 @@ module _ (old new : List ℕ) (image : Known) (cluster table : ℕ) (is : IsImag
   no_table none =
       let test = eq-eqb table 0 none in
       let len : table_len image.tables table ≡ 0 = rw test refl in
-      counts_kept_by old new (at / 65536) at (bytes_at new at 8) is.sound place.holds.free
+      counts_kept_by old new (at / 65536) at (place_bytes new at 8) is.sound place.holds.free
       (bytes_written old new at 8 (λ i side. outside i side (inr (omega (arith, none, len))))) (within_entry old refl)
 
   new_table : table ≢ 0 → KeepsCounts old new
@@ -126,11 +126,11 @@ module _ (old new : List ℕ) (image : Known) (cluster table : ℕ) (is : IsImag
       let same = length_before old new at 8 grows in
       let first = first_write old new at 8 grows table (table_len image.tables table) outside in
       let width = length-bytes_at mid table (table_len image.tables table) in
-      let within : IsWithin (table / 65536) (cluster_size (header_of old).cluster_bits) table (bytes_at mid table (table_len image.tables table)) =
+      let within : IsWithin (table / 65536) (cluster_size (header_of old).cluster_bits) table (place_bytes mid table (table_len image.tables table)) =
       rw size (record { low = omega arith; high = omega (arith, width, len, whole) }) in
-      let keeps = tables_kept old mid (table / 65536) table (bytes_at mid table (table_len image.tables table)) is.sound (spare_holds old image is (table / 65536) (spare some).unnamed) first within
+      let keeps = tables_kept old mid (table / 65536) table (place_bytes mid table (table_len image.tables table)) is.sound (spare_holds old image is (table / 65536) (spare some).unnamed) first within
       (omega (arith, same, grows)) (omega (arith, same, small)) in
-      let next = counts_kept_by mid new (at / 65536) at (bytes_at new at 8) keeps.sound (still_no_count old mid (at / 65536) keeps place.holds.free) (last_write old new at 8 grows) (within_entry mid keeps.header) in
+      let next = counts_kept_by mid new (at / 65536) at (place_bytes new at 8) keeps.sound (still_no_count old mid (at / 65536) keeps place.holds.free) (last_write old new at 8 grows) (within_entry mid keeps.header) in
       counts_then old mid new (counts_of_tables old mid keeps) next
 
   pub counts_stay : KeepsCounts old new

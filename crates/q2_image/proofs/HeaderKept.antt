@@ -4,7 +4,7 @@ use Rattle.std.proofs.lemmas.Bool.{cases_eq, eq-eqb, ne_eqb}
 use Rattle.std.proofs.lemmas.List.{length-replicate}
 use Rattle.blk_base.specs.Content.{after_writes}
 use Rattle.q2_format.specs.Bytes.{ReadsAlike}
-use Rattle.q2_format.specs.Header.{LiesWithin, header_of, name_of}
+use Rattle.q2_format.specs.Header.{LiesWithin, header_of, name_place_of}
 use Rattle.q2_format.specs.References.{uses, structure_uses}
 use Rattle.q2_format.specs.Sizes.{cluster_size}
 use Rattle.q2_format.specs.Sound.{IsSound}
@@ -74,8 +74,8 @@ module _ (old new : List ℕ) (sound : IsSound old) (keeps : KeepsCounted old ne
 
 -- The name.
 
-same_place : (before now : List ℕ) → KeepsFirst before now → name_of now ≡ name_of before
-unfolding name_of
+same_place : (before now : List ℕ) → KeepsFirst before now → name_place_of now ≡ name_place_of before
+unfolding name_place_of
 same_place before now keeps =
     let offset = number_at-alike before now 8 8 (record { same = λ i low high. keeps i (omega (arith, high)) (inl (omega (arith, high))) }) in
     let len = number_at-alike before now 16 4 (record { same = λ i low high. keeps i (omega (arith, high)) (inl (omega (arith, high))) }) in
@@ -98,7 +98,7 @@ unfolding header_of
 name_kept before now sound keeps =
     let limits = within_limits before (length before) (sound_header before sound) in
     let place : (header_of now).name ≡ (header_of before).name = same_place before now keeps in
-    record { place = place; text = ap (text_at now) place ∙ same_text before now (name_of before) _ _ _ keeps limits.header_whole (first_size before sound) limits.name }
+    record { place = place; text = ap (text_at now) place ∙ same_text before now (name_place_of before) _ _ _ keeps limits.header_whole (first_size before sound) limits.name }
 
 pub header_kept : (before now : List ℕ) → IsSound before → KeepsFirst before now → KeepsHeader before now
 header_kept before now sound keeps = record {

@@ -9,9 +9,9 @@ use Rattle.std.specs.Str.{IsUtf8, is_utf8}
 use Rattle.byteorder.specs.Endian.{big_bytes}
 use Rattle.byteorder.specs.Numbers.{length-bytes_high_first}
 use Rattle.blk_base.specs.Content.{with_bytes}
-use Rattle.q2_format.specs.Bytes.{number_at, bytes_at, IsWritten}
+use Rattle.q2_format.specs.Bytes.{number_at, place_bytes, IsWritten}
 use Rattle.q2_format.specs.Created.{IsNewName}
-use Rattle.q2_format.specs.Header.{LiesWithin, area_end, cluster_bits_of, extension_length, extension_type, header_length_of, header_of, name_of, name_refusal}
+use Rattle.q2_format.specs.Header.{LiesWithin, area_end, cluster_bits_of, extension_length, extension_type, header_length_of, header_of, name_place_of, name_refusal}
 use Rattle.q2_format.specs.Renamed.{ending_place, name_fields, needs_ending, new_name_offset, next_extension}
 use Rattle.q2_format.specs.Sizes.{cluster_size}
 use Rattle.q2_format.specs.Sound.{IsSound}
@@ -82,7 +82,7 @@ open_named image name ready new =
 
 -- the text stands where the new name goes
 abbrev pub HasText : List ℕ → Header → Option (List ℕ) → Type 0
-HasText file h name = IfSome name (λ text. (bytes_at file (new_name_offset h) (length text) ≡ text) × IsNewName text × IsUtf8 text)
+HasText file h name = IfSome name (λ text. (place_bytes file (new_name_offset h) (length text) ≡ text) × IsNewName text × IsUtf8 text)
 
 -- the ending extension's own data end in front of it
 abbrev pub EndsBefore : List ℕ → Header → Option (List ℕ) → Type 0
@@ -109,7 +109,7 @@ pub record IsLast (file now : List ℕ) (h : Header) (name : Option (List ℕ)) 
 -- the area of a list ends within the cluster
 area_high : (file : List ℕ) → IsSound file → area_end file ≤ cluster_size (header_of file).cluster_bits
 unfolding header_of
-area_high file sound = let limits = within_limits file (length file) (sound_header file sound) in high (name_of file) _ _ _ limits.name
+area_high file sound = let limits = within_limits file (length file) (sound_header file sound) in high (name_place_of file) _ _ _ limits.name
   where
     high : (name : Option Place) (low c limit : ℕ) → IfSome name (λ name. LiesWithin low c name × (name.len ≤ limit)) → option_map_or (λ (name : Place). name.at) name c ≤ c
     high None low c limit lies = omega arith
@@ -317,7 +317,7 @@ module _ (file now : List ℕ) (image : Known) (is : IsImageOf file image) (read
   abbrev place : Option Place
   place = new_place nh name
 
-  named_by : (name : Option (List ℕ)) → ForSome name IsNewName → IsWritten file now 8 (name_fields nh name ++ last.rest) → name_of now ≡ new_place nh name
+  named_by : (name : Option (List ℕ)) → ForSome name IsNewName → IsWritten file now 8 (name_fields nh name ++ last.rest) → name_place_of now ≡ new_place nh name
   named_by None new written = no_name_written now (λ i low high.
       let j : ℕ = i - 8 in
       let at : 8 + j ≡ i = omega (arith, low) in
@@ -344,7 +344,7 @@ module _ (file now : List ℕ) (image : Known) (is : IsImageOf file image) (read
       small_length : (n : ℕ) → n ≤ 65536 → n < 256 ^ 4
       small_length n low = omega (arith, low)
 
-  named : name_of now ≡ place
+  named : name_place_of now ≡ place
   named = named_by name new last.fields
 
   long : (104 ≤ header_length_of file) × (header_length_of file ≤ ending_place nh)
@@ -362,7 +362,7 @@ module _ (file now : List ℕ) (image : Known) (is : IsImageOf file image) (read
   length_there : header_length_of now ≡ header_length_of file
   length_there = alike_front 100 4 (omega arith) (omega arith)
 
-  name_good : (name : Option (List ℕ)) → ForSome name IsNewName → HasText now nh name → name_of now ≡ new_place nh name → name_refusal now ≡ None
+  name_good : (name : Option (List ℕ)) → ForSome name IsNewName → HasText now nh name → name_place_of now ≡ new_place nh name → name_refusal now ≡ None
   name_good None new text is_there = no_name_accepted now is_there
   name_good (Some name) new text is_there =
       let offset = new_name_offset nh in

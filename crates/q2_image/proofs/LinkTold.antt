@@ -104,35 +104,35 @@ module _ (image : Known) (cluster table single_word : ℕ) (entry : L2Entry) (si
   plain : is_plain single_word ≡ true
   plain = plain_of single_word entry is_entry writable
 
-  pub open_after : (next : tables.Kept) (result : Result (Unit {0}) DevStop) → OnOk result (next ≡ with_entry image.tables cluster single_word table) → OnErr result (next ≡ image.tables)
+  pub open_after : (next : tables.KeptTables) (result : Result (Unit {0}) DevStop) → OnOk result (next ≡ with_entry image.tables cluster single_word table) → OnErr result (next ≡ image.tables)
       → IsOpen (record image { tables = next })
   open_after next (Ok t) linked kept =
-      let P : tables.Kept → Type 0 = λ k. IsOpen (record image { tables = k }) in
+      let P : tables.KeptTables → Type 0 = λ k. IsOpen (record image { tables = k }) in
       subst P (sym linked) (open_linked image cluster table single_word (host_of entry) ready below can (row_below image cluster ready below) own plain reached)
-  open_after next (Err stop) linked kept = let P : tables.Kept → Type 0 = λ k. IsOpen (record image { tables = k }) in subst P (sym kept) ready
+  open_after next (Err stop) linked kept = let P : tables.KeptTables → Type 0 = λ k. IsOpen (record image { tables = k }) in subst P (sym kept) ready
 
-  pub entry_after : (next : tables.Kept) (result : Result (Unit {0}) DevStop) → OnOk result (next ≡ with_entry image.tables cluster single_word table) → OnOk result (entry_in (record image { tables = next }) cluster ≡ entry)
+  pub entry_after : (next : tables.KeptTables) (result : Result (Unit {0}) DevStop) → OnOk result (next ≡ with_entry image.tables cluster single_word table) → OnOk result (entry_in (record image { tables = next }) cluster ≡ entry)
   entry_after next (Ok t) linked =
-      let P : tables.Kept → Type 0 = λ k. entry_in (record image { tables = k }) cluster ≡ entry in
+      let P : tables.KeptTables → Type 0 = λ k. entry_in (record image { tables = k }) cluster ≡ entry in
       subst P (sym linked) (ap l2_entry (get_or-set_same image.tables.words cluster single_word 0 below) ∙ is_entry)
   entry_after next (Err stop) linked = tt
 
-  pub spelled_after : (next : tables.Kept) (result : Result (Unit {0}) DevStop) → single ≡ counts_once image (host_of entry)
+  pub spelled_after : (next : tables.KeptTables) (result : Result (Unit {0}) DevStop) → single ≡ counts_once image (host_of entry)
       → OnOk result (next ≡ with_entry image.tables cluster single_word table) → OnOk result (IsSpelled (record image { tables = next }) cluster)
   spelled_after next (Ok t) counted linked =
-      let P : tables.Kept → Type 0 = λ k. IsSpelled (record image { tables = k }) cluster in
+      let P : tables.KeptTables → Type 0 = λ k. IsSpelled (record image { tables = k }) cluster in
       let word = get_or-set_same image.tables.words cluster single_word 0 below in
       let same = ap l2_entry word ∙ is_entry in
       subst P (sym linked) (word ∙ is_word ∙ ap (l2_spelling entry) counted ∙ ap (λ (e : L2Entry). l2_spelling e (counts_once image (host_of e))) (sym same))
   spelled_after next (Err stop) counted linked = tt
 
-  pub others_after : (next : tables.Kept) (result : Result (Unit {0}) DevStop) → OnOk result (next ≡ with_entry image.tables cluster single_word table) → OnErr result (next ≡ image.tables)
+  pub others_after : (next : tables.KeptTables) (result : Result (Unit {0}) DevStop) → OnOk result (next ≡ with_entry image.tables cluster single_word table) → OnErr result (next ≡ image.tables)
       → HasEntriesBut image (record image { tables = next }) cluster
   others_after next (Ok t) linked kept =
-      let P : tables.Kept → Type 0 = λ k. HasEntriesBut image (record image { tables = k }) cluster in
+      let P : tables.KeptTables → Type 0 = λ k. HasEntriesBut image (record image { tables = k }) cluster in
       subst P (sym linked) (λ q other. get_or-set_other image.tables.words cluster q single_word 0 other)
   others_after next (Err stop) linked kept =
-      let P : tables.Kept → Type 0 = λ k. HasEntriesBut image (record image { tables = k }) cluster in
+      let P : tables.KeptTables → Type 0 = λ k. HasEntriesBut image (record image { tables = k }) cluster in
       subst P (sym kept) (λ q other. refl)
 
   -- The file.
@@ -152,12 +152,12 @@ module _ (image : Known) (cluster table single_word : ℕ) (entry : L2Entry) (si
         omega (arith, place.near, len, near, short_old, bound)
 
     -- what a link tells of the new file itself
-    record Behind (kept : tables.Kept) (n : ℕ) : Type 0 where
+    record Behind (kept : tables.KeptTables) (n : ℕ) : Type 0 where
       tree : IsTreeOf kept.c kept (tree_at new kept.c kept.l1_offset (length kept.l1))
       outside : (i : ℕ) → (i < entry_at image.tables cluster table) ⊎ (entry_at image.tables cluster table + n ≤ i)
           → (i < table) ⊎ (table + table_len image.tables table ≤ i) → get_or new i 0 ≡ get_or old i 0
 
-    behind : (kept : tables.Kept) (n : ℕ) (told : Option (List ℕ)) → told ≡ Some new
+    behind : (kept : tables.KeptTables) (n : ℕ) (told : Option (List ℕ)) → told ≡ Some new
         → (after : FileAfter kept old told (entry_at image.tables cluster table) n table (table_len image.tables table)) → Behind kept n
     behind kept n told is_new after =
         let same : after.file ≡ new = let e : Some after.file ≡ Some new = sym after.is ∙ is_new in cc in
@@ -166,7 +166,7 @@ module _ (image : Known) (cluster table single_word : ℕ) (entry : L2Entry) (si
           outside = λ i side table_side. let P : List ℕ → Type 0 = λ f. get_or f i 0 ≡ get_or old i 0 in subst P same (after.outside i side table_side);
         }
 
-    wider : (kept : tables.Kept) → Behind kept 0 → (i : ℕ) → (i < entry_at image.tables cluster table) ⊎ (entry_at image.tables cluster table + 8 ≤ i)
+    wider : (kept : tables.KeptTables) → Behind kept 0 → (i : ℕ) → (i < entry_at image.tables cluster table) ⊎ (entry_at image.tables cluster table + 8 ≤ i)
         → (i < table) ⊎ (table + table_len image.tables table ≤ i) → get_or new i 0 ≡ get_or old i 0
     wider kept b i (inl before) table_side = b.outside i (inl before) table_side
     wider kept b i (inr past) table_side = b.outside i (inr (omega arith)) table_side
@@ -220,33 +220,33 @@ module _ (image : Known) (cluster table single_word : ℕ) (entry : L2Entry) (si
         (counts_stay old new image cluster table is ready below can spare whole b.outside grows small).first
 
     -- by the answer
-    module _ (next : tables.Kept) (told : Option (List ℕ)) (is_new : told ≡ Some new) where
+    module _ (next : tables.KeptTables) (told : Option (List ℕ)) (is_new : told ≡ Some new) where
       pub image_after : (result : Result (Unit {0}) DevStop) → OnOk result (next ≡ with_entry image.tables cluster single_word table) → OnErr result (next ≡ image.tables)
           → FileAfter next old told (entry_at image.tables cluster table) (cond (is_ok result) 8 0) table (table_len image.tables table)
           → OnOk result (table + table_len image.tables table ≤ length new) → IsImageOf new (record image { tables = next })
       image_after (Ok t) linked kept after long =
-          let P : tables.Kept → Type 0 = λ k. FileAfter k old told (entry_at image.tables cluster table) 8 table (table_len image.tables table) in
-          let Q : tables.Kept → Type 0 = λ k. IsImageOf new (record image { tables = k }) in
+          let P : tables.KeptTables → Type 0 = λ k. FileAfter k old told (entry_at image.tables cluster table) 8 table (table_len image.tables table) in
+          let Q : tables.KeptTables → Type 0 = λ k. IsImageOf new (record image { tables = k }) in
           subst Q (sym linked) (linked_image (behind (with_entry image.tables cluster single_word table) 8 told is_new (subst P linked after)) long)
       image_after (Err stop) linked kept after long =
-          let P : tables.Kept → Type 0 = λ k. FileAfter k old told (entry_at image.tables cluster table) 0 table (table_len image.tables table) in
-          let Q : tables.Kept → Type 0 = λ k. IsImageOf new (record image { tables = k }) in
+          let P : tables.KeptTables → Type 0 = λ k. FileAfter k old told (entry_at image.tables cluster table) 0 table (table_len image.tables table) in
+          let Q : tables.KeptTables → Type 0 = λ k. IsImageOf new (record image { tables = k }) in
           subst Q (sym kept) (stopped_image (behind image.tables 0 told is_new (subst P kept after)))
 
       pub disk_after : (t : Unit {0}) → next ≡ with_entry image.tables cluster single_word table
           → FileAfter next old told (entry_at image.tables cluster table) 8 table (table_len image.tables table)
           → table + table_len image.tables table ≤ length new → (bytes : List ℕ) → length bytes ≡ 65536 → Shows 65536 old entry bytes → IsDiskWith old new (cluster * 65536) bytes
       disk_after t linked after long bytes len shows =
-          let P : tables.Kept → Type 0 = λ k. FileAfter k old told (entry_at image.tables cluster table) 8 table (table_len image.tables table) in
+          let P : tables.KeptTables → Type 0 = λ k. FileAfter k old told (entry_at image.tables cluster table) 8 table (table_len image.tables table) in
           linked_disk (behind (with_entry image.tables cluster single_word table) 8 told is_new (subst P linked after)) long bytes len shows
 
       pub disk_kept : (stop : DevStop) → next ≡ image.tables → FileAfter next old told (entry_at image.tables cluster table) 0 table (table_len image.tables table) → IsSameDisk old new
       disk_kept stop kept after =
-          let P : tables.Kept → Type 0 = λ k. FileAfter k old told (entry_at image.tables cluster table) 0 table (table_len image.tables table) in
+          let P : tables.KeptTables → Type 0 = λ k. FileAfter k old told (entry_at image.tables cluster table) 0 table (table_len image.tables table) in
           stopped_disk (behind image.tables 0 told is_new (subst P kept after))
 
 -- a stop of a link, where all that it writes has room
-pub link_fault : {D : Type 0} (g : Ghosts D) (kept : tables.Kept) (cluster word table : ℕ) (r : Result (Unit {0}) DevStop) (a b : D) → link_end kept cluster table ≤ g.capacity a
+pub link_fault : {D : Type 0} (g : Ghosts D) (kept : tables.KeptTables) (cluster word table : ℕ) (r : Result (Unit {0}) DevStop) (a b : D) → link_end kept cluster table ≤ g.capacity a
     → Writes g (link_writes kept cluster word table) (stop_of r) a b → IfErr r TellsFault
 link_fault g kept cluster word table (Ok done) a b fits writes = tt
 link_fault g kept cluster word table (Err (Io count)) a b fits writes = tt

@@ -24,7 +24,7 @@ use Rattle.q2_format.specs.Created.{IsNewName, IsNewFormat}
 use Rattle.q2_format.specs.Renamed.{ending_place, format_bytes, format_room, name_fields, needs_ending, next_extension, new_name_offset}
 use Rattle.q2_format.specs.declared.header.Header.{Header}
 use Rattle.q2_format.specs.declared.header.Place.{Place}
-use Rattle.q2_format.specs.Bytes.{bytes_at, number_at}
+use Rattle.q2_format.specs.Bytes.{place_bytes, number_at}
 use Rattle.q2_format.proofs.ByPlace.{big_from-moved, bytes_from_places, length-bytes_at}
 use Rattle.q2_format.proofs.NamePlaces.{offset_within}
 use Rattle.q2_refs.proofs.Placing.{told_before}
@@ -389,7 +389,7 @@ module _ {D : Type 0} (g : Ghosts D) (image : Known) (name : Option (List ℕ)) 
       by_place : (file between : List ℕ) (n : ℕ) → n ≡ next_extension lh - 20 → between ≡ content.bytes_at file 20 n → length between ≡ n → between ≡ between_in file lh
       by_place file between n is read whole =
           bytes_from_places file between 20 (λ k below. ap (λ (b : List ℕ). get_or b k 0) read ∙ get_or-bytes_at file 20 n k (omega (arith, below, whole)))
-          ∙ ap (λ (m : ℕ). bytes_at file 20 m) (whole ∙ is)
+          ∙ ap (λ (m : ℕ). place_bytes file 20 m) (whole ∙ is)
 
   pub read_failed : {A : Type 0} (early : List Write) (needed : needs_ending lh ≡ true) (r : Result A DevStop) (stop : DevStop) (a b : D) → r ≡ Err stop → Reads g (count_of r) a b → IfErr r TellsFault
       → EndsWithFields g lh [] name (Some stop) a b

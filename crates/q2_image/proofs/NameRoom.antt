@@ -3,7 +3,7 @@ use Rattle.std.proofs.Common.{◌≡◌, ℕ, ◌+◌, ◌/◌, ◌<◌, ◌≤�
 use Rattle.std.proofs.lemmas.Bool.Decides.{nat_tests}
 use Rattle.std.specs.Option.{option_map_or}
 use Rattle.q2_format.specs.Sizes.{cluster_size}
-use Rattle.q2_format.specs.Header.{CanBeRead, LiesWithin, area_end, cluster_bits_of, header_length_of, header_of, header_refusal, name_of}
+use Rattle.q2_format.specs.Header.{CanBeRead, LiesWithin, area_end, cluster_bits_of, header_length_of, header_of, header_refusal, name_place_of}
 use Rattle.q2_format.specs.Renamed.{next_extension}
 use Rattle.q2_format.specs.Sound.{is_header_full}
 use Rattle.q2_format.specs.declared.header.Header.{Header}
@@ -42,7 +42,7 @@ file_list file len none room =
     let long = limits.header_whole in
     let w = walk_of file len none in
     let from = forward file (area_end file) w.q _ (header_length_of file) None w.walk in
-    let low = area_low file (name_of file) _ limits.name limits.header_in_cluster in
+    let low = area_low file (name_place_of file) _ limits.name limits.header_in_cluster in
     let middle = (room_in h room).0 in
     elim w.last [
       | inl last ↦

@@ -13,7 +13,7 @@ use Rattle.blk_base.proofs.Contents.{get_or-with_bytes_inside, get_or-with_bytes
 use Rattle.blk_base.proofs.WriteLists.{at_each_stop-none, at_each_stop-one}
 use Rattle.q2_format.specs.Bytes.{number_at}
 use Rattle.q2_format.specs.Created.{IsNewName, IsNewFormat}
-use Rattle.q2_format.specs.Header.{LiesWithin, header_of, header_length_of, name_of, area_end, extension_type, extension_length, extension_after}
+use Rattle.q2_format.specs.Header.{LiesWithin, header_of, header_length_of, name_place_of, area_end, extension_type, extension_length, extension_after}
 use Rattle.q2_format.specs.Renamed.{new_name_offset, format_room, format_bytes, takes_eight, list_area_end, replaced_format, ending_place}
 use Rattle.q2_format.specs.Sizes.{cluster_size}
 use Rattle.q2_format.specs.Sound.{IsSound}
@@ -46,7 +46,7 @@ beside_less from to upto None less beside = tt
 beside_less from to upto (Some name) less (inl ends) = inl (omega (arith, ends, less))
 beside_less from to upto (Some name) less (inr begins) = inr begins
 
-old_beside : (file : List ℕ) (from to : ℕ) → IsBeside from to (header_of file).name → IsBeside from to (name_of file)
+old_beside : (file : List ℕ) (from to : ℕ) → IsBeside from to (header_of file).name → IsBeside from to (name_place_of file)
 unfolding header_of
 old_beside file from to beside = beside
 

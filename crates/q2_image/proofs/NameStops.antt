@@ -13,7 +13,7 @@ use Rattle.blk_base.specs.declared.fault.DevStop.TheVariants.{Io, NoSpace}
 use Rattle.blk_base.proofs.WriteLists.{after_writes-append, at_each_stop-none, at_each_stop-one, at_each_stop-refused, at_each_stop-sector, at_each_stop-then, at_each_stop-weaker, cut-sector, part-split}
 use Rattle.q2_format.specs.Bytes.{number_at}
 use Rattle.q2_format.specs.Created.{IsNewName, IsNewFormat}
-use Rattle.q2_format.specs.Header.{LiesWithin, header_of, name_of}
+use Rattle.q2_format.specs.Header.{LiesWithin, header_of, name_place_of}
 use Rattle.q2_format.specs.Renamed.{ending_place, format_bytes, format_room, new_name_offset}
 use Rattle.q2_format.specs.Sound.{IsSound}
 use Rattle.q2_format.specs.declared.header.Header.{Header}
@@ -58,7 +58,7 @@ clear_name file sound =
     let header = cleared_header_of file (cleared file) (written_with file 88 (replicate 8 0)) sound in
     let place : (header_of (cleared file)).name ≡ (header_of file).name = ap (λ (h : Header). h.name) header in
     let limits = within_limits file (length file) (sound_header file sound) in
-    record { place = place; text = ap (text_at (cleared file)) place ∙ by_place (name_of file) _ _ _ limits.header_whole limits.name }
+    record { place = place; text = ap (text_at (cleared file)) place ∙ by_place (name_place_of file) _ _ _ limits.header_whole limits.name }
   where
     by_place : (name : Option Place) (low c limit : ℕ) → 104 ≤ low → IfSome name (λ name. LiesWithin low c name × (name.len ≤ limit)) → text_at (cleared file) name ≡ text_at file name
     by_place None low c limit long lies = refl

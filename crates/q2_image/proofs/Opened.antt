@@ -76,7 +76,7 @@ image_by_stages file = two (header_stops file (length file)) (first (table_refus
     two (Some r) b = refl
 
 -- where the words that were read are a file's, they name what the file names
-same_uses_by : (file : List ℕ) (h : Header) (table : List ℕ) (t : tables.Kept) (k : ℕ) → table ≡ refcount_table file h → IsTreeOf (cluster_size h.cluster_bits) t (active_tree file h)
+same_uses_by : (file : List ℕ) (h : Header) (table : List ℕ) (t : tables.KeptTables) (k : ℕ) → table ≡ refcount_table file h → IsTreeOf (cluster_size h.cluster_bits) t (active_tree file h)
     → uses file h k ≡ uses_in h table t.l1 t.words k
 unfolding uses
 same_uses_by file h table t k is tree =
@@ -84,11 +84,11 @@ same_uses_by file h table t k is tree =
     let structure = ap (λ (xs : List ℕ). structure_uses h xs k) is in
     omega arith
 
-pub same_uses : (file : List ℕ) (h : Header) (r : refs.Kept) (t : tables.Kept) (k : ℕ) → IsCountsOf file h r → IsTreeOf (cluster_size h.cluster_bits) t (active_tree file h)
+pub same_uses : (file : List ℕ) (h : Header) (r : refs.KeptRefs) (t : tables.KeptTables) (k : ℕ) → IsCountsOf file h r → IsTreeOf (cluster_size h.cluster_bits) t (active_tree file h)
     → uses file h k ≡ uses_in h r.table t.l1 t.words k
 same_uses file h r t k counts tree = same_uses_by file h r.table t k counts.table tree
 
-overlap_of_file : (file : List ℕ) (h : Header) (len : ℕ) (table : List ℕ) (t : tables.Kept) → table ≡ refcount_table file h → IsTreeOf (cluster_size h.cluster_bits) t (active_tree file h)
+overlap_of_file : (file : List ℕ) (h : Header) (len : ℕ) (table : List ℕ) (t : tables.KeptTables) → table ≡ refcount_table file h → IsTreeOf (cluster_size h.cluster_bits) t (active_tree file h)
     → overlap_stop (uses_in h table t.l1 t.words) (cluster_bound h len) ≡ option_map sound.Overlap (overlap file h len)
 unfolding overlap
 overlap_of_file file h len table t is tree =
@@ -98,7 +98,7 @@ overlap_of_file file h len table t is tree =
     lowest_alike (λ k. ltb 1 (u k)) (λ k. ltb 1 (uses file h k)) n (λ k below. ap (ltb 1) (sym (same_uses_by file h table t k is tree))) in
     rw twice refl
 
-names_of_file : (file : List ℕ) (h : Header) (len : ℕ) (r : refs.Kept) (t : tables.Kept) → IsCountsOf file h r → IsTreeOf (cluster_size h.cluster_bits) t (active_tree file h)
+names_of_file : (file : List ℕ) (h : Header) (len : ℕ) (r : refs.KeptRefs) (t : tables.KeptTables) → IsCountsOf file h r → IsTreeOf (cluster_size h.cluster_bits) t (active_tree file h)
     → cluster_bound h len ≤ length r.counts
     → names_stops h (uses_in h r.table t.l1 t.words) r.counts (cluster_bound h len) ≡ names_of file h len
 unfolding overlap uncounted
@@ -150,7 +150,7 @@ last_stage file h same header places words =
     image_by_stages file ∙ rw (header, placed, plain) (ap (λ (x : Header). names_of file x (length file)) same)
 
 -- what is named twice is judged before any refcount is known
-pub overlap_of_image : (file : List ℕ) (h : Header) (table : List ℕ) (t : tables.Kept) (stop : ImageStop) → header_of file ≡ h → header_stops file (length file) ≡ None
+pub overlap_of_image : (file : List ℕ) (h : Header) (table : List ℕ) (t : tables.KeptTables) (stop : ImageStop) → header_of file ≡ h → header_stops file (length file) ≡ None
     → place_stops h (length file) ≡ None → table_stops h (length file) (refcount_table file h) (active_tree file h) ≡ None
     → table ≡ refcount_table file h → IsTreeOf (cluster_size h.cluster_bits) t (active_tree file h)
     → Names (overlap_stop (uses_in h table t.l1 t.words) (cluster_bound h (length file))) stop → Names (image_refusal file) stop
@@ -159,14 +159,14 @@ overlap_of_image file h table t stop same header places words is tree names =
     (names_head (option_map sound.Overlap (overlap file h (length file))) _ stop
     (named_by _ _ stop (sym (overlap_of_file file h (length file) table t is tree)) names))
 
-pub last_names : (file : List ℕ) (h : Header) (r : refs.Kept) (t : tables.Kept) (stop : ImageStop) → header_of file ≡ h → header_stops file (length file) ≡ None
+pub last_names : (file : List ℕ) (h : Header) (r : refs.KeptRefs) (t : tables.KeptTables) (stop : ImageStop) → header_of file ≡ h → header_stops file (length file) ≡ None
     → place_stops h (length file) ≡ None → table_stops h (length file) (refcount_table file h) (active_tree file h) ≡ None
     → IsCountsOf file h r → IsTreeOf (cluster_size h.cluster_bits) t (active_tree file h) → cluster_bound h (length file) ≤ length r.counts
     → Names (names_stops h (uses_in h r.table t.l1 t.words) r.counts (cluster_bound h (length file))) stop → Names (image_refusal file) stop
 last_names file h r t stop same header places words counts tree room is =
     named_by _ _ stop (last_stage file h same header places words ∙ sym (names_of_file file h (length file) r t counts tree room)) is
 
-pub is_sound : (file : List ℕ) (h : Header) (r : refs.Kept) (t : tables.Kept) → header_of file ≡ h → header_stops file (length file) ≡ None
+pub is_sound : (file : List ℕ) (h : Header) (r : refs.KeptRefs) (t : tables.KeptTables) → header_of file ≡ h → header_stops file (length file) ≡ None
     → place_stops h (length file) ≡ None → table_stops h (length file) (refcount_table file h) (active_tree file h) ≡ None
     → IsCountsOf file h r → IsTreeOf (cluster_size h.cluster_bits) t (active_tree file h) → cluster_bound h (length file) ≤ length r.counts
     → names_stops h (uses_in h r.table t.l1 t.words) r.counts (cluster_bound h (length file)) ≡ None → IsSound file
@@ -198,7 +198,7 @@ l1_placed h len none =
     let test = refused_where-none (ltb h.l1_size (l1_entries_for (cluster_size h.cluster_bits) h.size) || is_misplaced (cluster_size h.cluster_bits) len h.l1_offset) h.l1_offset none in
     (first_false (ltb h.l1_size (l1_entries_for (cluster_size h.cluster_bits) h.size)) _ test, second_false (ltb h.l1_size (l1_entries_for (cluster_size h.cluster_bits) h.size)) _ test)
 
-pub are_placed : (h : Header) (len : ℕ) (table : List ℕ) (t : tables.Kept) → place_stops h len ≡ None → refcounts_refusal h len table ≡ None → IsLoaded h len t → ArePlaced h len table t.l1 t.words
+pub are_placed : (h : Header) (len : ℕ) (table : List ℕ) (t : tables.KeptTables) → place_stops h len ≡ None → refcounts_refusal h len table ≡ None → IsLoaded h len t → ArePlaced h len table t.l1 t.words
 are_placed h len table t places accepted loaded =
     let both = both_placed h len places in
     let C : ℕ → Type 0 = λ c. ((i : ℕ) → i < length t.l1 → is_misplaced c len (host_offset (get_or t.l1 i 0)) ≡ false) in
@@ -223,7 +223,7 @@ header_use : (h : Header) (table l1 words : List ℕ) → 1 ≤ uses_in h table 
 unfolding structure_uses
 header_use h table l1 words = omega arith
 
-first_counts : (h : Header) (len : ℕ) (r : refs.Kept) (t : tables.Kept) → IsWithinLimits h len
+first_counts : (h : Header) (len : ℕ) (r : refs.KeptRefs) (t : tables.KeptTables) → IsWithinLimits h len
     → names_stops h (uses_in h r.table t.l1 t.words) r.counts (cluster_bound h len) ≡ None → get_or r.counts 0 0 ≢ 0
 first_counts h len r t limits none =
     let u : ℕ → ℕ = uses_in h r.table t.l1 t.words in
@@ -237,7 +237,7 @@ first_counts h len r t limits none =
     first_named (u 0) (get_or r.counts 0 0) (header_use h r.table t.l1 t.words) (lowest-none (λ k. not (eqb (u k) 0) && eqb (get_or r.counts k 0) 0) n nowhere 0 some)
 
 -- the header has room for another name
-not_full : (h : Header) (len : ℕ) (r : refs.Kept) (t : tables.Kept) → names_stops h (uses_in h r.table t.l1 t.words) r.counts (cluster_bound h len) ≡ None → is_header_full h ≡ false
+not_full : (h : Header) (len : ℕ) (r : refs.KeptRefs) (t : tables.KeptTables) → names_stops h (uses_in h r.table t.l1 t.words) r.counts (cluster_bound h len) ≡ None → is_header_full h ≡ false
 not_full h len r t none =
     let u : ℕ → ℕ = uses_in h r.table t.l1 t.words in
     let n : ℕ = cluster_bound h len in
@@ -282,7 +282,7 @@ reach_covered h len limits =
 covered_by : (n m clusters table bits order : ℕ) → m ≡ n → table ≡ clusters * 8192 → bits ≡ 16 → order ≡ 4 → n ≤ clusters * 8192 * 32768 → m ≤ table * block_entries (cluster_size bits) order
 covered_by n m clusters table bits order same is b o h = rw (same, is, b, o) h
 
-pub is_open : (h : Header) (len : ℕ) (r : refs.Kept) (t : tables.Kept) → CanBeRead h len → IsWithinLimits h len → place_stops h len ≡ None → IsLoaded h len t
+pub is_open : (h : Header) (len : ℕ) (r : refs.KeptRefs) (t : tables.KeptTables) → CanBeRead h len → IsWithinLimits h len → place_stops h len ≡ None → IsLoaded h len t
     → HasCounts h len (counts_loaded h len) r → names_stops h (uses_in h r.table t.l1 t.words) r.counts (cluster_bound h len) ≡ None
     → IsOpen (record { header = h; tables = t; refs = record r { counts = take (reach_of h len) r.counts } })
 is_open h len r t readable limits places loaded counts names =

@@ -9,7 +9,7 @@ use Rattle.blk_base.specs.declared.device.Device.{Ghosts}
 use Rattle.blk_base.specs.declared.fault.DevStop.{DevStop}
 use Rattle.blk_base.proofs.Contents.{length-with_bytes}
 use Rattle.blk_base.proofs.WriteLists.{cut-bytes}
-use Rattle.q2_format.specs.Bytes.{bytes_at}
+use Rattle.q2_format.specs.Bytes.{place_bytes}
 use Rattle.q2_format.specs.Header.{header_of}
 use Rattle.q2_format.specs.Sizes.{cluster_size}
 use Rattle.q2_format.specs.declared.header.Header.{Header}
@@ -136,12 +136,12 @@ module _ (o n : Option (List ℕ)) (image : Known) (at : ℕ) (bytes : List ℕ)
       (spare_kept old (with_bytes old at bytes) (payload_tables old image at bytes (of_image old was) ready (idle old was) (whole old was) short small) k spare)
 
 pub told_written : (o n : Option (List ℕ)) (at : ℕ) (bytes : List ℕ) → n ≡ option_map (λ b. with_bytes b at bytes) o → length bytes ≡ 65536
-    → (file : List ℕ) → n ≡ Some file → bytes_at file at 65536 ≡ bytes
+    → (file : List ℕ) → n ≡ Some file → place_bytes file at 65536 ≡ bytes
 told_written o n at bytes is whole file told =
     let was = told_before (λ b. with_bytes b at bytes) o n file is told in
-    let P : List ℕ → Type 0 = λ f. bytes_at f at 65536 ≡ bytes in
-    let here : bytes_at (with_bytes was.0 at bytes) at 65536 ≡ bytes =
-    ap (bytes_at (with_bytes was.0 at bytes) at) (sym whole) ∙ bytes_at-written was.0 (with_bytes was.0 at bytes) at bytes (written_with was.0 at bytes) in
+    let P : List ℕ → Type 0 = λ f. place_bytes f at 65536 ≡ bytes in
+    let here : place_bytes (with_bytes was.0 at bytes) at 65536 ≡ bytes =
+    ap (place_bytes (with_bytes was.0 at bytes) at) (sym whole) ∙ bytes_at-written was.0 (with_bytes was.0 at bytes) at bytes (written_with was.0 at bytes) in
     subst P was.2 here
 
 part_short : (done : ℕ) (bytes : List ℕ) → length bytes ≤ 65536 → length (take done bytes) ≤ 65536
@@ -183,7 +183,7 @@ module _ {D : Type 0} (g : Ghosts D) (image : Known) (at : ℕ) (bytes : List �
   spare_written = told_spare (g.content a) (g.content b) image at some content of_image ready idle whole (part_short first.0 bytes short) small
 
 pub bytes_written : {D : Type 0} (g : Ghosts D) (at : ℕ) (bytes : List ℕ) (r : Result (Unit {0}) DevStop) (a b : D) → Writes g (write_of at bytes ∷ []) (stop_of r) a b
-    → length bytes ≡ 65536 → OnOk r ((file : List ℕ) → g.content b ≡ Some file → bytes_at file at 65536 ≡ bytes)
+    → length bytes ≡ 65536 → OnOk r ((file : List ℕ) → g.content b ≡ Some file → place_bytes file at 65536 ≡ bytes)
 bytes_written g at bytes (Ok done) a b writes whole =
     let wrote : Wrote g (write_of at bytes ∷ []) a b = subst (λ (ws : List Write). Wrote g ws a b) writes.part writes.wrote in
     told_written (g.content a) (g.content b) at bytes wrote.content whole

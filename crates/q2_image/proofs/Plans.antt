@@ -25,7 +25,7 @@ use Rattle.q2_image.proofs.Taken.{open_with_refs, ready_block_for, ready_taken}
 
 -- The clusters that are taken.
 
-has_entry : (r : refs.Kept) (n : ℕ) → HasRoom r → length r.counts ≤ 8388608 → n < length r.counts → HasEntry r n
+has_entry : (r : refs.KeptRefs) (n : ℕ) → HasRoom r → length r.counts ≤ 8388608 → n < length r.counts → HasEntry r n
 has_entry r n room few below =
     let bits = room.cluster_bits in
     let order = room.refcount_order in
@@ -35,10 +35,10 @@ has_entry r n room few below =
       small = rw (bits, order) (omega arith);
     }
 
-some_in_block : (r : refs.Kept) → HasRoom r → 0 < per_block r
+some_in_block : (r : refs.KeptRefs) → HasRoom r → 0 < per_block r
 some_in_block r room = let bits = room.cluster_bits in let order = room.refcount_order in rw (bits, order) (omega arith)
 
-pub next_free : (r : refs.Kept) → HasRoom r → free_cluster r 0 < length r.counts → free_cluster (after_take r) 0 ≡ free_cluster r 1
+pub next_free : (r : refs.KeptRefs) → HasRoom r → free_cluster r 0 < length r.counts → free_cluster (after_take r) 0 ≡ free_cluster r 1
 next_free r room below =
     let n : ℕ = free_cluster r 0 in
     let first = first_free_cluster r n refl (λ e. omega (arith, e, below)) in
@@ -50,7 +50,7 @@ next_free r room below =
 
 pub can_second : (image : Known) (capacity : ℕ) → IsOpen image → CanTake image 0 capacity → CanTake image 1 capacity → CanTake (with_taken image) 0 capacity
 can_second image capacity ready one two =
-    let r : refs.Kept = image.refs in
+    let r : refs.KeptRefs = image.refs in
     let next = next_free r ready.refcounts one.below in
     let len = (ready_taken r (free_cluster r 0)).reach in
     let ends = second_end r (free_cluster r 0) (free_cluster r 1) (has_entry r (free_cluster r 0) ready.refcounts ready.reach one.below) (has_entry r (free_cluster r 1) ready.refcounts ready.reach two.below) in
@@ -290,10 +290,10 @@ module _ (zeroth first second : Known) (cluster table host capacity : ℕ) (put 
   tables_second = ap (λ (k : Known). k.tables) put.second_is ∙ tables_if (needs_host first cluster) first
 
   pub below_first : cluster < length first.tables.words
-  below_first = let P : tables.Kept → Type 0 = λ t. cluster < length t.words in subst P (sym tables_first) put.below
+  below_first = let P : tables.KeptTables → Type 0 = λ t. cluster < length t.words in subst P (sym tables_first) put.below
 
   pub below_second : cluster < length second.tables.words
-  below_second = let P : tables.Kept → Type 0 = λ t. cluster < length t.words in subst P (sym tables_second) below_first
+  below_second = let P : tables.KeptTables → Type 0 = λ t. cluster < length t.words in subst P (sym tables_second) below_first
 
   pub can_first : needs_host first cluster ≡ true → CanTake first 0 capacity
   can_first =
@@ -322,14 +322,14 @@ module _ (zeroth first second : Known) (cluster table host capacity : ℕ) (put 
 
   pub table_facts : IsTableOffset second cluster table
   table_facts =
-      let T : tables.Kept → Type 0 = λ t. CanLink t cluster table in
+      let T : tables.KeptTables → Type 0 = λ t. CanLink t cluster table in
       let P : ℕ → Type 0 = IsTableOffset zeroth cluster in
       let at = subst P (sym put.table_is) (table_offset zeroth cluster capacity put.ready put.below put.fits.entry.table) in
       record { can = subst T (sym (tables_second ∙ tables_first)) at.can; whole = at.whole; near = at.near }
 
   pub link_fits : link_end second.tables cluster table ≤ capacity
   link_fits =
-      let P : tables.Kept → Type 0 = λ t. link_end t cluster table ≤ capacity in
+      let P : tables.KeptTables → Type 0 = λ t. link_end t cluster table ≤ capacity in
       let Q : ℕ → Type 0 = λ t. link_end zeroth.tables cluster t ≤ capacity in
       subst P (sym (tables_second ∙ tables_first)) (subst Q (sym put.table_is) put.fits.entry.entry)
 
@@ -338,7 +338,7 @@ module _ (zeroth first second : Known) (cluster table host capacity : ℕ) (put 
   idle_host_there test =
       let there = idle_there first cluster test in
       let own : host ≡ idle_host (entry_in first cluster) = put.host_is ∙ ap (λ (b : Bool). cond b (taken_at first 0) (idle_host (entry_in first cluster))) test in
-      let entries = ap (λ (t : tables.Kept). l2_entry (get_or t.words cluster 0)) tables_second in
+      let entries = ap (λ (t : tables.KeptTables). l2_entry (get_or t.words cluster 0)) tables_second in
       (entries ∙ there.0 ∙ ap Zero (sym own), omega (arith, own, there.1))
 
   -- one that is taken is whole
@@ -362,7 +362,7 @@ module _ (zeroth first second : Known) (cluster table host capacity : ℕ) (put 
       → OnOk result (needs_host zeroth cluster ≡ true → is_single (get_or next.tables.words cluster 0) ≡ true)
   single_after next (Ok t) header counts entry spelled = λ needs.
       let test = ap (λ (k : Known). needs_host k cluster) put.first_is ∙ needs_if (needs_table zeroth cluster) zeroth cluster ∙ needs in
-      let C : Header → refs.Kept → Bool = λ h r. counts_once (record { header = h; tables = next.tables; refs = r }) host in
+      let C : Header → refs.KeptRefs → Bool = λ h r. counts_once (record { header = h; tables = next.tables; refs = r }) host in
       let once : counts_once next host ≡ true = ap (λ (h : Header). C h next.refs) header ∙ ap (C second.header) counts ∙ taken_once test in
       let word = spelled ∙ ap (λ (e : L2Entry). l2_spelling e (counts_once next (host_of e))) entry ∙ ap (l2_spelling (Host host)) once in
       ap is_single word ∙ single_of_spelling (Host host) true host_facts.writable
@@ -396,11 +396,11 @@ module _ (zeroth first : Known) (cluster table capacity : ℕ) (ready : IsOpen z
   zero_tables = ap (λ (k : Known). k.tables) first_is ∙ tables_if (needs_table zeroth cluster) zeroth
 
   pub zero_below : cluster < length first.tables.words
-  zero_below = let P : tables.Kept → Type 0 = λ t. cluster < length t.words in subst P (sym zero_tables) below
+  zero_below = let P : tables.KeptTables → Type 0 = λ t. cluster < length t.words in subst P (sym zero_tables) below
 
   pub zero_table : IsTableOffset first cluster table
   zero_table =
-      let T : tables.Kept → Type 0 = λ t. CanLink t cluster table in
+      let T : tables.KeptTables → Type 0 = λ t. CanLink t cluster table in
       let P : ℕ → Type 0 = IsTableOffset zeroth cluster in
       let at = subst P (sym table_is) (table_offset zeroth cluster capacity ready below fits.table) in
       record { can = subst T (sym zero_tables) at.can; whole = at.whole; near = at.near }

@@ -67,7 +67,7 @@ module _ (file mid : List ℕ) (image : Known) (capacity : ℕ) (between : IsBet
   step : IsInStep mid image.refs
   step = step_of mid image between.is
 
-  by_holds : (now : List ℕ) (r : refs.Kept) → Holds mid now r → StaysReady image.refs r → IsBetween file now (record image { refs = r })
+  by_holds : (now : List ℕ) (r : refs.KeptRefs) → Holds mid now r → StaysReady image.refs r → IsBetween file now (record image { refs = r })
   by_holds now r holds stays =
       let ready = open_with_refs image r between.ready stays in
       record {
@@ -80,7 +80,7 @@ module _ (file mid : List ℕ) (image : Known) (capacity : ℕ) (between : IsBet
   stopped : (made : List Write) → IsPart IsTorn (allocation_writes image.refs n) made → IsAsBefore file (after_writes mid made)
   stopped made part =
       let stop : DevStop = Io 0 in
-      let block : refs.Kept = with_block_for image.refs n in
+      let block : refs.KeptRefs = with_block_for image.refs n in
       elim (part-split IsTorn (block_writes_for image.refs n) (count_write (with_block_for image.refs n) n ∷ []) made part) [
         | inl sooner ↦
             as_before file (after_writes mid made) image
@@ -326,7 +326,7 @@ module _ (file m0 : List ℕ) (image : Known) (cluster : ℕ) (zeros : List ℕ)
       let facts = zero_table image one_z cluster table_z capacity between.ready below fits refl refl in
       let ready = zero_open image one_z cluster table_z capacity between.ready below fits refl refl in
       let inside = zero_below image one_z cluster table_z capacity between.ready below fits refl refl in
-      let same_entry = ap (λ (t : tables.Kept). l2_entry (get_or t.words cluster 0)) (sym (zero_tables image one_z cluster table_z capacity between.ready below fits refl refl)) in
+      let same_entry = ap (λ (t : tables.KeptTables). l2_entry (get_or t.words cluster 0)) (sym (zero_tables image one_z cluster table_z capacity between.ready below fits refl refl)) in
       let kept = kept_host one_z cluster host_z (entry_in image cluster) ready inside refl same_entry in
       steps_then P (table_steps image cluster) (entry_steps one_z cluster (Zero host_z) table_z) m0
       (weaker file (cluster * 65536) zeros (writes_of_steps (table_steps image cluster)) m0 first_z.stops)

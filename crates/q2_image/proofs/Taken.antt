@@ -37,14 +37,14 @@ first_set xs n some = elim (cases_eq n 0) [
 ]
 
 -- refcounts of the same shape, of which the first is above 0
-pub record StaysReady (old new : refs.Kept) : Type 0 where
+pub record StaysReady (old new : refs.KeptRefs) : Type 0 where
   pub cluster_bits : new.cluster_bits ≡ old.cluster_bits
   pub refcount_order : new.refcount_order ≡ old.refcount_order
   pub table : length new.table ≡ length old.table
   pub reach : length new.counts ≡ length old.counts
   pub first : get_or old.counts 0 0 ≢ 0 → get_or new.counts 0 0 ≢ 0
 
-ready_block : (r : refs.Kept) (i : ℕ) → StaysReady r (with_block r i)
+ready_block : (r : refs.KeptRefs) (i : ℕ) → StaysReady r (with_block r i)
 ready_block r i = record {
   cluster_bits = refl;
   refcount_order = refl;
@@ -53,13 +53,13 @@ ready_block r i = record {
   first = first_set r.counts (place_of_block r i);
 }
 
-pub ready_same : (r : refs.Kept) → StaysReady r r
+pub ready_same : (r : refs.KeptRefs) → StaysReady r r
 ready_same r = record { cluster_bits = refl; refcount_order = refl; table = refl; reach = refl; first = λ some. some }
 
-pub ready_block_for : (r : refs.Kept) (n : ℕ) → StaysReady r (with_block_for r n)
+pub ready_block_for : (r : refs.KeptRefs) (n : ℕ) → StaysReady r (with_block_for r n)
 ready_block_for r n =
     let i : ℕ = n / per_block r in
-    let P : refs.Kept → Type 0 = StaysReady r in
+    let P : refs.KeptRefs → Type 0 = StaysReady r in
     elim (cases_eq (block_offset (slice_index r.table i)) 0) [
       | inl absent ↦
           let test = eq-eqb (block_offset (slice_index r.table i)) 0 absent in
@@ -71,7 +71,7 @@ ready_block_for r n =
           subst P (sym same) (ready_same r)
     ]
 
-pub ready_taken : (r : refs.Kept) (n : ℕ) → StaysReady r (with_one (with_block_for r n) n)
+pub ready_taken : (r : refs.KeptRefs) (n : ℕ) → StaysReady r (with_one (with_block_for r n) n)
 ready_taken r n =
     let block = ready_block_for r n in
     record {
@@ -82,7 +82,7 @@ ready_taken r n =
       first = λ some. first_set (with_block_for r n).counts n (block.first some);
     }
 
-pub open_with_refs : (image : Known) (r : refs.Kept) → IsOpen image → StaysReady image.refs r → IsOpen (record image { refs = r })
+pub open_with_refs : (image : Known) (r : refs.KeptRefs) → IsOpen image → StaysReady image.refs r → IsOpen (record image { refs = r })
 open_with_refs image r ready stays =
     let same = stays.reach in
     let bits = stays.cluster_bits in
@@ -113,11 +113,11 @@ open_with_refs image r ready stays =
     }
 
 -- whatever the allocation answers
-pub ready_result : (r next : refs.Kept) (result : Result ℕ RefStop) → IfOk result (λ n. next ≡ with_one (with_block_for r n) n)
+pub ready_result : (r next : refs.KeptRefs) (result : Result ℕ RefStop) → IfOk result (λ n. next ≡ with_one (with_block_for r n) n)
     → OnErr result ((next ≡ r) ⊎ (next ≡ with_block_for r (free_cluster r 0))) → StaysReady r next
-ready_result r next (Ok n) ok err = let P : refs.Kept → Type 0 = StaysReady r in subst P (sym ok) (ready_taken r n)
-ready_result r next (Err stop) ok (inl same) = let P : refs.Kept → Type 0 = StaysReady r in subst P (sym same) (ready_same r)
-ready_result r next (Err stop) ok (inr block) = let P : refs.Kept → Type 0 = StaysReady r in subst P (sym block) (ready_block_for r (free_cluster r 0))
+ready_result r next (Ok n) ok err = let P : refs.KeptRefs → Type 0 = StaysReady r in subst P (sym ok) (ready_taken r n)
+ready_result r next (Err stop) ok (inl same) = let P : refs.KeptRefs → Type 0 = StaysReady r in subst P (sym same) (ready_same r)
+ready_result r next (Err stop) ok (inr block) = let P : refs.KeptRefs → Type 0 = StaysReady r in subst P (sym block) (ready_block_for r (free_cluster r 0))
 
 -- The file.
 
@@ -130,7 +130,7 @@ step_of file image is =
     let P : Header → Type 0 = λ h. IsCountsOf file h image.refs in
     record { sound = is.sound; counts = subst P (sym is.header) is.refs }
 
-module _ (old new : List ℕ) (image : Known) (r : refs.Kept) (is : IsImageOf old image) (keeps : KeepsCounted old new (header_of old)) (step : IsInStep new r) where
+module _ (old new : List ℕ) (image : Known) (r : refs.KeptRefs) (is : IsImageOf old image) (keeps : KeepsCounted old new (header_of old)) (step : IsInStep new r) where
   pub image_taken : IsImageOf new (record image { refs = r })
   image_taken =
       let P : Header → Type 0 = λ h. IsCountsOf new h r in
@@ -180,7 +180,7 @@ pub by_size : (n size : ℕ) → size ≡ 65536 → n * size / 65536 ≡ n
 by_size n size is = rw is (omega arith)
 
 -- a stop of the device, where all that is written has room
-pub taken_fault : {D : Type 0} (g : Ghosts D) (kept : refs.Kept) (stop : DevStop) (a b : D) → end_of_allocation kept (free_cluster kept 0) ≤ g.capacity a
+pub taken_fault : {D : Type 0} (g : Ghosts D) (kept : refs.KeptRefs) (stop : DevStop) (a b : D) → end_of_allocation kept (free_cluster kept 0) ≤ g.capacity a
     → Writes g (allocation_writes kept (free_cluster kept 0)) (Some stop) a b → TellsFault stop
 taken_fault g kept (Io count) a b fits writes = tt
 taken_fault g kept NoSpace a b fits writes = let beyond = writes.cause.0 in absurd (omega (arith, fits, beyond))

@@ -98,7 +98,7 @@ plain_parts true b h = absurd (cc)
 plain_parts false true h = absurd (cc)
 plain_parts false false h = (refl, refl)
 
-module _ (c len : ℕ) (tree : Tree) (kept : tables.Kept) (is : IsTreeOf c kept tree) where
+module _ (c len : ℕ) (tree : Tree) (kept : tables.KeptTables) (is : IsTreeOf c kept tree) where
   in_words : (q : ℕ) → q < guest_clusters c tree → q < length kept.words
   in_words q below = let entries = is.entries in let l1 = ap length is.l1 in rw (entries, l1) below
 
@@ -125,7 +125,7 @@ module _ (c len : ℕ) (tree : Tree) (kept : tables.Kept) (is : IsTreeOf c kept 
       ∙ (plain_parts (is_compressed (get_or kept.words q 0)) (has_reserved_in_l2 (get_or kept.words q 0)) (plain q (in_words q below))).0)
 
 -- What the kept words of a changed tree name.
-pub record FitsWith (old new : List ℕ) (h : Header) (kept : tables.Kept) : Type 0 where
+pub record FitsWith (old new : List ℕ) (h : Header) (kept : tables.KeptTables) : Type 0 where
   pub tables : (i : ℕ) → i < length kept.l1 → is_misplaced (cluster_size h.cluster_bits) (length new) (host_offset (get_or kept.l1 i 0)) ≡ false
   pub hosts : (q : ℕ) → q < length kept.words → is_misplaced (cluster_size h.cluster_bits) (length new) (own_offset (get_or kept.words q 0)) ≡ false
   pub l1_bits : (i : ℕ) → i < length kept.l1 → has_reserved_in_l1 (get_or kept.l1 i 0) ≡ false
@@ -133,7 +133,7 @@ pub record FitsWith (old new : List ℕ) (h : Header) (kept : tables.Kept) : Typ
   pub once : (k : ℕ) → uses_in h (refcount_table old h) kept.l1 kept.words k ≤ 1
   pub counted : (k : ℕ) → uses_in h (refcount_table old h) kept.l1 kept.words k ≤ refcount_of old h k
 
-module _ (old new : List ℕ) (image : Known) (kept : tables.Kept) (is : IsImageOf old image) (keeps : KeepsCounts old new)
+module _ (old new : List ℕ) (image : Known) (kept : tables.KeptTables) (is : IsImageOf old image) (keeps : KeepsCounts old new)
     (grows : length old ≤ length new) (small : length new ≤ 549755813888)
     (tree : IsTreeOf (cluster_size image.header.cluster_bits) kept (active_tree new image.header)) (fits : FitsWith old new image.header kept) where
   abbrev x : Header

@@ -18,7 +18,7 @@ use Rattle.q2_image.specs.Image.{Known, IsImageOf}
 use Rattle.q2_image.proofs.Opened.{header_names, place_names, word_names, overlap_of_image, last_names, is_sound}
 
 -- what is so of a file's header, its tables' places and words, up to their last refusals
-pub record IsLoadedFrom (file : List ℕ) (h : Header) (len : ℕ) (r : refs.Kept) (t : tables.Kept) : Type 0 where
+pub record IsLoadedFrom (file : List ℕ) (h : Header) (len : ℕ) (r : refs.KeptRefs) (t : tables.KeptTables) : Type 0 where
   size : len ≡ length file
   header : header_of file ≡ h
   headers : header_stops file len ≡ None
@@ -29,14 +29,14 @@ pub record IsLoadedFrom (file : List ℕ) (h : Header) (len : ℕ) (r : refs.Kep
   room : cluster_bound h len ≤ length r.counts
 
 -- what a device told of a file, whose size was asked for before
-pub read_from : (file : List ℕ) (h : Header) (first then : ℕ) (table : List ℕ) (t : tables.Kept) → then ≡ first → first ≡ length file → header_of file ≡ h → header_stops file first ≡ None
+pub read_from : (file : List ℕ) (h : Header) (first then : ℕ) (table : List ℕ) (t : tables.KeptTables) → then ≡ first → first ≡ length file → header_of file ≡ h → header_stops file first ≡ None
     → table_stops h then (refcount_table file h) (active_tree file h) ≡ None → table ≡ refcount_table file h → IsTreeOf (cluster_size h.cluster_bits) t (active_tree file h) → IsReadFrom file h table t
 read_from file h first then table t same size header headers words is tree =
     let H : ℕ → Type 0 = λ n. header_stops file n ≡ None in
     let W : ℕ → Type 0 = λ n. table_stops h n (refcount_table file h) (active_tree file h) ≡ None in
     record { header = header; headers = subst H size headers; stops = subst W (same ∙ size) words; same = is; tree = tree }
 
-pub loaded_from : (file : List ℕ) (h : Header) (len size : ℕ) (table : List ℕ) (r : refs.Kept) (t : tables.Kept) → len ≡ size → size ≡ length file → place_stops h size ≡ None
+pub loaded_from : (file : List ℕ) (h : Header) (len size : ℕ) (table : List ℕ) (r : refs.KeptRefs) (t : tables.KeptTables) → len ≡ size → size ≡ length file → place_stops h size ≡ None
     → IsReadFrom file h table t → IsCountsOf file h r → HasCounts h size (counts_loaded h size) r → IsLoadedFrom file h len r t
 loaded_from file h len size table r t asked whole places read counts has =
     let H : ℕ → Type 0 = λ n. header_stops file n ≡ None in
@@ -59,7 +59,7 @@ loaded_from file h len size table r t asked whole places read counts has =
     }
 
 -- a cluster that is named twice, by the words that were read
-pub overlap_named : (file : List ℕ) (h : Header) (len size : ℕ) (table : List ℕ) (t : tables.Kept) (stop : ImageStop) → len ≡ size → size ≡ length file → place_stops h size ≡ None
+pub overlap_named : (file : List ℕ) (h : Header) (len size : ℕ) (table : List ℕ) (t : tables.KeptTables) (stop : ImageStop) → len ≡ size → size ≡ length file → place_stops h size ≡ None
     → IsReadFrom file h table t → Names (overlap_stop (uses_in h table t.l1 t.words) (cluster_bound h len)) stop → Names (image_refusal file) stop
 overlap_named file h len size table t stop asked whole places read is =
     let P : ℕ → Type 0 = λ n. place_stops h n ≡ None in
@@ -67,7 +67,7 @@ overlap_named file h len size table t stop asked whole places read is =
     overlap_of_image file h table t stop read.header read.headers (subst P whole places) read.stops read.same read.tree (subst O (asked ∙ whole) is)
 
 -- the last refusals, by the kept words
-abbrev pub last_of : Header → ℕ → refs.Kept → tables.Kept → Option Refusal
+abbrev pub last_of : Header → ℕ → refs.KeptRefs → tables.KeptTables → Option Refusal
 last_of h len r t = names_stops h (uses_in h r.table t.l1 t.words) r.counts (cluster_bound h len)
 
 pub header_named : (file : List ℕ) (len : ℕ) (stop : ImageStop) → len ≡ length file → Names (header_stops file len) stop → Names (image_refusal file) stop
@@ -87,14 +87,14 @@ word_named file h len stop size same header places is =
     let at = subst P size (header, places, is) in
     word_names file h stop same at.0 at.1 at.2
 
-abbrev AtEnd : List ℕ → Header → refs.Kept → tables.Kept → ℕ → Type 0
+abbrev AtEnd : List ℕ → Header → refs.KeptRefs → tables.KeptTables → ℕ → Type 0
 AtEnd file h r t n = (header_stops file n ≡ None) × (place_stops h n ≡ None) × (table_stops h n (refcount_table file h) (active_tree file h) ≡ None) × (cluster_bound h n ≤ length r.counts)
 
-at_end : (file : List ℕ) (h : Header) (len : ℕ) (r : refs.Kept) (t : tables.Kept) → IsLoadedFrom file h len r t → AtEnd file h r t (length file)
+at_end : (file : List ℕ) (h : Header) (len : ℕ) (r : refs.KeptRefs) (t : tables.KeptTables) → IsLoadedFrom file h len r t → AtEnd file h r t (length file)
 at_end file h len r t from = let P : ℕ → Type 0 = AtEnd file h r t in subst P from.size (from.headers, from.places, from.words, from.room)
 
 -- the refusal of a file, by the last stage's answer
-pub last_judged : {A : Type 0} (file : List ℕ) (h : Header) (len : ℕ) (r : refs.Kept) (t : tables.Kept) (result : Result A ImageStop) → IsLoadedFrom file h len r t
+pub last_judged : {A : Type 0} (file : List ℕ) (h : Header) (len : ℕ) (r : refs.KeptRefs) (t : tables.KeptTables) (result : Result A ImageStop) → IsLoadedFrom file h len r t
     → Judges (last_of h len r t) result → Judges (image_refusal file) result
 last_judged file h len r t (Ok image) from none =
     let at = at_end file h len r t from in
@@ -106,7 +106,7 @@ last_judged file h len r t (Err stop) from is =
     last_names file h r t stop from.header at.0 at.1 at.2 from.counts from.tree at.3 (subst P from.size is)
 
 -- fewer counts are still the file's
-fewer_counts : (file : List ℕ) (h : Header) (r : refs.Kept) (n : ℕ) → IsCountsOf file h r → IsCountsOf file h (record r { counts = take n r.counts })
+fewer_counts : (file : List ℕ) (h : Header) (r : refs.KeptRefs) (n : ℕ) → IsCountsOf file h r → IsCountsOf file h (record r { counts = take n r.counts })
 fewer_counts file h r n counts = record {
   shape = record { cluster_bits = counts.shape.cluster_bits; refcount_order = counts.shape.refcount_order; table_offset = counts.shape.table_offset };
   table = counts.table;
@@ -114,10 +114,10 @@ fewer_counts file h r n counts = record {
 }
 
 -- the image of what was loaded
-abbrev pub image_with : Header → ℕ → refs.Kept → tables.Kept → Known
+abbrev pub image_with : Header → ℕ → refs.KeptRefs → tables.KeptTables → Known
 image_with h len r t = record { header = h; tables = t; refs = record r { counts = take (reach_of h len) r.counts } }
 
-pub is_image : (file : List ℕ) (h : Header) (len : ℕ) (r : refs.Kept) (t : tables.Kept) → IsLoadedFrom file h len r t → last_of h len r t ≡ None → IsImageOf file (image_with h len r t)
+pub is_image : (file : List ℕ) (h : Header) (len : ℕ) (r : refs.KeptRefs) (t : tables.KeptTables) → IsLoadedFrom file h len r t → last_of h len r t ≡ None → IsImageOf file (image_with h len r t)
 is_image file h len r t from none =
     let at = at_end file h len r t from in
     let P : ℕ → Type 0 = λ n. last_of h n r t ≡ None in
@@ -128,13 +128,13 @@ is_image file h len r t from none =
       refs = fewer_counts file h r (reach_of h len) from.counts;
     }
 
-pub ok_image : {T : List ℕ → Type 0} (h : Header) (len : ℕ) (r : refs.Kept) (t : tables.Kept) (result : Result Known ImageStop)
+pub ok_image : {T : List ℕ → Type 0} (h : Header) (len : ℕ) (r : refs.KeptRefs) (t : tables.KeptTables) (result : Result Known ImageStop)
     → ((file : List ℕ) → T file → IsLoadedFrom file h len r t) → Judges (last_of h len r t) result → IfOk result (λ image. image ≡ image_with h len r t)
     → IfOk result (λ image. (file : List ℕ) → T file → IsImageOf file image)
 ok_image h len r t (Ok image) from none is = λ file told. let P : Known → Type 0 = λ k. IsImageOf file k in subst P (sym is) (is_image file h len r t (from file told) none)
 ok_image h len r t (Err stop) from none is = tt
 
-pub ok_reach : (h : Header) (len : ℕ) (r : refs.Kept) (t : tables.Kept) (result : Result Known ImageStop) → length r.counts ≡ counts_loaded h len
+pub ok_reach : (h : Header) (len : ℕ) (r : refs.KeptRefs) (t : tables.KeptTables) (result : Result Known ImageStop) → length r.counts ≡ counts_loaded h len
     → IfOk result (λ image. image ≡ image_with h len r t) → IfOk result (λ image. length image.refs.counts ≡ reach_of image.header len)
 ok_reach h len r t (Ok image) count is =
     let P : Known → Type 0 = λ k. length k.refs.counts ≡ reach_of k.header len in

@@ -10,7 +10,7 @@ use Rattle.blk_base.specs.declared.device.Stop.{Stop}
 use Rattle.blk_base.specs.declared.device.Stop.TheVariants as why
 use Rattle.blk_base.specs.declared.fault.DevStop.{DevStop}
 use Rattle.blk_base.specs.declared.fault.DevStop.TheVariants.{Io, NoSpace}
-use Rattle.q2_format.specs.Bytes.{number_at, bytes_at}
+use Rattle.q2_format.specs.Bytes.{number_at, place_bytes}
 use Rattle.q2_format.specs.Header.{header_of}
 use Rattle.q2_format.specs.Renamed.{new_name_offset, format_room, format_bytes, name_fields, needs_ending, next_extension, replaced_format, renamed}
 use Rattle.q2_format.specs.Sizes.{cluster_size}
@@ -55,7 +55,7 @@ early_writes image n name format =
 
 -- what stands in a file between the fields of the name and the place for an ending extension
 abbrev pub between_in : List ℕ → Header → List ℕ
-between_in file h = bytes_at file 20 (next_extension h - 20)
+between_in file h = place_bytes file 20 (next_extension h - 20)
 
 -- the fields of the name; where the list needs an ending extension, what stands in front of it and that
 abbrev pub last_bytes : Header → List ℕ → Option (List ℕ) → List ℕ

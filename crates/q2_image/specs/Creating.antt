@@ -8,7 +8,7 @@ use Rattle.blk_base.specs.Writes.{write_of}
 use Rattle.blk_base.specs.declared.device.Device.{Ghosts}
 use Rattle.blk_base.specs.declared.fault.DevStop.{DevStop}
 use Rattle.blk_base.specs.declared.fault.DevStop.TheVariants as device
-use Rattle.q2_format.specs.Bytes.{bytes_at}
+use Rattle.q2_format.specs.Bytes.{place_bytes}
 use Rattle.q2_format.specs.Created.{Creation, AreZeros, HasCreatedHeader, HasCreatedTable, HasCreatedCounts}
 use Rattle.q2_format.specs.Sound.{InHeader, image_refusal}
 use Rattle.q2_format.specs.declared.header.HeaderStop.TheVariants.{Magic}
@@ -56,7 +56,7 @@ pub record LacksHeader (file : List ℕ) : Type 0 where
 
 -- the text at a place of a file, where there is one
 abbrev pub text_at : List ℕ → Option Place → Option (List ℕ)
-text_at file place = option_map (λ (place : Place). bytes_at file place.at place.len) place
+text_at file place = option_map (λ (place : Place). place_bytes file place.at place.len) place
 
 -- Which writes make an image.
 

@@ -17,8 +17,8 @@ use Rattle.q2_refs.specs.Kept as refs
 -- what is known of an image: its header, and its tables and refcounts as they are kept
 pub record Known : Type 0 where
   pub header : Header
-  pub tables : tables.Kept
-  pub refs : refs.Kept
+  pub tables : tables.KeptTables
+  pub refs : refs.KeptRefs
 
 -- the bytes of its clusters, and how many clusters its disk has
 abbrev pub cluster_size_in : Known → ℕ
@@ -43,7 +43,7 @@ abbrev pub entry_in : Known → ℕ → L2Entry
 entry_in image cluster = l2_entry (word_in image cluster)
 
 -- refcounts in the shape that is supported: the table has an entry for each
-pub record HasRoom (kept : refs.Kept) : Type 0 where
+pub record HasRoom (kept : refs.KeptRefs) : Type 0 where
   pub cluster_bits : kept.cluster_bits ≡ 16
   pub refcount_order : kept.refcount_order ≡ 4
   pub covered : length kept.counts ≤ length kept.table * per_block kept

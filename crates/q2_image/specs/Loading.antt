@@ -8,7 +8,7 @@ use Rattle.q2_format.specs.References.{cluster_bound, reach_of}
 use Rattle.q2_format.specs.Sound.{Refusal, bad_block, bad_l2_table, bad_host, reserved_in_l1, reserved_in_l2, reserved_in_refcount_table, compressed_cluster}
 use Rattle.q2_format.specs.Sound as sound
 use Rattle.q2_format.specs.declared.header.Header.{Header}
-use Rattle.q2_refs.specs.Kept.{Kept, IsShapedBy, AreWholeClusters, BeginBelow}
+use Rattle.q2_refs.specs.Kept.{KeptRefs, IsShapedBy, AreWholeClusters, BeginBelow}
 use Rattle.q2_refs.specs.Loading.{table_entries, refcounts_refusal}
 use Rattle.q2_tables.specs.Kept.{IsTreeOf}
 use Rattle.q2_tables.specs.Kept as tables
@@ -52,7 +52,8 @@ IsTableAnswer h len (Read words) = IsTableRead h len words.items
 IsTableAnswer h len (Reserved index) = Unit {0}
 
 -- A file whose header and tables were read: none of their refusals holds, and the words are the file's.
-pub record IsReadFrom (file : List ℕ) (h : Header) (table : List ℕ) (t : tables.Kept) : Type 0 where
+pub record IsReadFrom (file : List ℕ) (h : Header) (table : List ℕ) (t : tables.KeptTables)
+    : Type 0 where
   pub header : header_of file ≡ h
   pub headers : header_stops file (length file) ≡ None
   pub stops : table_stops h (length file) (refcount_table file h) (active_tree file h) ≡ None
@@ -60,7 +61,7 @@ pub record IsReadFrom (file : List ℕ) (h : Header) (table : List ℕ) (t : tab
   pub tree : IsTreeOf (cluster_size h.cluster_bits) t (active_tree file h)
 
 -- the refcounts of a header, whether or not the device tells its bytes
-pub record HasCounts (h : Header) (len count : ℕ) (refs : Kept) : Type 0 where
+pub record HasCounts (h : Header) (len count : ℕ) (refs : KeptRefs) : Type 0 where
   pub shape : IsShapedBy h refs
   pub table : length refs.table ≡ table_entries h
   pub reach : length refs.counts ≡ count

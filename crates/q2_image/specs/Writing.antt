@@ -11,7 +11,7 @@ use Rattle.blk_base.specs.declared.fault.DevStop.TheVariants.{Io, NoSpace}
 use Rattle.q2_format.specs.Entry.{host_of, l2_spelling}
 use Rattle.q2_format.specs.Header.{header_of}
 use Rattle.q2_format.specs.Contents.{guest_byte}
-use Rattle.q2_format.specs.Bytes.{bytes_at}
+use Rattle.q2_format.specs.Bytes.{place_bytes}
 use Rattle.q2_format.specs.References.{uses, own_offset}
 use Rattle.q2_format.specs.Tables.{refcount_of}
 use Rattle.q2_format.specs.declared.entries.L2Entry.{L2Entry}
@@ -97,7 +97,7 @@ pub record AreClusterZeros (c : ℕ) (bytes : List ℕ) : Type 0 where
 abbrev pub Shows : ℕ → List ℕ → L2Entry → List ℕ → Type 0
 Shows c file Unallocated bytes = ⊥
 Shows c file (Zero host) bytes = (i : ℕ) → slice_index bytes i ≡ 0
-Shows c file (Host host) bytes = bytes_at file host c ≡ bytes
+Shows c file (Host host) bytes = place_bytes file host c ≡ bytes
 Shows c file Compressed bytes = ⊥
 Shows c file Reserved bytes = ⊥
 
@@ -135,7 +135,7 @@ host_for image cluster =
     else idle_host (entry_in image cluster)
 
 -- the refcounts after the next cluster was taken
-abbrev pub after_take : refs.Kept → refs.Kept
+abbrev pub after_take : refs.KeptRefs → refs.KeptRefs
 after_take r = with_one (with_block_for r (free_cluster r 0)) (free_cluster r 0)
 
 -- the image after the next cluster was taken

@@ -7,7 +7,7 @@ ghost use Rattle.std.specs.Str.{IsUtf8};
 ghost use Rattle.blk_base.specs.Device.{CountsFault, Reads, Untouched, Writes, stop_of, fault_of};
 ghost use Rattle.blk_base.specs.Writes.{AtEachStop, end_of_writes};
 ghost use Rattle.blk_base.specs.declared.fault.DevStop.TheVariants.{NoSpace};
-ghost use Rattle.q2_format.specs.Bytes.{bytes_at};
+ghost use Rattle.q2_format.specs.Bytes.{place_bytes};
 ghost use Rattle.q2_format.specs.Created.{IsNewName, IsNewFormat};
 ghost use Rattle.q2_format.specs.Renamed.{format_room, name_fields, needs_ending, next_extension, new_name_offset};
 ghost use Rattle.q2_image.specs.BackingName.{EndsWithFields, IsPutBetween, MakesEarly, MakesFormat, HasSameName, IsOldOrRenamed, RenamesImage, ending_length, ending_writes, fields_end, format_writes, last_bytes, name_in, reads_length, rename_end, rename_writes, stop_by, text_writes, with_format, with_format_at, with_name};

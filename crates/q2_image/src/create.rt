@@ -3,7 +3,7 @@
 ghost use Rattle.std.specs.Prelude.{◌≡◌, ◌⊎◌, ◌+◌, ◌%◌, ◌<◌, ◌≤◌, max, ℕ, false, List, [], ◌∷◌, Option, length, slice_index, take, drop, replicate, Some, IfOk, IfErr, OnOk, OnErr, option_map, if◌then◌else◌};
 ghost use Rattle.std.specs.Bool.{OnFalse};
 ghost use Rattle.std.specs.Option.{ForSome, option_copied};
-ghost use Rattle.q2_format.specs.Bytes.{bytes_at, Holds};
+ghost use Rattle.q2_format.specs.Bytes.{place_bytes, Holds};
 ghost use Rattle.q2_format.specs.Contents.{image_disk};
 ghost use Rattle.q2_format.specs.Created.{creation_of, CanBeCreated, created_header, created_length, IsNewName, IsNewFormat, HasCreatedHeader, HasCreatedTables, IsCreated};
 ghost use Rattle.q2_format.specs.Header.{header_of};
@@ -286,7 +286,7 @@ pub fn create_image<D: Device>(
     ensures unmapped { OnOk result ((file : List ℕ) (cluster : ℕ) → D.content dev.new ≡ Some file
         → file_entry file cluster ≡ Unallocated) }
     ensures disk { OnOk result ((file backing : List ℕ) → D.content dev.new ≡ Some file
-        → image_disk file backing ≡ bytes_at backing 0 size) }
+        → image_disk file backing ≡ place_bytes backing 0 size) }
     ensures sound { OnOk result ((file : List ℕ) → D.content dev.new ≡ Some file
         → clusters_for (cluster_size (header_of file).cluster_bits) (length file)
         ≤ MAX_FILE_CLUSTERS → IsSound file) }

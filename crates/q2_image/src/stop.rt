@@ -33,9 +33,9 @@ pub enum ImageStop {
 
 impl fmt::Display for ImageStop {
     ghost use Rattle.std.specs.Prelude.{Some};
-    ghost use Rattle.q2_image.specs.Text.{stop_text};
+    ghost use Rattle.q2_image.specs.Text.{image_stop_text};
 
-    ghost output = { λ stop. Some (stop_text stop) };
+    ghost output = { λ stop. Some (image_stop_text stop) };
 
     fn fmt<W: fmt::Write>(&self, f: &mut fmt::Formatter<W>) -> fmt::Result {
         match self {

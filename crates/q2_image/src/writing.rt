@@ -4,7 +4,7 @@ ghost use Rattle.std.specs.Prelude.{◌≡◌, ◌≢◌, ◌↔◌, ◌⊎◌, 
 ghost use Rattle.blk_base.specs.Counts.{taken};
 ghost use Rattle.blk_base.specs.Device.{Writes, stop_of};
 ghost use Rattle.blk_base.specs.Writes.{write_of};
-ghost use Rattle.q2_format.specs.Bytes.{bytes_at};
+ghost use Rattle.q2_format.specs.Bytes.{place_bytes};
 ghost use Rattle.q2_format.specs.declared.entries.L2Entry.TheVariants.{Zero};
 ghost use Rattle.q2_format.specs.Header.{header_of};
 ghost use Rattle.q2_format.specs.Tables.{refcount_of};
@@ -99,7 +99,7 @@ impl Image {
             dev.new }
         ensures written { OnOk result
             ((file : List ℕ) → D.content dev.new ≡ Some file
-            → bytes_at file host (cluster_size_in self.now) ≡ bytes.now) }
+            → place_bytes file host (cluster_size_in self.now) ≡ bytes.now) }
         ensures reaches { OnOk result (host + cluster_size_in self.now ≤ D.size dev.new) }
         ensures spare_stay { (old new : List ℕ) (n : ℕ) → D.content dev.old ≡ Some old
             → D.content dev.new ≡ Some new → IsSpare old n → IsSpare new n }

@@ -13,14 +13,14 @@ use Rattle.q2_format.specs.References.{uses}
 use Rattle.q2_format.specs.Sizes.{cluster_size}
 use Rattle.q2_refs.specs.Allocating.{IsInStep, KeepsCounted, KeepsSound, StopsAllocating, IsLeft, with_one, with_block_for, offset_of_block, new_block, block_writes, block_writes_for, count_write, allocation_writes, all_but_count, writes_of_answer, ref_stop_of}
 use Rattle.q2_refs.specs.Free.{free_cluster}
-use Rattle.q2_refs.specs.Kept.{Kept}
+use Rattle.q2_refs.specs.Kept.{KeptRefs}
 use Rattle.q2_refs.specs.declared.allocating.RefStop.{RefStop}
 use Rattle.q2_refs.specs.declared.allocating.RefStop.TheVariants.{Dev}
 use Rattle.q2_refs.proofs.AllocationStops.{CanBeGiven, allocation_done, allocation_unused, allocation_left, allocation_stops, block_for_cut, count_part}
 use Rattle.q2_refs.proofs.Placing.{told_before}
 
 -- the writes of a block, by what they were made of
-pub block_writes_are : (kept : Kept) (i offset entry : ℕ) (bytes : List ℕ) → offset ≡ offset_of_block kept i
+pub block_writes_are : (kept : KeptRefs) (i offset entry : ℕ) (bytes : List ℕ) → offset ≡ offset_of_block kept i
     → entry ≡ kept.table_offset + 8 * i → bytes ≡ new_block (cluster_size kept.cluster_bits)
     → write_of offset bytes ∷ write_of entry (big_bytes 8 offset) ∷ [] ≡ block_writes kept i
 unfolding block_writes
@@ -38,12 +38,12 @@ module _ {D : Type 0} (g : Ghosts D) where
   all_made : (ws : List Write) (a b : D) → Writes g ws None a b → Wrote g ws a b
   all_made ws a b writes = subst (λ made. Wrote g made a b) writes.part writes.wrote
 
-  pub left_kept : (kept : Kept) (n : ℕ) (stop : DevStop) (left : Kept) (a b : D) → StopsAllocating g kept n stop left a b → (left ≡ kept) ⊎ (left ≡ with_block_for kept n)
+  pub left_kept : (kept : KeptRefs) (n : ℕ) (stop : DevStop) (left : KeptRefs) (a b : D) → StopsAllocating g kept n stop left a b → (left ≡ kept) ⊎ (left ≡ with_block_for kept n)
   left_kept kept n stop left a b (inl same) = inl same.0
   left_kept kept n stop left a b (inr placed) = inr placed.0
 
   -- a stop behind the writes of the block
-  pub take_left : (kept mid left : Kept) (n : ℕ) (r : Result (Unit {0}) DevStop) (a b c : D) → mid ≡ with_block_for kept n → Writes g (block_writes_for kept n) None a b
+  pub take_left : (kept mid left : KeptRefs) (n : ℕ) (r : Result (Unit {0}) DevStop) (a b c : D) → mid ≡ with_block_for kept n → Writes g (block_writes_for kept n) None a b
       → Writes g (count_write mid n ∷ []) (stop_of r) b c → OnErr r (left ≡ mid) → IfErr r (λ stop. StopsAllocating g kept n stop left a c)
   take_left kept mid left n (Ok done) a b c is first count same = tt
   take_left kept mid left n (Err stop) a b c is first count same =
@@ -55,7 +55,7 @@ module _ {D : Type 0} (g : Ghosts D) where
             (subst (λ made. Wrote g made b c) part count.wrote),
       )
 
-  module _ (kept : Kept) (n : ℕ) (a b : D) (step : (file : List ℕ) → g.content a ≡ Some file → IsInStep file kept) (can : CanBeGiven kept n) where
+  module _ (kept : KeptRefs) (n : ℕ) (a b : D) (step : (file : List ℕ) → g.content a ≡ Some file → IsInStep file kept) (can : CanBeGiven kept n) where
     pub done_step : Writes g (allocation_writes kept n) None a b → (new : List ℕ) → g.content b ≡ Some new → IsInStep new (with_one (with_block_for kept n) n)
     done_step writes new told =
         let was = wrote_before (allocation_writes kept n) a b new (all_made (allocation_writes kept n) a b writes) told in
@@ -71,7 +71,7 @@ module _ {D : Type 0} (g : Ghosts D) where
         let was = wrote_before writes.made a b new writes.wrote told in
         subst (λ z. IsInStep z kept) was.2 (block_for_cut was.0 kept n (step was.0 was.1) can stop writes.made writes.part).step
 
-    pub left_step : (stop : DevStop) (left : Kept) → StopsAllocating g kept n stop left a b → (new : List ℕ) → g.content b ≡ Some new → IsInStep new left
+    pub left_step : (stop : DevStop) (left : KeptRefs) → StopsAllocating g kept n stop left a b → (new : List ℕ) → g.content b ≡ Some new → IsInStep new left
     left_step stop left (inl (same, writes)) new told = subst (λ k. IsInStep new k) (sym same) (cut_step stop writes new told)
     left_step stop left (inr (placed, wrote)) new told =
         let was = wrote_before (all_but_count kept n) a b new wrote told in
@@ -86,7 +86,7 @@ module _ {D : Type 0} (g : Ghosts D) where
         (content_after g (KeepsSound old) (allocation_writes kept n) stop a b old new writes (given_stops old was) was told).keeps
 
   -- an answer of the device's stop
-  module _ (kept : Kept) (n : ℕ) (a b : D) (stop : DevStop) (e : RefStop) (r : Result ℕ RefStop) (is : r ≡ Err e) (by : e ≡ Dev stop) (first : n ≡ free_cluster kept 0) where
+  module _ (kept : KeptRefs) (n : ℕ) (a b : D) (stop : DevStop) (e : RefStop) (r : Result ℕ RefStop) (is : r ≡ Err e) (by : e ≡ Dev stop) (first : n ≡ free_cluster kept 0) where
     pub err_writes : Writes g (allocation_writes kept n) (Some stop) a b → Writes g (writes_of_answer kept r) (ref_stop_of r) a b
     err_writes writes =
         let P : Result ℕ RefStop → Type 0 = λ x. Writes g (writes_of_answer kept x) (ref_stop_of x) a b in
@@ -97,7 +97,7 @@ module _ {D : Type 0} (g : Ghosts D) where
         let P : Result ℕ RefStop → Type 0 = λ x. AtEachStopOf g KeepsSound (writes_of_answer kept x) a in
         subst P (sym (is ∙ ap Err by)) (subst (λ m. AtEachStopOf g KeepsSound (allocation_writes kept m) a) first stops)
 
-    pub err_left : (left : Kept) → StopsAllocating g kept n stop left a b → IfErr r (λ x. IsLeft g kept left x a b)
+    pub err_left : (left : KeptRefs) → StopsAllocating g kept n stop left a b → IfErr r (λ x. IsLeft g kept left x a b)
     err_left left stops =
         let P : Result ℕ RefStop → Type 0 = λ x. IfErr x (λ y. IsLeft g kept left y a b) in
         subst P (sym (is ∙ ap Err by)) (subst (λ m. StopsAllocating g kept m stop left a b) first stops)

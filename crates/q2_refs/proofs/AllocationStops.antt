@@ -20,7 +20,7 @@ use Rattle.q2_format.specs.declared.header.Header.{Header}
 use Rattle.q2_format.proofs.Consistent.{sound_tables}
 use Rattle.q2_refs.specs.Allocating.{IsInStep, KeepsCounted, KeepsSound, with_one, with_block, with_block_for, place_of_block, offset_of_block, new_block, block_writes, block_writes_for, count_place, count_write, allocation_writes, all_but_count, end_of_allocation}
 use Rattle.q2_refs.specs.Free.{will_be_given}
-use Rattle.q2_refs.specs.Kept.{Kept, per_block}
+use Rattle.q2_refs.specs.Kept.{KeptRefs, per_block}
 use Rattle.q2_refs.proofs.BlockStep.{reads_back}
 use Rattle.q2_refs.proofs.FreeClusters.{given_count, given_beside, for_absent, for_present}
 use Rattle.q2_refs.proofs.Made.{counts_itself, counts_no_other}
@@ -34,15 +34,15 @@ length-new_block len some =
     omega (arith, length-append (big_bytes 2 1) (replicate (len - 2) 0), length-bytes_high_first 2 1, length-replicate {A = ℕ} (len - 2) 0)
 
 -- a file whose refcounts are kept, and in which what counted stays
-pub record Holds (old new : List ℕ) (kept : Kept) : Type 0 where
+pub record Holds (old new : List ℕ) (kept : KeptRefs) : Type 0 where
   pub step : IsInStep new kept
   pub keeps : KeepsCounted old new (header_of old)
 
-pub holds-sound : (old new : List ℕ) (kept : Kept) → Holds old new kept → KeepsSound old new
+pub holds-sound : (old new : List ℕ) (kept : KeptRefs) → Holds old new kept → KeepsSound old new
 holds-sound old new kept holds = record { sound = holds.step.sound; keeps = holds.keeps }
 
 -- a block that can be put
-pub record CanBePut (kept : Kept) (i : ℕ) : Type 0 where
+pub record CanBePut (kept : KeptRefs) (i : ℕ) : Type 0 where
   pub in_table : i < length kept.table
   pub absent : block_offset (slice_index kept.table i) ≡ 0
   pub place : place_of_block kept i < length kept.counts
@@ -51,7 +51,7 @@ pub record CanBePut (kept : Kept) (i : ℕ) : Type 0 where
 entry_in_sector : (table i : ℕ) → table % 65536 ≡ 0 → (table + 8 * i) % 512 + 8 ≤ 512
 entry_in_sector table i whole = omega arith
 
-module _ (file : List ℕ) (kept : Kept) (i : ℕ) (step : IsInStep file kept) (can : CanBePut kept i) where
+module _ (file : List ℕ) (kept : KeptRefs) (i : ℕ) (step : IsInStep file kept) (can : CanBePut kept i) where
   size : cluster_size kept.cluster_bits ≡ 65536
   size = ap cluster_size step.counts.shape.cluster_bits ∙ cluster_is (header_of file) (sound_shape file step.sound)
 
@@ -128,36 +128,36 @@ module _ (file : List ℕ) (kept : Kept) (i : ℕ) (step : IsInStep file kept) (
 -- The same for the block of a cluster, which is put only where it is absent.
 
 -- a cluster that can be given
-pub record CanBeGiven (kept : Kept) (n : ℕ) : Type 0 where
+pub record CanBeGiven (kept : KeptRefs) (n : ℕ) : Type 0 where
   pub below : n < length kept.counts
   pub few : length kept.counts ≤ 8388608
   pub given : will_be_given kept n ≡ true
   pub reach : length kept.counts ≤ length kept.table * per_block kept
 
-writes_absent : (kept : Kept) (n : ℕ) → block_offset (slice_index kept.table (n / per_block kept)) ≡ 0 → block_writes_for kept n ≡ block_writes kept (n / per_block kept)
+writes_absent : (kept : KeptRefs) (n : ℕ) → block_offset (slice_index kept.table (n / per_block kept)) ≡ 0 → block_writes_for kept n ≡ block_writes kept (n / per_block kept)
 writes_absent kept n absent = let test = eq-eqb (block_offset (slice_index kept.table (n / per_block kept))) 0 absent in rw test refl
 
-writes_present : (kept : Kept) (n : ℕ) → block_offset (slice_index kept.table (n / per_block kept)) ≢ 0 → block_writes_for kept n ≡ []
+writes_present : (kept : KeptRefs) (n : ℕ) → block_offset (slice_index kept.table (n / per_block kept)) ≢ 0 → block_writes_for kept n ≡ []
 writes_present kept n there = let test = ne_eqb (block_offset (slice_index kept.table (n / per_block kept))) 0 there in rw test refl
 
 -- a cluster that can count one
-record CanCount (kept : Kept) (n : ℕ) : Type 0 where
+record CanCount (kept : KeptRefs) (n : ℕ) : Type 0 where
   below : n < length kept.counts
   few : length kept.counts ≤ 8388608
   free : slice_index kept.counts n ≡ 0
   there : block_offset (slice_index kept.table (n / per_block kept)) ≢ 0
 
-holds-then : (a b c : List ℕ) (kept after : Kept) → Holds a b kept → Holds b c after → Holds a c after
+holds-then : (a b c : List ℕ) (kept after : KeptRefs) → Holds a b kept → Holds b c after → Holds a c after
 holds-then a b c kept after first second = record { step = second.step; keeps = keeps_trans a b c first.keeps second.keeps }
 
-holds-itself : (file : List ℕ) (kept : Kept) → IsInStep file kept → Holds file file kept
+holds-itself : (file : List ℕ) (kept : KeptRefs) → IsInStep file kept → Holds file file kept
 holds-itself file kept step = record { step = step; keeps = keeps_all file }
 
 count_in_sector : (word column : ℕ) → (block_offset word + column * 2) % 512 + 2 ≤ 512
 count_in_sector word column = omega arith
 
 -- of a refcount all is written or nothing
-pub count_part : (kept : Kept) (n : ℕ) (stop : DevStop) (made : List Write) → IsPart (IsCutBy stop) (count_write kept n ∷ []) made
+pub count_part : (kept : KeptRefs) (n : ℕ) (stop : DevStop) (made : List Write) → IsPart (IsCutBy stop) (count_write kept n ∷ []) made
     → made ≡ first_bytes 0 (count_write kept n) ∷ []
 unfolding count_write
 count_part kept n stop [] part = absurd part
@@ -168,7 +168,7 @@ count_part kept n stop (m ∷ made) (inr (cut, none)) =
     ap (λ ms. m ∷ ms) none ∙ ap (λ x. x ∷ []) (cut-sector stop (write_of (count_place kept n) (big_bytes 2 1)) m within cut)
 
 -- the refcount
-module _ (file : List ℕ) (kept : Kept) (n : ℕ) (step : IsInStep file kept) (can : CanCount kept n) where
+module _ (file : List ℕ) (kept : KeptRefs) (n : ℕ) (step : IsInStep file kept) (can : CanCount kept n) where
   count_cut : (stop : DevStop) (made : List Write) → IsPart (IsCutBy stop) (count_write kept n ∷ []) made → Holds file (after_writes file made) kept
   count_cut stop made part =
       let is = count_part kept n stop made part in
@@ -185,7 +185,7 @@ module _ (file : List ℕ) (kept : Kept) (n : ℕ) (step : IsInStep file kept) (
   unfolding count_write
   count_unused new is = subst (λ z. uses z (header_of z) n ≡ 0) (sym is) (counted_unused file kept n step can.below can.few can.there can.free)
 
-module _ (file : List ℕ) (kept : Kept) (n : ℕ) (step : IsInStep file kept) (can : CanBeGiven kept n) where
+module _ (file : List ℕ) (kept : KeptRefs) (n : ℕ) (step : IsInStep file kept) (can : CanBeGiven kept n) where
   abbrev i : ℕ
   i = n / per_block kept
 
@@ -290,29 +290,29 @@ module _ (file : List ℕ) (kept : Kept) (n : ℕ) (step : IsInStep file kept) (
 -- Where it ends.
 
 -- behind the bytes of a new block and its entry in the table
-abbrev pub end_of_block : Kept → ℕ → ℕ
+abbrev pub end_of_block : KeptRefs → ℕ → ℕ
 end_of_block kept i = let c = cluster_size kept.cluster_bits in
     max (place_of_block kept i * c + c) (kept.table_offset + 8 * i + 8)
 
 -- the same for the block of a cluster, and 0 where it is there
-abbrev pub end_of_block_for : Kept → ℕ → ℕ
+abbrev pub end_of_block_for : KeptRefs → ℕ → ℕ
 end_of_block_for kept n =
     let i = n / per_block kept in
     cond (eqb (block_offset (slice_index kept.table i)) 0) (end_of_block kept i) 0
 
-end-block_writes : (kept : Kept) (i : ℕ) → cluster_size kept.cluster_bits ≡ 65536 → end_of_writes (block_writes kept i) ≡ end_of_block kept i
+end-block_writes : (kept : KeptRefs) (i : ℕ) → cluster_size kept.cluster_bits ≡ 65536 → end_of_writes (block_writes kept i) ≡ end_of_block kept i
 unfolding block_writes
 end-block_writes kept i size =
     omega (arith, length-new_block (cluster_size kept.cluster_bits) (omega (arith, size)), length-bytes_high_first 8 (offset_of_block kept i))
 
-end-of_some : (kept : Kept) (i word : ℕ) → cluster_size kept.cluster_bits ≡ 65536
+end-of_some : (kept : KeptRefs) (i word : ℕ) → cluster_size kept.cluster_bits ≡ 65536
     → end_of_writes (cond (eqb word 0) (block_writes kept i) []) ≡ cond (eqb word 0) (end_of_block kept i) 0
 end-of_some kept i word size = elim (cases_eq word 0) [
   | inl absent ↦ let test = eq-eqb word 0 absent in rw test (end-block_writes kept i size)
   | inr there ↦ let test = ne_eqb word 0 there in rw test refl
 ]
 
-pub end-allocation_writes : (kept : Kept) (n : ℕ) → cluster_size kept.cluster_bits ≡ 65536 → end_of_allocation kept n ≡ max (end_of_block_for kept n) (count_place (with_block_for kept n) n + 2)
+pub end-allocation_writes : (kept : KeptRefs) (n : ℕ) → cluster_size kept.cluster_bits ≡ 65536 → end_of_allocation kept n ≡ max (end_of_block_for kept n) (count_place (with_block_for kept n) n + 2)
 unfolding count_write
 end-allocation_writes kept n size =
     let all = end_of_writes-append (block_writes_for kept n) (count_write (with_block_for kept n) n ∷ []) in

@@ -21,7 +21,7 @@ use Rattle.q2_format.proofs.Consistent.{sound_tables, sound_is_consistent}
 use Rattle.q2_format.proofs.Firsts.{lowest-none, none_lowest}
 use Rattle.q2_format.proofs.Frames.{placed_longer, words_at-set}
 use Rattle.q2_refs.specs.Allocating.{IsInStep, KeepsCounted, with_block, place_of_block}
-use Rattle.q2_refs.specs.Kept.{Kept}
+use Rattle.q2_refs.specs.Kept.{KeptRefs}
 use Rattle.q2_refs.specs.Loading.{HasShape}
 use Rattle.q2_refs.proofs.Ranges.{in_block, block_at, width_two, refcount_of-absent, refcount_of-present}
 use Rattle.q2_refs.proofs.SoundAfter.{StaysSound, sound_after}
@@ -61,7 +61,7 @@ unreserved : (table : List ℕ) → reserved_in_refcount_table table ≡ None �
 unfolding reserved_in_refcount_table
 unreserved table none i below = lowest-none (λ i. has_reserved_in_refcount_table (get_or table i 0)) (length table) none i below
 
-module _ (old new : List ℕ) (kept : Kept) (b f : ℕ) (step : IsInStep old kept) (place : f ≡ b * in_block (header_of old))
+module _ (old new : List ℕ) (kept : KeptRefs) (b f : ℕ) (step : IsInStep old kept) (place : f ≡ b * in_block (header_of old))
     (in_table : b < length (refcount_table old (header_of old))) (absent : block_at old (header_of old) b ≡ 0)
     (kept_too : f < length kept.counts) (few : f < 2 ^ 30)
     (there : f * cluster_size (header_of old).cluster_bits < length old)

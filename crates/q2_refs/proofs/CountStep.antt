@@ -17,7 +17,7 @@ use Rattle.q2_format.proofs.ByPlace.{number_at-before, number_at-behind}
 use Rattle.q2_format.proofs.Consistent.{sound_tables, sound_is_consistent}
 use Rattle.q2_format.proofs.Frames.{written_number}
 use Rattle.q2_refs.specs.Allocating.{IsInStep, KeepsCounted, refcount_uses, with_one}
-use Rattle.q2_refs.specs.Kept.{Kept}
+use Rattle.q2_refs.specs.Kept.{KeptRefs}
 use Rattle.q2_refs.specs.Loading.{HasShape}
 use Rattle.q2_refs.proofs.Ranges.{in_block, block_at, width_two, refcount_of-present}
 use Rattle.q2_refs.proofs.SoundAfter.{StaysSound, sound_after}
@@ -32,7 +32,7 @@ count_at file h n = block_at file h (n / in_block h) + n % in_block h * 2
 zero_div : (c : ℕ) → 0 < c → 0 / c ≡ 0
 zero_div c some = omega arith
 
-module _ (old new : List ℕ) (kept : Kept) (n : ℕ) (step : IsInStep old kept) (below : n < length kept.counts)
+module _ (old new : List ℕ) (kept : KeptRefs) (n : ℕ) (step : IsInStep old kept) (below : n < length kept.counts)
     (there : block_at old (header_of old) (n / in_block (header_of old)) ≢ 0) (free : refcount_of old (header_of old) n ≡ 0)
     (written : IsWritten old new (count_at old (header_of old) n) (big_bytes 2 1))
     (grows : length old ≤ length new) (small : length new ≤ 549755813888) where

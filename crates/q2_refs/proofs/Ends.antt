@@ -7,10 +7,10 @@ use Rattle.q2_format.specs.Sizes.{cluster_size}
 use Rattle.q2_format.specs.Entry.{block_offset}
 use Rattle.q2_refs.specs.Allocating.{with_one, with_block, with_block_for, place_of_block, end_of_allocation, count_place}
 use Rattle.q2_refs.proofs.AllocationStops.{end_of_block, end_of_block_for, end-allocation_writes}
-use Rattle.q2_refs.specs.Kept.{Kept, per_block}
+use Rattle.q2_refs.specs.Kept.{KeptRefs, per_block}
 
 -- the block of a cluster, where it is or where it will be put
-abbrev pub block_for : Kept → ℕ → ℕ
+abbrev pub block_for : KeptRefs → ℕ → ℕ
 block_for kept n =
     let i = n / per_block kept in
     cond (eqb (block_offset (slice_index kept.table i)) 0) (place_of_block kept i * cluster_size kept.cluster_bits) (block_offset (slice_index kept.table i))
@@ -22,12 +22,12 @@ placed_whole : (f bits : ℕ) → bits ≡ 16 → f < 2 ^ 30 → block_offset (f
 placed_whole f bits is small = rw is (placed_back f small)
 
 -- what an allocation in the supported shape needs of the cluster that it gives
-pub record HasEntry (kept : Kept) (n : ℕ) : Type 0 where
+pub record HasEntry (kept : KeptRefs) (n : ℕ) : Type 0 where
   pub cluster_bits : kept.cluster_bits ≡ 16
   pub entry : n / per_block kept < length kept.table
   pub small : place_of_block kept (n / per_block kept) < 2 ^ 30
 
-pub count_after : (kept : Kept) (n : ℕ) → HasEntry kept n → count_place (with_block_for kept n) n ≡ block_for kept n + n % per_block kept * 2
+pub count_after : (kept : KeptRefs) (n : ℕ) → HasEntry kept n → count_place (with_block_for kept n) n ≡ block_for kept n + n % per_block kept * 2
 count_after kept n has =
     let i : ℕ = n / per_block kept in
     let f : ℕ = place_of_block kept i in
@@ -41,13 +41,13 @@ count_after kept n has =
       | inr there ↦ let test = ne_eqb (block_offset (slice_index kept.table i)) 0 there in rw test refl
     ]
 
-pub end_by_block : (kept : Kept) (n : ℕ) → HasEntry kept n → end_of_allocation kept n ≡ max (end_of_block_for kept n) (block_for kept n + n % per_block kept * 2 + 2)
+pub end_by_block : (kept : KeptRefs) (n : ℕ) → HasEntry kept n → end_of_allocation kept n ≡ max (end_of_block_for kept n) (block_for kept n + n % per_block kept * 2 + 2)
 end_by_block kept n has =
     let size : cluster_size kept.cluster_bits ≡ 65536 = rw has.cluster_bits refl in
     end-allocation_writes kept n size ∙ ap (λ (at : ℕ). max (end_of_block_for kept n) (at + 2)) (count_after kept n has)
 
 -- the same where the entry was looked at
-pub end_of_kept : (kept : Kept) (n : ℕ) → kept.cluster_bits ≡ 16 → kept.refcount_order ≡ 4 → n < length kept.counts → length kept.counts ≤ length kept.table * per_block kept → length kept.counts ≤ 8388608
+pub end_of_kept : (kept : KeptRefs) (n : ℕ) → kept.cluster_bits ≡ 16 → kept.refcount_order ≡ 4 → n < length kept.counts → length kept.counts ≤ length kept.table * per_block kept → length kept.counts ≤ 8388608
     → end_of_allocation kept n ≡ max (end_of_block_for kept n) (block_for kept n + n % per_block kept * 2 + 2)
 end_of_kept kept n bits order below reach few =
     end_by_block kept n (record { cluster_bits = bits; entry = rw (bits, order) (let all = rw (bits, order) at reach in omega arith); small = rw (bits, order) (omega arith) })
@@ -55,17 +55,17 @@ end_of_kept kept n bits order below reach few =
 -- The second of two allocations ends no further than one of two that are each the first.
 
 -- the ends as functions of what the table names for a cluster
-abbrev ends_at : Kept → ℕ → ℕ → ℕ
+abbrev ends_at : KeptRefs → ℕ → ℕ → ℕ
 ends_at kept n block =
     let i = n / per_block kept in
     let place = place_of_block kept i * cluster_size kept.cluster_bits in
     max (cond (eqb block 0) (end_of_block kept i) 0) (cond (eqb block 0) place block + n % per_block kept * 2 + 2)
 
-by_block : (kept : Kept) (n : ℕ) → HasEntry kept n → end_of_allocation kept n ≡ ends_at kept n (block_offset (slice_index kept.table (n / per_block kept)))
+by_block : (kept : KeptRefs) (n : ℕ) → HasEntry kept n → end_of_allocation kept n ≡ ends_at kept n (block_offset (slice_index kept.table (n / per_block kept)))
 by_block kept n has = end_by_block kept n has
 
 -- a block that is put where it will be is no further
-placed_no_further : (kept : Kept) (n : ℕ) → ends_at kept n (place_of_block kept (n / per_block kept) * cluster_size kept.cluster_bits) ≤ ends_at kept n 0
+placed_no_further : (kept : KeptRefs) (n : ℕ) → ends_at kept n (place_of_block kept (n / per_block kept) * cluster_size kept.cluster_bits) ≤ ends_at kept n 0
 placed_no_further kept n =
     let place : ℕ = place_of_block kept (n / per_block kept) * cluster_size kept.cluster_bits in
     elim (cases_eq place 0) [
@@ -73,14 +73,14 @@ placed_no_further kept n =
       | inr some ↦ let test = ne_eqb place 0 some in rw test (omega arith)
     ]
 
-pub second_end : (kept : Kept) (n m : ℕ) → HasEntry kept n → HasEntry kept m
+pub second_end : (kept : KeptRefs) (n m : ℕ) → HasEntry kept n → HasEntry kept m
     → end_of_allocation (with_one (with_block_for kept n) n) m ≤ max (end_of_allocation kept n) (end_of_allocation kept m)
 second_end kept n m first second =
     let i : ℕ = n / per_block kept in
     let k : ℕ = m / per_block kept in
     let place : ℕ = place_of_block kept i * cluster_size kept.cluster_bits in
     let own = by_block kept m second in
-    let P : Kept → Type 0 = λ after. end_of_allocation (with_one after n) m ≤ max (end_of_allocation kept n) (end_of_allocation kept m) in
+    let P : KeptRefs → Type 0 = λ after. end_of_allocation (with_one after n) m ≤ max (end_of_allocation kept n) (end_of_allocation kept m) in
     elim (cases_eq (block_offset (slice_index kept.table i)) 0) [
       | inl absent ↦
           let test = eq-eqb (block_offset (slice_index kept.table i)) 0 absent in

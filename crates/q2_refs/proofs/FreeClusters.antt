@@ -10,7 +10,7 @@ use Rattle.std.proofs.Math.ListN.{set, length-set}
 use Rattle.std.proofs.lemmas.List.{get_or-append_right, append-nil, get_or-set_same, get_or-set_other, get_or-take, length-take}
 use Rattle.std.proofs.lemmas.List.Elements.{filter-append}
 use Rattle.q2_format.specs.declared.header.Header.{Header}
-use Rattle.q2_refs.specs.Kept.{Kept, per_block, IsCountsOf}
+use Rattle.q2_refs.specs.Kept.{KeptRefs, per_block, IsCountsOf}
 use Rattle.q2_refs.specs.Allocating.{with_one, with_block, with_block_for, place_of_block, IsAlike}
 use Rattle.q2_refs.specs.Free.{free_clusters, free_cluster, will_be_given}
 
@@ -62,7 +62,7 @@ passing-at test n c d below passes =
     ∙ ap (λ (i : ℕ). get_or (c ∷ filter test (range_with_len (c + 1) m)) i d) (sub-self (length (passing test c)))
 
 -- a cluster whose refcount isn't 0
-pub taken_not_given : (kept : Kept) (k : ℕ) → slice_index kept.counts k ≢ 0 → will_be_given kept k ≡ false
+pub taken_not_given : (kept : KeptRefs) (k : ℕ) → slice_index kept.counts k ≢ 0 → will_be_given kept k ≡ false
 taken_not_given kept k taken = let test = ne_eqb (slice_index kept.counts k) 0 taken in rw test refl
 
 -- Taking the first.
@@ -122,7 +122,7 @@ no_head (x ∷ xs) d small is = absurd (small x xs refl (sym is))
 
 -- What is given is free, and below the reach.
 
-pub first_free_cluster : (kept : Kept) (n : ℕ) → n ≡ free_cluster kept 0 → n ≢ length kept.counts
+pub first_free_cluster : (kept : KeptRefs) (n : ℕ) → n ≡ free_cluster kept 0 → n ≢ length kept.counts
     → (rest : List ℕ) × (free_clusters kept ≡ n ∷ rest) × (will_be_given kept n ≡ true) × (n < length kept.counts)
 unfolding free_clusters
 first_free_cluster kept n is other =
@@ -130,7 +130,7 @@ first_free_cluster kept n is other =
     let passes = head_passes (will_be_given kept) 0 (length kept.counts) n head.0 head.1 in
     (head.0, head.1, passes.0, omega (arith, passes.2))
 
-pub none_free : (kept : Kept) → length kept.counts ≡ free_cluster kept 0 → free_clusters kept ≡ []
+pub none_free : (kept : KeptRefs) → length kept.counts ≡ free_cluster kept 0 → free_clusters kept ≡ []
 unfolding free_clusters
 none_free kept is =
     no_head (free_clusters kept) (length kept.counts)
@@ -146,32 +146,32 @@ or_true true = refl
 or_true false = refl
 
 -- a cluster isn't the place for its own block
-abbrev is_no_place : Kept → ℕ → Bool
+abbrev is_no_place : KeptRefs → ℕ → Bool
 is_no_place kept k = not (eqb (block_offset (slice_index kept.table (k / per_block kept))) 0) || not (eqb (k % per_block kept) 0)
 
 -- a cluster behind the first that its block counts
-given_later : (kept : Kept) (k : ℕ) → k % per_block kept ≢ 0 → will_be_given kept k ≡ eqb (slice_index kept.counts k) 0
+given_later : (kept : KeptRefs) (k : ℕ) → k % per_block kept ≢ 0 → will_be_given kept k ≡ eqb (slice_index kept.counts k) 0
 given_later kept k later =
     let test = ne_eqb (k % per_block kept) 0 later in
     let no_place : is_no_place kept k ≡ true = rw test (or_true _) in
     ap (λ (b : Bool). eqb (slice_index kept.counts k) 0 && b) no_place ∙ and-true (eqb (slice_index kept.counts k) 0)
 
-given_place : (kept : Kept) (k : ℕ) → k % per_block kept ≡ 0 → block_offset (slice_index kept.table (k / per_block kept)) ≡ 0 → will_be_given kept k ≡ false
+given_place : (kept : KeptRefs) (k : ℕ) → k % per_block kept ≡ 0 → block_offset (slice_index kept.table (k / per_block kept)) ≡ 0 → will_be_given kept k ≡ false
 given_place kept k first absent =
     let a = eq-eqb (k % per_block kept) 0 first in
     let b = eq-eqb (block_offset (slice_index kept.table (k / per_block kept))) 0 absent in
     let place : is_no_place kept k ≡ false = rw (a, b) refl in
     and_right (eqb (slice_index kept.counts k) 0) (is_no_place kept k) place
 
-pub given_count : (kept : Kept) (n : ℕ) → will_be_given kept n ≡ true → slice_index kept.counts n ≡ 0
+pub given_count : (kept : KeptRefs) (n : ℕ) → will_be_given kept n ≡ true → slice_index kept.counts n ≡ 0
 given_count kept n given = eqb-true (slice_index kept.counts n) 0 (and_parts (eqb (slice_index kept.counts n) 0) (is_no_place kept n) given).0
 
 -- a cluster that will be given isn't the place of its block, where that is absent
-pub given_beside : (kept : Kept) (n : ℕ) → will_be_given kept n ≡ true → block_offset (slice_index kept.table (n / per_block kept)) ≡ 0 → n % per_block kept ≢ 0
+pub given_beside : (kept : KeptRefs) (n : ℕ) → will_be_given kept n ≡ true → block_offset (slice_index kept.table (n / per_block kept)) ≡ 0 → n % per_block kept ≢ 0
 given_beside kept n given absent first = false≢true (sym (given_place kept n first absent) ∙ given)
 
 -- a new block changes nothing of what will be given
-block_same : (kept : Kept) (i k : ℕ) → 0 < per_block kept → i < length kept.table → place_of_block kept i < length kept.counts → block_offset (slice_index kept.table i) ≡ 0
+block_same : (kept : KeptRefs) (i k : ℕ) → 0 < per_block kept → i < length kept.table → place_of_block kept i < length kept.counts → block_offset (slice_index kept.table i) ≡ 0
     → will_be_given (with_block kept i) k ≡ will_be_given kept k
 block_same kept i k some in_table in_counts absent =
     let e : ℕ = per_block kept in
@@ -197,7 +197,7 @@ block_same kept i k some in_table in_counts absent =
           rw (count, word) refl
     ]
 
-pub free_with_block : (kept : Kept) (i : ℕ) → 0 < per_block kept → i < length kept.table → place_of_block kept i < length kept.counts → block_offset (slice_index kept.table i) ≡ 0
+pub free_with_block : (kept : KeptRefs) (i : ℕ) → 0 < per_block kept → i < length kept.table → place_of_block kept i < length kept.counts → block_offset (slice_index kept.table i) ≡ 0
     → free_clusters (with_block kept i) ≡ free_clusters kept
 unfolding free_clusters
 free_with_block kept i some in_table in_counts absent =
@@ -206,7 +206,7 @@ free_with_block kept i some in_table in_counts absent =
     ∙ filter_alike (will_be_given kept) (will_be_given (with_block kept i)) 0 (length kept.counts) (λ k low high. block_same kept i k some in_table in_counts absent)
 
 -- and the one that counts now is given no more
-pub free_with_one : (kept : Kept) (n : ℕ) (rest : List ℕ) → n < length kept.counts → free_clusters kept ≡ n ∷ rest → free_clusters (with_one kept n) ≡ rest
+pub free_with_one : (kept : KeptRefs) (n : ℕ) (rest : List ℕ) → n < length kept.counts → free_clusters kept ≡ n ∷ rest → free_clusters (with_one kept n) ≡ rest
 unfolding free_clusters
 free_with_one kept n rest below is =
     let len = length-set kept.counts n 1 in
@@ -218,13 +218,13 @@ free_with_one kept n rest below is =
 
 -- The same for the block of a cluster, which is put only where it is absent.
 
-pub for_absent : (kept : Kept) (n : ℕ) → block_offset (slice_index kept.table (n / per_block kept)) ≡ 0 → with_block_for kept n ≡ with_block kept (n / per_block kept)
+pub for_absent : (kept : KeptRefs) (n : ℕ) → block_offset (slice_index kept.table (n / per_block kept)) ≡ 0 → with_block_for kept n ≡ with_block kept (n / per_block kept)
 for_absent kept n absent = let test = eq-eqb (block_offset (slice_index kept.table (n / per_block kept))) 0 absent in rw test refl
 
-pub for_present : (kept : Kept) (n : ℕ) → block_offset (slice_index kept.table (n / per_block kept)) ≢ 0 → with_block_for kept n ≡ kept
+pub for_present : (kept : KeptRefs) (n : ℕ) → block_offset (slice_index kept.table (n / per_block kept)) ≢ 0 → with_block_for kept n ≡ kept
 for_present kept n there = let test = ne_eqb (block_offset (slice_index kept.table (n / per_block kept))) 0 there in rw test refl
 
-pub free_with_block_for : (kept : Kept) (n : ℕ) → 0 < per_block kept → length kept.counts ≤ length kept.table * per_block kept → n < length kept.counts
+pub free_with_block_for : (kept : KeptRefs) (n : ℕ) → 0 < per_block kept → length kept.counts ≤ length kept.table * per_block kept → n < length kept.counts
     → free_clusters (with_block_for kept n) ≡ free_clusters kept
 free_with_block_for kept n some reach below = elim (cases_eq (block_offset (slice_index kept.table (n / per_block kept))) 0) [
   | inl absent ↦
@@ -235,7 +235,7 @@ free_with_block_for kept n some reach below = elim (cases_eq (block_offset (slic
   | inr there ↦ ap free_clusters (for_present kept n there)
 ]
 
-alike_for_block : (kept : Kept) (i : ℕ) → IsAlike kept (with_block kept i)
+alike_for_block : (kept : KeptRefs) (i : ℕ) → IsAlike kept (with_block kept i)
 alike_for_block kept i = record {
   cluster_bits = refl;
   refcount_order = refl;
@@ -244,27 +244,27 @@ alike_for_block kept i = record {
   reach = length-set kept.counts (place_of_block kept i) 1;
 }
 
-alike_itself : (kept : Kept) → IsAlike kept kept
+alike_itself : (kept : KeptRefs) → IsAlike kept kept
 alike_itself kept = record { cluster_bits = refl; refcount_order = refl; table_offset = refl; table = refl; reach = refl }
 
-pub alike_for : (kept : Kept) (n : ℕ) → IsAlike kept (with_block_for kept n)
-alike_for kept n = let P : Kept → Type 0 = λ k. IsAlike kept k in elim (cases_eq (block_offset (slice_index kept.table (n / per_block kept))) 0) [
+pub alike_for : (kept : KeptRefs) (n : ℕ) → IsAlike kept (with_block_for kept n)
+alike_for kept n = let P : KeptRefs → Type 0 = λ k. IsAlike kept k in elim (cases_eq (block_offset (slice_index kept.table (n / per_block kept))) 0) [
   | inl absent ↦ subst P (sym (for_absent kept n absent)) (alike_for_block kept (n / per_block kept))
   | inr there ↦ subst P (sym (for_present kept n there)) (alike_itself kept)
 ]
 
 -- after a refusal what is kept is as it was, or with the block
-pub alike_refused : (kept new : Kept) (n : ℕ) → (new ≡ kept) ⊎ (new ≡ with_block_for kept n) → IsAlike kept new
-alike_refused kept new n (inl same) = let P : Kept → Type 0 = λ k. IsAlike kept k in subst P (sym same) (alike_itself kept)
-alike_refused kept new n (inr placed) = let P : Kept → Type 0 = λ k. IsAlike kept k in subst P (sym placed) (alike_for kept n)
+pub alike_refused : (kept new : KeptRefs) (n : ℕ) → (new ≡ kept) ⊎ (new ≡ with_block_for kept n) → IsAlike kept new
+alike_refused kept new n (inl same) = let P : KeptRefs → Type 0 = λ k. IsAlike kept k in subst P (sym same) (alike_itself kept)
+alike_refused kept new n (inr placed) = let P : KeptRefs → Type 0 = λ k. IsAlike kept k in subst P (sym placed) (alike_for kept n)
 
-pub free_refused : (kept new : Kept) (n : ℕ) → 0 < per_block kept → length kept.counts ≤ length kept.table * per_block kept → n < length kept.counts
+pub free_refused : (kept new : KeptRefs) (n : ℕ) → 0 < per_block kept → length kept.counts ≤ length kept.table * per_block kept → n < length kept.counts
     → (new ≡ kept) ⊎ (new ≡ with_block_for kept n) → free_clusters new ≡ free_clusters kept
 free_refused kept new n some reach below (inl same) = ap free_clusters same
 free_refused kept new n some reach below (inr placed) = ap free_clusters placed ∙ free_with_block_for kept n some reach below
 
 -- after an answer the list goes on behind its first
-pub free_taken : (kept : Kept) (n : ℕ) (rest : List ℕ) → 0 < per_block kept → length kept.counts ≤ length kept.table * per_block kept → n < length kept.counts
+pub free_taken : (kept : KeptRefs) (n : ℕ) (rest : List ℕ) → 0 < per_block kept → length kept.counts ≤ length kept.table * per_block kept → n < length kept.counts
     → free_clusters kept ≡ n ∷ rest → free_clusters (with_one (with_block_for kept n) n) ≡ rest
 free_taken kept n rest some reach below is =
     free_with_one (with_block_for kept n) n rest (let len = (alike_for kept n).reach in omega (arith, below, len)) (free_with_block_for kept n some reach below ∙ is)
@@ -273,7 +273,7 @@ pub some_entries : {cluster_bits refcount_order : ℕ} → cluster_bits ≡ 16 �
 some_entries bits order = rw (bits, order) (omega arith)
 
 -- the cluster that was given counts one
-pub given_counts_one : (kept : Kept) (n : ℕ) → n < length kept.counts
+pub given_counts_one : (kept : KeptRefs) (n : ℕ) → n < length kept.counts
     → (n < length (with_one (with_block_for kept n) n).counts) × (slice_index (with_one (with_block_for kept n) n).counts n ≡ 1)
 given_counts_one kept n below =
     let len = (alike_for kept n).reach in
@@ -281,7 +281,7 @@ given_counts_one kept n below =
     (omega (arith, inside, length-set (with_block_for kept n).counts n 1), get_or-set_same (with_block_for kept n).counts n 1 0 inside)
 
 -- the first counts are still the file's
-pub IsCountsOf-take : (file : List ℕ) (h : Header) (kept : Kept) (reach : ℕ) → IsCountsOf file h kept → IsCountsOf file h (record kept { counts = take reach kept.counts })
+pub IsCountsOf-take : (file : List ℕ) (h : Header) (kept : KeptRefs) (reach : ℕ) → IsCountsOf file h kept → IsCountsOf file h (record kept { counts = take reach kept.counts })
 IsCountsOf-take file h kept reach counts = record {
   shape = record { cluster_bits = counts.shape.cluster_bits; refcount_order = counts.shape.refcount_order; table_offset = counts.shape.table_offset };
   table = counts.table;

@@ -19,7 +19,7 @@ use Rattle.q2_format.proofs.ByPlace.{big_from-moved}
 use Rattle.q2_format.proofs.Consistent.{sound_is_consistent, sound_header, sound_tables}
 use Rattle.q2_format.proofs.Limits.{within_limits}
 use Rattle.q2_refs.specs.Allocating.{IsInStep, KeepsCounted, with_one, with_block, place_of_block, count_place}
-use Rattle.q2_refs.specs.Kept.{Kept, per_block}
+use Rattle.q2_refs.specs.Kept.{KeptRefs, per_block}
 use Rattle.q2_refs.specs.Loading.{HasShape}
 use Rattle.q2_refs.proofs.Ranges.{in_block, block_at, refcount_of-absent}
 use Rattle.q2_refs.proofs.Uses.{unused_apart}
@@ -88,7 +88,7 @@ keeps_all file = record {
 -- The facts of what is kept that a step needs, by the file's.
 
 -- an image's file ends within its limit
-pub short_file : (file : List ℕ) (kept : Kept) → IsInStep file kept → length file ≤ 549755813888
+pub short_file : (file : List ℕ) (kept : KeptRefs) → IsInStep file kept → length file ≤ 549755813888
 short_file file kept step =
     let h : Header = header_of file in
     let c : ℕ = cluster_size h.cluster_bits in
@@ -110,7 +110,7 @@ first_rows : (i f n : ℕ) → f ≡ i * 32768 → f < n → n ≤ 8388608 → i
 first_rows i f n is below few = omega arith
 
 -- A new block: its bytes are written into the first cluster of its range, and then its entry.
-module _ (old : List ℕ) (kept : Kept) (i : ℕ) (block : List ℕ) (step : IsInStep old kept) (in_table : i < length kept.table)
+module _ (old : List ℕ) (kept : KeptRefs) (i : ℕ) (block : List ℕ) (step : IsInStep old kept) (in_table : i < length kept.table)
     (absent : block_offset (slice_index kept.table i) ≡ 0) (kept_too : place_of_block kept i < length kept.counts) (few : length kept.counts ≤ 8388608)
     (whole : length block ≡ cluster_size kept.cluster_bits)
     (own : number_at block 0 2 ≡ 1) (others : (j : ℕ) → 0 < j → number_at block (j * 2) 2 ≡ 0) where
@@ -281,7 +281,7 @@ module _ (old : List ℕ) (kept : Kept) (i : ℕ) (block : List ℕ) (step : IsI
 entry_end : (block j at len : ℕ) → at ≡ block + j * 2 → j < 32768 → block % 65536 ≡ 0 → block < len → len ≤ 549755813888 → at + 2 ≤ 549755813888
 entry_end block j at len is column whole inside short = omega arith
 
-module _ (old : List ℕ) (kept : Kept) (n : ℕ) (step : IsInStep old kept) (below : n < length kept.counts) (few : length kept.counts ≤ 8388608)
+module _ (old : List ℕ) (kept : KeptRefs) (n : ℕ) (step : IsInStep old kept) (below : n < length kept.counts) (few : length kept.counts ≤ 8388608)
     (there : block_offset (slice_index kept.table (n / per_block kept)) ≢ 0) (zero_count : slice_index kept.counts n ≡ 0) where
   abbrev h' : Header
   h' = header_of old
@@ -349,7 +349,7 @@ module _ (old : List ℕ) (kept : Kept) (n : ℕ) (step : IsInStep old kept) (be
       subst P (sym header) (same ∙ (let used = (sound_is_consistent old step.sound).counted n in omega (arith, used, free_too)))
 
 -- nothing uses a cluster whose kept count is 0
-pub unused_by_count : (file : List ℕ) (kept : Kept) (n : ℕ) → IsInStep file kept → n < length kept.counts → slice_index kept.counts n ≡ 0 → uses file (header_of file) n ≡ 0
+pub unused_by_count : (file : List ℕ) (kept : KeptRefs) (n : ℕ) → IsInStep file kept → n < length kept.counts → slice_index kept.counts n ≡ 0 → uses file (header_of file) n ≡ 0
 unused_by_count file kept n step below free =
     let used = (sound_is_consistent file step.sound).counted n in
     omega (arith, used, step.counts.counts n below, free)

@@ -19,7 +19,7 @@ use Rattle.q2_format.proofs.Frames.{placed_longer, cluster_before}
 use Rattle.q2_format.proofs.HeaderFrames.{header_alike, profile_bits, name_area}
 use Rattle.q2_format.proofs.Limits.{within_limits}
 use Rattle.q2_refs.specs.Allocating.{IsInStep, KeepsCounted}
-use Rattle.q2_refs.specs.Kept.{Kept, IsCountsOf}
+use Rattle.q2_refs.specs.Kept.{KeptRefs, IsCountsOf}
 use Rattle.q2_refs.specs.Loading.{HasShape}
 use Rattle.q2_refs.proofs.Ranges.{in_block, block_at}
 use Rattle.q2_refs.proofs.SoundAfter.{StaysSound, sound_after}
@@ -85,11 +85,11 @@ byte_stays old new k c at i bytes some written within other = elim (outside_clus
   | inr behind ↦ written.outside i (inr (omega (arith, within.high)))
 ]
 
-pub counts_by_header : (file : List ℕ) (h other : Header) (kept : Kept) → other ≡ h → IsCountsOf file h kept → IsCountsOf file other kept
+pub counts_by_header : (file : List ℕ) (h other : Header) (kept : KeptRefs) → other ≡ h → IsCountsOf file h kept → IsCountsOf file other kept
 counts_by_header file h other kept is counts = let P : Header → Type 0 = λ x. IsCountsOf file x kept in subst P (sym is) counts
 
 -- a write into a free cluster
-module _ (old new : List ℕ) (kept : Kept) (k at : ℕ) (bytes : List ℕ) (step : IsInStep old kept) (free : refcount_of old (header_of old) k ≡ 0)
+module _ (old new : List ℕ) (kept : KeptRefs) (k at : ℕ) (bytes : List ℕ) (step : IsInStep old kept) (free : refcount_of old (header_of old) k ≡ 0)
     (written : IsWritten old new at bytes) (within : IsWithin k (cluster_size (header_of old).cluster_bits) at bytes)
     (grows : length old ≤ length new) (small : length new ≤ 549755813888) where
   abbrev h : Header

@@ -16,41 +16,41 @@ use Rattle.q2_format.specs.declared.header.Header.{Header}
 use Rattle.q2_refs.specs.declared.allocating.RefStop.{RefStop}
 use Rattle.q2_refs.specs.declared.allocating.RefStop.TheVariants.{Dev, HostLimit}
 use Rattle.q2_refs.specs.Free.{free_cluster}
-use Rattle.q2_refs.specs.Kept.{Kept, IsCountsOf, per_block}
+use Rattle.q2_refs.specs.Kept.{KeptRefs, IsCountsOf, per_block}
 
 -- the file is sound, and what is kept is its refcounts
-pub record IsInStep (file : List ℕ) (kept : Kept) : Type 0 where
+pub record IsInStep (file : List ℕ) (kept : KeptRefs) : Type 0 where
   pub sound : IsSound file
   pub counts : IsCountsOf file (header_of file) kept
 
 -- what is kept once cluster n counts one
-abbrev pub with_one : Kept → ℕ → Kept
+abbrev pub with_one : KeptRefs → ℕ → KeptRefs
 with_one kept n = record kept { counts = slice_set kept.counts n 1 }
 
 -- the first cluster of block i's range, where that block is put
-abbrev pub place_of_block : Kept → ℕ → ℕ
+abbrev pub place_of_block : KeptRefs → ℕ → ℕ
 place_of_block kept i = i * per_block kept
 
 -- what is kept once block i is put there: the table names it, and its cluster counts one
-abbrev pub with_block : Kept → ℕ → Kept
+abbrev pub with_block : KeptRefs → ℕ → KeptRefs
 with_block kept i = record kept {
   table = slice_set kept.table i (place_of_block kept i * cluster_size kept.cluster_bits);
   counts = slice_set kept.counts (place_of_block kept i) 1;
 }
 
 -- what is kept once the block of a cluster is there
-abbrev pub with_block_for : Kept → ℕ → Kept
+abbrev pub with_block_for : KeptRefs → ℕ → KeptRefs
 with_block_for kept cluster =
     let i = cluster / per_block kept in
     if block_offset (slice_index kept.table i) == 0 then with_block kept i else kept
 
 -- where the refcount of a cluster is, whose block is there
-abbrev pub count_place : Kept → ℕ → ℕ
+abbrev pub count_place : KeptRefs → ℕ → ℕ
 count_place kept n =
     block_offset (slice_index kept.table (n / per_block kept)) + n % per_block kept * 2
 
 -- the offset of the first cluster of block i's range, where that block is put
-abbrev pub offset_of_block : Kept → ℕ → ℕ
+abbrev pub offset_of_block : KeptRefs → ℕ → ℕ
 offset_of_block kept i = place_of_block kept i * cluster_size kept.cluster_bits
 
 -- the bytes of a new block: it counts one of its own cluster, which is its first, and none of the others
@@ -58,24 +58,24 @@ unfoldable pub new_block : ℕ → List ℕ
 new_block len = big_bytes 2 1 ++ replicate (len - 2) 0
 
 -- the writes by which block i is put there: its bytes, and then its entry in the table
-unfoldable pub block_writes : Kept → ℕ → List Write
+unfoldable pub block_writes : KeptRefs → ℕ → List Write
 block_writes kept i =
     write_of (offset_of_block kept i) (new_block (cluster_size kept.cluster_bits))
     ∷ write_of (kept.table_offset + 8 * i) (big_bytes 8 (offset_of_block kept i))
     ∷ []
 
 -- the writes by which the block of a cluster is put, none where it is there
-abbrev pub block_writes_for : Kept → ℕ → List Write
+abbrev pub block_writes_for : KeptRefs → ℕ → List Write
 block_writes_for kept n =
     let i = n / per_block kept in
     if block_offset (slice_index kept.table i) == 0 then block_writes kept i else []
 
 -- the write by which a cluster counts one, whose block is there
-unfoldable pub count_write : Kept → ℕ → Write
+unfoldable pub count_write : KeptRefs → ℕ → Write
 count_write kept n = write_of (count_place kept n) (big_bytes 2 1)
 
 -- the writes of a call that gives cluster n: for its block, and then its refcount
-abbrev pub allocation_writes : Kept → ℕ → List Write
+abbrev pub allocation_writes : KeptRefs → ℕ → List Write
 allocation_writes kept n = block_writes_for kept n ++ count_write (with_block_for kept n) n ∷ []
 
 -- how often the refcount table and its blocks lie on a cluster
@@ -97,7 +97,7 @@ pub record KeepsCounted (old new : List ℕ) (h : Header) : Type 0 where
       → slice_index new i ≡ slice_index old i
 
 -- the highest end of what a call writes that gives cluster n
-abbrev pub end_of_allocation : Kept → ℕ → ℕ
+abbrev pub end_of_allocation : KeptRefs → ℕ → ℕ
 end_of_allocation kept n = end_of_writes (allocation_writes kept n)
 
 -- the stop of the device that an allocation tells
@@ -107,25 +107,26 @@ ref_stop_of (Err (Dev stop)) = Some stop
 ref_stop_of (Err HostLimit) = None
 
 -- the writes of an allocation, by its answer
-abbrev pub writes_of_answer : Kept → Result ℕ RefStop → List Write
+abbrev pub writes_of_answer : KeptRefs → Result ℕ RefStop → List Write
 writes_of_answer kept (Ok cluster) = allocation_writes kept cluster
 writes_of_answer kept (Err (Dev stop)) = allocation_writes kept (free_cluster kept 0)
 writes_of_answer kept (Err HostLimit) = []
 
 -- the writes up to a refcount of which nothing was written
-abbrev pub all_but_count : Kept → ℕ → List Write
+abbrev pub all_but_count : KeptRefs → ℕ → List Write
 all_but_count kept n =
     block_writes_for kept n ++ first_bytes 0 (count_write (with_block_for kept n) n) ∷ []
 
 -- What a stop leaves of an allocation that gives cluster n: its block was not put and isn't kept, or it was and is,
 -- and the refcount was not written.
-abbrev pub StopsAllocating : {D : Type 0} → Ghosts D → Kept → ℕ → DevStop → Kept → D → D → Type 0
+abbrev pub StopsAllocating : {D : Type 0} → Ghosts D → KeptRefs → ℕ → DevStop → KeptRefs → D → D
+    → Type 0
 StopsAllocating g kept n stop left old new =
     ((left ≡ kept) × Writes g (block_writes_for kept n) (Some stop) old new)
     ⊎ ((left ≡ with_block_for kept n) × Wrote g (all_but_count kept n) old new)
 
 -- what is kept after each refusal
-abbrev pub IsLeft : {D : Type 0} → Ghosts D → Kept → Kept → RefStop → D → D → Type 0
+abbrev pub IsLeft : {D : Type 0} → Ghosts D → KeptRefs → KeptRefs → RefStop → D → D → Type 0
 IsLeft g kept left (Dev stop) old new =
     StopsAllocating g kept (free_cluster kept 0) stop left old new
 IsLeft g kept left HostLimit old new = left ≡ kept
@@ -136,7 +137,7 @@ pub record KeepsSound (old new : List ℕ) : Type 0 where
   pub keeps : KeepsCounted old new (header_of old)
 
 -- what is kept of one image before and after
-pub record IsAlike (old new : Kept) : Type 0 where
+pub record IsAlike (old new : KeptRefs) : Type 0 where
   pub cluster_bits : new.cluster_bits ≡ old.cluster_bits
   pub refcount_order : new.refcount_order ≡ old.refcount_order
   pub table_offset : new.table_offset ≡ old.table_offset

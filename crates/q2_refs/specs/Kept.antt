@@ -6,7 +6,7 @@ use Rattle.q2_format.specs.Tables.{refcount_table, refcount_of}
 use Rattle.q2_format.specs.declared.header.Header.{Header}
 
 -- the shape of the image, where its refcount table is, the table's words, and the refcounts of the first clusters
-pub record Kept : Type 0 where
+pub record KeptRefs : Type 0 where
   pub cluster_bits : ℕ
   pub refcount_order : ℕ
   pub table_offset : ℕ
@@ -14,17 +14,17 @@ pub record Kept : Type 0 where
   pub counts : List ℕ
 
 -- how many clusters one refcount block counts
-abbrev pub per_block : Kept → ℕ
+abbrev pub per_block : KeptRefs → ℕ
 per_block kept = block_entries (cluster_size kept.cluster_bits) kept.refcount_order
 
 -- what is kept has the shape and the place that a header says
-pub record IsShapedBy (h : Header) (kept : Kept) : Type 0 where
+pub record IsShapedBy (h : Header) (kept : KeptRefs) : Type 0 where
   pub cluster_bits : kept.cluster_bits ≡ h.cluster_bits
   pub refcount_order : kept.refcount_order ≡ h.refcount_order
   pub table_offset : kept.table_offset ≡ h.ref_offset
 
 -- what is kept is what a file has
-pub record IsCountsOf (file : List ℕ) (h : Header) (kept : Kept) : Type 0 where
+pub record IsCountsOf (file : List ℕ) (h : Header) (kept : KeptRefs) : Type 0 where
   pub shape : IsShapedBy h kept
   pub table : kept.table ≡ refcount_table file h
   pub counts : (k : ℕ) → k < length kept.counts → slice_index kept.counts k ≡ refcount_of file h k
@@ -43,7 +43,7 @@ AreTaken counts below = (k : ℕ) → k < below → slice_index counts k ≢ 0
 
 -- what holds of all that is kept: no count below the cursor is 0, a cluster fits in the buffer, and every
 -- cluster that has a count has an entry of the table
-pub record IsReady (kept : Kept) (free_from buffer_length : ℕ) : Type 0 where
+pub record IsReady (kept : KeptRefs) (free_from buffer_length : ℕ) : Type 0 where
   pub cluster_bits : kept.cluster_bits ≡ 16
   pub refcount_order : kept.refcount_order ≡ 4
   pub table_place : kept.table_offset % cluster_size kept.cluster_bits ≡ 0

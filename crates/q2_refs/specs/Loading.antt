@@ -54,11 +54,11 @@ fault_of_refs (Ok refs) = None
 fault_of_refs (Err stop) = fault_in_refs stop
 
 -- a call that reads and decodes answers these alone
-abbrev pub IsReadStop : RefsStop → Type 0
-IsReadStop (Offset at) = ⊥
-IsReadStop (Reserved index) = ⊥
-IsReadStop (Io count) = ⊤
-IsReadStop NoMemory = ⊤
+abbrev pub IsRefsReadStop : RefsStop → Type 0
+IsRefsReadStop (Offset at) = ⊥
+IsRefsReadStop (Reserved index) = ⊥
+IsRefsReadStop (Io count) = ⊤
+IsRefsReadStop NoMemory = ⊤
 
 -- a header of the shape that is supported
 pub record HasShape (h : Header) : Type 0 where

@@ -9,7 +9,7 @@ ghost use Rattle.q2_format.specs.Sizes.{cluster_size, block_entries};
 ghost use Rattle.q2_format.specs.Sound.{bad_refcount_table};
 ghost use Rattle.q2_format.specs.Tables.{refcount_table};
 ghost use Rattle.q2_refs.specs.Kept.{AreWholeClusters, BeginBelow, IsCountsOf, IsShapedBy};
-ghost use Rattle.q2_refs.specs.Loading.{table_entries, table_reach, refcounts_refusal, RefusedBy, fault_in_refs, fault_of_refs, IsReadStop, HasShape, AreCounts, AreZeroFrom};
+ghost use Rattle.q2_refs.specs.Loading.{table_entries, table_reach, refcounts_refusal, RefusedBy, fault_in_refs, fault_of_refs, IsRefsReadStop, HasShape, AreCounts, AreZeroFrom};
 
 use crate::entries::{block_offset, check_words, is_misplaced};
 use crate::refs::{Refs, first_free};
@@ -67,7 +67,7 @@ fn read<D: Device>(dev: &mut D, at: u64, buf: &mut [u8]) -> Result<(), RefsStop>
     ensures read { OnOk result
         ((file : List ℕ) → D.content dev.old ≡ Some file
         → buf.new ≡ bytes_at file at (length buf.old)) }
-    ensures stop { IfErr result IsReadStop }
+    ensures stop { IfErr result IsRefsReadStop }
     ensures device { Reads D.Device (fault_of_refs result) dev.old dev.new }
 {
     match dev.read_at(at, buf) {
@@ -112,7 +112,7 @@ fn read_words<D: Device>(
     ensures words { OnOk result
         ((file : List ℕ) → D.content dev.old ≡ Some file
         → words.new ≡ words_at file at (length words.old)) }
-    ensures stop { IfErr result IsReadStop }
+    ensures stop { IfErr result IsRefsReadStop }
     ensures device { Reads D.Device (fault_of_refs result) dev.old dev.new }
 {
     read(dev, at, buffer)?;
@@ -128,7 +128,7 @@ fn read_table<D: Device>(alloc: Global, dev: &mut D, h: &Header) -> Result<Vec<u
         (λ words. (file : List ℕ) → D.content dev.old ≡ Some file
         → words.items ≡ refcount_table file h.now) }
     ensures len { IfOk result (λ words. length words.items ≡ table_entries h.now) }
-    ensures stop { IfErr result IsReadStop }
+    ensures stop { IfErr result IsRefsReadStop }
     ensures device { Reads D.Device (fault_of_refs result) dev.old dev.new }
 {
     let entries = table_len(h);
@@ -191,7 +191,7 @@ fn read_block<D: Device>(
         → slice_index counts.new k ≡ slice_index counts.old k }
     ensures behind { AreZeroFrom counts.new
         ((i + 1) * block_entries (cluster_size h.now.cluster_bits) h.now.refcount_order) }
-    ensures stop { IfErr result IsReadStop }
+    ensures stop { IfErr result IsRefsReadStop }
     ensures device { Reads D.Device (fault_of_refs result) dev.old dev.new }
 {
     let offset = block_offset(table[i]);
@@ -222,7 +222,7 @@ fn read_counts<D: Device>(
     ensures counts { OnOk result
         ((file : List ℕ) → D.content dev.old ≡ Some file → table.now ≡ refcount_table file h.now
         → AreCounts file h.now counts.new 0 (length counts.old)) }
-    ensures stop { IfErr result IsReadStop }
+    ensures stop { IfErr result IsRefsReadStop }
     ensures device { Reads D.Device (fault_of_refs result) dev.old dev.new }
 {
     let blocks = counts.len().div_ceil(block_len(h));
@@ -298,7 +298,7 @@ pub fn load_counts<D: Device>(
         (λ refs. (file : List ℕ) → D.content dev.old ≡ Some file
         → table.items ≡ refcount_table file h.now
         → IsCountsOf file h.now refs) }
-    ensures stop { IfErr result IsReadStop }
+    ensures stop { IfErr result IsRefsReadStop }
 
     // what holds even where the device doesn't tell its bytes
     ensures shape { IfOk result (IsShapedBy h.now) }

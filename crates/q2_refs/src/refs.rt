@@ -23,9 +23,9 @@ pub struct Refs {
 
 impl Model for Refs {
     ghost use Rattle.std.specs.Prelude.{length};
-    ghost use Rattle.q2_refs.specs.Kept.{Kept, IsReady};
+    ghost use Rattle.q2_refs.specs.Kept.{KeptRefs, IsReady};
 
-    ghost Value = { Kept };
+    ghost Value = { KeptRefs };
 
     ghost view = { λ r. record {
       cluster_bits = r.cluster_bits;

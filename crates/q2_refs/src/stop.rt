@@ -20,9 +20,9 @@ pub enum RefsStop {
 
 impl fmt::Display for RefsStop {
     ghost use Rattle.std.specs.Prelude.{Some};
-    ghost use Rattle.q2_refs.specs.Text.{stop_text};
+    ghost use Rattle.q2_refs.specs.Text.{refs_stop_text};
 
-    ghost output = { λ stop. Some (stop_text stop) };
+    ghost output = { λ stop. Some (refs_stop_text stop) };
 
     fn fmt<W: fmt::Write>(&self, f: &mut fmt::Formatter<W>) -> fmt::Result {
         match self {

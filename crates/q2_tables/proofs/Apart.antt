@@ -11,7 +11,7 @@ use Rattle.q2_format.specs.References.{names_cluster, in_run, uses, structure_us
 use Rattle.q2_format.specs.Tables.{active_tree}
 use Rattle.q2_format.specs.declared.header.Header.{Header}
 use Rattle.q2_format.proofs.Frames.{cluster_before}
-use Rattle.q2_tables.specs.Kept.{Kept}
+use Rattle.q2_tables.specs.Kept.{KeptTables}
 use Rattle.q2_tables.specs.Linking.{Apart, IsFreeBut, LieBesideL1}
 
 -- an offset names its cluster
@@ -72,19 +72,19 @@ more_rows : (a b c : ℕ) → a ≤ b → a * c ≤ b * c
 more_rows a b c h = grind arith
 
 -- How often the L1 table and its entries name a cluster.
-pub l1_names : Kept → ℕ → ℕ
+pub l1_names : KeptTables → ℕ → ℕ
 l1_names kept k =
     in_run kept.c k kept.l1_offset (clusters_for kept.c (8 * length kept.l1))
     + count_by (λ word. names_cluster kept.c k (host_offset word)) kept.l1
 
 -- no cluster is named twice, and each table begins with a cluster
-pub record AreNamedOnce (kept : Kept) : Type 0 where
+pub record AreNamedOnce (kept : KeptTables) : Type 0 where
   pub some : 0 < kept.c
   pub once : (k : ℕ) → l1_names kept k ≤ 1
   pub l1_aligned : kept.l1_offset % kept.c ≡ 0
   pub aligned : (i : ℕ) → i < length kept.l1 → host_offset (slice_index kept.l1 i) % kept.c ≡ 0
 
-one_name : (kept : Kept) (i : ℕ) → i < length kept.l1 → host_offset (slice_index kept.l1 i) ≢ 0
+one_name : (kept : KeptTables) (i : ℕ) → i < length kept.l1 → host_offset (slice_index kept.l1 i) ≢ 0
     → 1 ≤ count_by (λ word. names_cluster kept.c (host_offset (slice_index kept.l1 i) / kept.c) (host_offset word)) kept.l1
 one_name kept i below some =
     let k : ℕ = host_offset (slice_index kept.l1 i) / kept.c in
@@ -94,7 +94,7 @@ one_name kept i below some =
     omega (arith, here, counts)
 
 -- a cluster that isn't of the run lies apart from the L1 table
-beside_run : (kept : Kept) (offset : ℕ) → 0 < kept.c → kept.l1_offset % kept.c ≡ 0 → offset % kept.c ≡ 0
+beside_run : (kept : KeptTables) (offset : ℕ) → 0 < kept.c → kept.l1_offset % kept.c ≡ 0 → offset % kept.c ≡ 0
     → in_run kept.c (offset / kept.c) kept.l1_offset (clusters_for kept.c (8 * length kept.l1)) ≡ 0
     → Apart offset kept.c kept.l1_offset (8 * length kept.l1)
 beside_run kept offset some l1_aligned aligned out =
@@ -116,18 +116,18 @@ beside_run kept offset some l1_aligned aligned out =
       ]
     ]
 
-out_of_run : (kept : Kept) (offset : ℕ) → l1_names kept (offset / kept.c) ≤ 1
+out_of_run : (kept : KeptTables) (offset : ℕ) → l1_names kept (offset / kept.c) ≤ 1
     → 1 ≤ count_by (λ word. names_cluster kept.c (offset / kept.c) (host_offset word)) kept.l1
     → in_run kept.c (offset / kept.c) kept.l1_offset (clusters_for kept.c (8 * length kept.l1)) ≡ 0
 unfolding l1_names
 out_of_run kept offset once count = omega (arith, once, count)
 
-no_run : (kept : Kept) (offset : ℕ) → l1_names kept (offset / kept.c) ≡ 0
+no_run : (kept : KeptTables) (offset : ℕ) → l1_names kept (offset / kept.c) ≡ 0
     → in_run kept.c (offset / kept.c) kept.l1_offset (clusters_for kept.c (8 * length kept.l1)) ≡ 0
 unfolding l1_names
 no_run kept offset none = omega (arith, none)
 
-twice : (kept : Kept) (i j : ℕ) → l1_names kept (host_offset (slice_index kept.l1 i) / kept.c) ≤ 1 → i < length kept.l1 → j < length kept.l1 → i ≢ j
+twice : (kept : KeptTables) (i j : ℕ) → l1_names kept (host_offset (slice_index kept.l1 i) / kept.c) ≤ 1 → i < length kept.l1 → j < length kept.l1 → i ≢ j
     → host_offset (slice_index kept.l1 i) ≢ 0 → host_offset (slice_index kept.l1 i) ≡ host_offset (slice_index kept.l1 j) → ⊥
 unfolding l1_names
 twice kept i j once below_i below_j apart some same =
@@ -137,7 +137,7 @@ twice kept i j once below_i below_j apart some same =
     let two = count_two (λ word. names_cluster kept.c (o / kept.c) (host_offset word)) kept.l1 i j refl below_i below_j apart own other in
     omega (arith, once, two)
 
-unnamed_twice : (kept : Kept) (table j : ℕ) → l1_names kept (table / kept.c) ≡ 0 → j < length kept.l1
+unnamed_twice : (kept : KeptTables) (table j : ℕ) → l1_names kept (table / kept.c) ≡ 0 → j < length kept.l1
     → host_offset (slice_index kept.l1 j) ≢ 0 → table ≡ host_offset (slice_index kept.l1 j) → ⊥
 unfolding l1_names
 unnamed_twice kept table j none below some same =
@@ -147,7 +147,7 @@ unnamed_twice kept table j none below some same =
     omega (arith, none, count, here)
 
 -- then the tables lie beside the L1 table, and each is free but for itself
-pub tables_beside : (kept : Kept) → AreNamedOnce kept → LieBesideL1 kept
+pub tables_beside : (kept : KeptTables) → AreNamedOnce kept → LieBesideL1 kept
 tables_beside kept named = record {
   each = λ i below some.
       let o : ℕ = host_offset (slice_index kept.l1 i) in
@@ -155,7 +155,7 @@ tables_beside kept named = record {
       beside_run kept o named.some named.l1_aligned (named.aligned i below) (out_of_run kept o (named.once (o / kept.c)) count);
 }
 
-pub table_free : (kept : Kept) (i : ℕ) → AreNamedOnce kept → i < length kept.l1 → host_offset (slice_index kept.l1 i) ≢ 0 → IsFreeBut kept (host_offset (slice_index kept.l1 i)) i
+pub table_free : (kept : KeptTables) (i : ℕ) → AreNamedOnce kept → i < length kept.l1 → host_offset (slice_index kept.l1 i) ≢ 0 → IsFreeBut kept (host_offset (slice_index kept.l1 i)) i
 table_free kept i named below some = record {
   l1_table = (tables_beside kept named).each i below some;
   l2_tables = λ j below_j other some_j.
@@ -164,7 +164,7 @@ table_free kept i named below some = record {
 }
 
 -- a cluster that nothing names is free for a new table
-pub unnamed_free : (kept : Kept) (table but : ℕ) → AreNamedOnce kept → table % kept.c ≡ 0 → l1_names kept (table / kept.c) ≡ 0 → IsFreeBut kept table but
+pub unnamed_free : (kept : KeptTables) (table but : ℕ) → AreNamedOnce kept → table % kept.c ≡ 0 → l1_names kept (table / kept.c) ≡ 0 → IsFreeBut kept table but
 unnamed_free kept table but named aligned unnamed = record {
   l1_table = beside_run kept table named.some named.l1_aligned aligned (no_run kept table unnamed);
   l2_tables = λ j below other some.
@@ -173,7 +173,7 @@ unnamed_free kept table but named aligned unnamed = record {
 }
 
 -- That no cluster is named twice follows from the references of the image.
-pub l1_of_uses : (file : List ℕ) (h : Header) (kept : Kept) (k : ℕ) → kept.c ≡ cluster_size h.cluster_bits → kept.l1_offset ≡ h.l1_offset
+pub l1_of_uses : (file : List ℕ) (h : Header) (kept : KeptTables) (k : ℕ) → kept.c ≡ cluster_size h.cluster_bits → kept.l1_offset ≡ h.l1_offset
     → kept.l1 ≡ (active_tree file h).l1 → length kept.l1 ≡ h.l1_size → l1_names kept k ≤ uses file h k
 unfolding l1_names uses structure_uses tree_uses
 l1_of_uses file h kept k size place l1 entries = rw (size, place, entries, l1) (omega arith)

@@ -11,7 +11,7 @@ use Rattle.byteorder.specs.Numbers.{length-bytes_high_first}
 use Rattle.q2_format.specs.Sizes.{entries_in_cluster}
 use Rattle.q2_format.specs.Tables.{tree_at}
 use Rattle.q2_format.proofs.ByPlace.{written_by_list}
-use Rattle.q2_tables.specs.Kept.{Kept, IsTreeOf}
+use Rattle.q2_tables.specs.Kept.{KeptTables, IsTreeOf}
 use Rattle.q2_tables.specs.Linking.{CanLink, FileAfter, HasOneEntry, IsOldOrLinked, LiesApart, TableAfter, entry_at, entry_write, l1_index, l1_spelling, link_end, link_writes, new_table, table_len, table_of}
 use Rattle.q2_tables.proofs.Loaded.{positive}
 use Rattle.q2_tables.proofs.LinkWrites.{length-new_table, table_made}
@@ -55,7 +55,7 @@ reaching old at xs some = let len = length-with_bytes old at xs in let reach = m
 in_sector : (at : ℕ) → at % 8 ≡ 0 → at % 512 + 8 ≤ 512
 in_sector at even = omega (arith, even)
 
-module _ (file : List ℕ) (kept : Kept) (cluster word table : ℕ) (can : CanLink kept cluster table) (apart : LiesApart kept cluster table) (small : word < 2 ^ 64)
+module _ (file : List ℕ) (kept : KeptTables) (cluster word table : ℕ) (can : CanLink kept cluster table) (apart : LiesApart kept cluster table) (small : word < 2 ^ 64)
     (tree : IsTreeOf kept.c kept (tree_at file kept.c kept.l1_offset (length kept.l1))) (aligned : kept.l1_offset % 8 ≡ 0) where
   abbrev P : List ℕ → Type 0
   P = IsOldOrLinked kept cluster word table file

@@ -14,7 +14,7 @@ use Rattle.blk_base.proofs.WriteLists.{cut-bytes, cut-sector}
 use Rattle.byteorder.specs.Endian.{big_bytes}
 use Rattle.byteorder.specs.Numbers.{length-bytes_high_first}
 use Rattle.q2_format.specs.Sizes.{entries_in_cluster}
-use Rattle.q2_tables.specs.Kept.{Kept}
+use Rattle.q2_tables.specs.Kept.{KeptTables}
 use Rattle.q2_tables.specs.Linking.{TableAfter, entry_write, new_table, link_writes, link_end, l1_index, table_len, l1_spelling}
 use Rattle.q2_tables.proofs.Written.{table_after}
 
@@ -101,7 +101,7 @@ module _ {D : Type 0} (g : Ghosts D) (a b : D) where
 
 -- How far they reach.
 
-pub end-link_writes : (kept : Kept) (cluster word table : ℕ) → end_of_writes (link_writes kept cluster word table) ≡ link_end kept cluster table
+pub end-link_writes : (kept : KeptTables) (cluster word table : ℕ) → end_of_writes (link_writes kept cluster word table) ≡ link_end kept cluster table
 unfolding entry_write
 end-link_writes kept cluster word table = elim (cases_eq table 0) [
   | inl none ↦
@@ -116,7 +116,7 @@ end-link_writes kept cluster word table = elim (cases_eq table 0) [
 ]
 
 -- the writes of a new table, by what they were made of
-pub writes_are : (kept : Kept) (cluster word table n column at l1 : ℕ) → table ≢ 0 → n ≡ kept.c → column ≡ cluster % entries_in_cluster kept.c
+pub writes_are : (kept : KeptTables) (cluster word table n column at l1 : ℕ) → table ≢ 0 → n ≡ kept.c → column ≡ cluster % entries_in_cluster kept.c
     → at ≡ kept.l1_offset + 8 * l1_index kept cluster → l1 ≡ l1_spelling table
     → write_of table (new_table n column word) ∷ entry_write at l1 ∷ [] ≡ link_writes kept cluster word table
 writes_are kept cluster word table n column at l1 some len col place spelled =
@@ -137,7 +137,7 @@ size_with_reaches : (size at : ℕ) (xs : List ℕ) → 0 < length xs → at + l
 size_with_reaches size at [] some = absurd (omega arith)
 size_with_reaches size at (x ∷ xs) some = omega arith
 
-pub table_len_few : (kept : Kept) (table : ℕ) → table_len kept table ≤ kept.c
+pub table_len_few : (kept : KeptTables) (table : ℕ) → table_len kept table ≤ kept.c
 table_len_few kept table = elim (cases_eq table 0) [
   | inl none ↦ let test = eq-eqb table 0 none in rw test (omega arith)
   | inr some ↦ let test = ne_eqb table 0 some in rw test (omega arith)
@@ -168,7 +168,7 @@ end-made None ws made is = let same = ap end_of_writes is in omega (arith, same)
 end-made (Some stop) ws made part = end-part stop ws made part
 
 module _ {D : Type 0} (g : Ghosts D) (a b : D) where
-  pub link_bound : (kept : Kept) (cluster word table : ℕ) (stop : Option DevStop) → Writes g (link_writes kept cluster word table) stop a b
+  pub link_bound : (kept : KeptTables) (cluster word table : ℕ) (stop : Option DevStop) → Writes g (link_writes kept cluster word table) stop a b
       → g.size b ≤ max (g.size a) (link_end kept cluster table)
   link_bound kept cluster word table stop writes =
       let size = writes.wrote.size in

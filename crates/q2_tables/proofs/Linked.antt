@@ -15,7 +15,7 @@ use Rattle.q2_format.proofs.ByPlace.{length-words_at}
 use Rattle.q2_format.proofs.Frames.{words_at-alike, words_at-set}
 use Rattle.q2_format.proofs.Trees.{l1_of_tree, l2_of_tree}
 use Rattle.q2_format.proofs.TreeFrames.{l2_table-alike}
-use Rattle.q2_tables.specs.Kept.{Kept, IsTreeOf}
+use Rattle.q2_tables.specs.Kept.{KeptTables, IsTreeOf}
 use Rattle.q2_tables.specs.Linking.{Apart, IsFreeBut, LieBesideL1, HasOneEntry, l1_index, table_of}
 use Rattle.q2_tables.specs.Words.{AreTablesOf}
 use Rattle.q2_tables.proofs.Loaded.{table_word, words_of_tree, positive}
@@ -27,7 +27,7 @@ row_of k zero n m below same = absurd (omega arith)
 row_of k (suc e) n m below same = omega (arith, div_below k (suc e) n (omega arith) below)
 
 -- the words of a tree are those of its tables
-pub tables_of_tree : (file : List ℕ) (c at n : ℕ) (kept : Kept) → IsTreeOf c kept (tree_at file c at n) → length kept.l1 ≡ n → AreTablesOf file c kept.l1 kept.words
+pub tables_of_tree : (file : List ℕ) (c at n : ℕ) (kept : KeptTables) → IsTreeOf c kept (tree_at file c at n) → length kept.l1 ≡ n → AreTablesOf file c kept.l1 kept.words
 unfolding l2_word_of
 tables_of_tree file c at n kept is len = record {
   each = λ k below.
@@ -39,7 +39,7 @@ tables_of_tree file c at n kept is len = record {
 }
 
 -- and the other way round
-tree_of_tables : (file : List ℕ) (c at n : ℕ) (kept : Kept) → kept.l1 ≡ words_at file at n → AreTablesOf file c kept.l1 kept.words
+tree_of_tables : (file : List ℕ) (c at n : ℕ) (kept : KeptTables) → kept.l1 ≡ words_at file at n → AreTablesOf file c kept.l1 kept.words
     → length kept.words ≡ length kept.l1 * entries_in_cluster c → IsTreeOf c kept (tree_at file c at n)
 tree_of_tables file c at n kept l1 tables count = record {
   l1 = l1 ∙ sym (l1_of_tree file c at n);
@@ -109,7 +109,7 @@ shorter : (old new : List ℕ) (at n m : ℕ) → m ≤ n → ReadsAlike old new
 shorter old new at n m fits alike = record { same = λ i low high. alike.same i low (omega arith) }
 
 -- the other tables, where a cluster was written that is free but for one
-other_tables : (old new : List ℕ) (kept : Kept) (place but r : ℕ) → IsFreeBut kept place but
+other_tables : (old new : List ℕ) (kept : KeptTables) (place but r : ℕ) → IsFreeBut kept place but
     → ((i : ℕ) → (i < place) ⊎ (place + kept.c ≤ i) → slice_index new i ≡ slice_index old i)
     → r < length kept.l1 → r ≢ but → l2_table new kept.c (get_or kept.l1 r 0) ≡ l2_table old kept.c (get_or kept.l1 r 0)
 other_tables old new kept place but r free outside below other =
@@ -117,7 +117,7 @@ other_tables old new kept place but r free outside below other =
     (λ some. shorter old new (host_offset (get_or kept.l1 r 0)) kept.c (8 * entries_in_cluster kept.c) (table_fits kept.c)
     (apart_alike old new place kept.c (host_offset (get_or kept.l1 r 0)) kept.c outside (free.l2_tables r below other some)))
 
-same_l1 : (old new : List ℕ) (kept : Kept) (place but n : ℕ) → IsFreeBut kept place but
+same_l1 : (old new : List ℕ) (kept : KeptTables) (place but n : ℕ) → IsFreeBut kept place but
     → ((i : ℕ) → (i < place) ⊎ (place + kept.c ≤ i) → slice_index new i ≡ slice_index old i)
     → length kept.l1 ≡ n → words_at new kept.l1_offset n ≡ words_at old kept.l1_offset n
 same_l1 old new kept place but n free outside len =
@@ -126,7 +126,7 @@ same_l1 old new kept place but n free outside len =
 
 -- An entry of an L2 table was written.
 
-module _ (file new : List ℕ) (kept : Kept) (cluster word : ℕ) (tree : IsTreeOf kept.c kept (tree_at file kept.c kept.l1_offset (length kept.l1)))
+module _ (file new : List ℕ) (kept : KeptTables) (cluster word : ℕ) (tree : IsTreeOf kept.c kept (tree_at file kept.c kept.l1_offset (length kept.l1)))
     (below : cluster < length kept.words) (fits : word < 256 ^ 8) where
   index : ℕ
   index = cluster / entries_in_cluster kept.c
@@ -175,7 +175,7 @@ module _ (file new : List ℕ) (kept : Kept) (cluster word : ℕ) (tree : IsTree
 
 -- A cluster that no table has a byte of was written.
 
-pub beside_tables : (file new : List ℕ) (kept : Kept) (place but : ℕ) → IsTreeOf kept.c kept (tree_at file kept.c kept.l1_offset (length kept.l1))
+pub beside_tables : (file new : List ℕ) (kept : KeptTables) (place but : ℕ) → IsTreeOf kept.c kept (tree_at file kept.c kept.l1_offset (length kept.l1))
     → IsFreeBut kept place but → host_offset (slice_index kept.l1 but) ≡ 0
     → ((i : ℕ) → (i < place) ⊎ (place + kept.c ≤ i) → slice_index new i ≡ slice_index file i)
     → IsTreeOf kept.c kept (tree_at new kept.c kept.l1_offset (length kept.l1))
@@ -204,7 +204,7 @@ entry_apart old new at n i word place len below written apart =
       same = λ k low high. written.outside k (elim apart [ inl before ↦ inl (omega arith) | inr behind ↦ inr (omega (arith, eight)) ]);
     }
 
-pub linked_table : (file mid new : List ℕ) (kept : Kept) (cluster word table l1_word : ℕ) → IsTreeOf kept.c kept (tree_at file kept.c kept.l1_offset (length kept.l1))
+pub linked_table : (file mid new : List ℕ) (kept : KeptTables) (cluster word table l1_word : ℕ) → IsTreeOf kept.c kept (tree_at file kept.c kept.l1_offset (length kept.l1))
     → cluster < length kept.words → table_of kept cluster ≡ 0 → table ≢ 0 → host_offset l1_word ≡ table → l1_word < 256 ^ 8
     → LieBesideL1 kept → IsFreeBut kept table (l1_index kept cluster)
     → ((i : ℕ) → (i < table) ⊎ (table + kept.c ≤ i) → slice_index mid i ≡ slice_index file i)

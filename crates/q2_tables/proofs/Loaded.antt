@@ -14,7 +14,7 @@ use Rattle.q2_format.specs.Entry.{host_offset}
 use Rattle.q2_format.specs.Tables.{active_tree, tree_at, l2_table, l2_word_of}
 use Rattle.q2_format.specs.declared.header.Header.{Header}
 use Rattle.q2_format.proofs.Trees.{l1_of_tree, l2_of_tree}
-use Rattle.q2_tables.specs.Kept.{Kept, IsTreeOf}
+use Rattle.q2_tables.specs.Kept.{KeptTables, IsTreeOf}
 use Rattle.q2_tables.specs.Words.{AreTablesOf}
 use Rattle.q2_format.proofs.ByPlace.{big_from-moved, get_or-words_at, length-words_at}
 
@@ -181,7 +181,7 @@ words_of_tree file c at n l1 words is tables k below =
     l2_of_tree file c at n (k / e) row ∙ ap (λ (l : List ℕ). l2_table file c (get_or l (k / e) 0)) (sym l1_is) in
     tables.each k below ∙ ap (λ (l : List ℕ). get_or l (k % e) 0) (sym table)
 
-pub are_tree : (file : List ℕ) (h : Header) (kept : Kept) → kept.c ≡ cluster_size h.cluster_bits → kept.l1 ≡ words_at file h.l1_offset h.l1_size
+pub are_tree : (file : List ℕ) (h : Header) (kept : KeptTables) → kept.c ≡ cluster_size h.cluster_bits → kept.l1 ≡ words_at file h.l1_offset h.l1_size
     → AreTablesOf file kept.c kept.l1 kept.words → length kept.words ≡ length kept.l1 * entries_in_cluster kept.c
     → IsTreeOf (cluster_size h.cluster_bits) kept (active_tree file h)
 are_tree file h kept size l1 tables count =
@@ -196,7 +196,7 @@ are_tree file h kept size l1 tables count =
     }
 
 -- the same with the slices that were passed
-pub read_as : (file : List ℕ) (h : Header) (kept : Kept) (c : ℕ) (l1 : List ℕ) → kept.c ≡ cluster_size h.cluster_bits → kept.l1 ≡ words_at file h.l1_offset h.l1_size
+pub read_as : (file : List ℕ) (h : Header) (kept : KeptTables) (c : ℕ) (l1 : List ℕ) → kept.c ≡ cluster_size h.cluster_bits → kept.l1 ≡ words_at file h.l1_offset h.l1_size
     → c ≡ kept.c → l1 ≡ kept.l1 → AreTablesOf file c l1 kept.words → length kept.words ≡ length l1 * entries_in_cluster c
     → IsTreeOf (cluster_size h.cluster_bits) kept (active_tree file h)
 read_as file h kept c l1 size is same_c same_l1 tables count =

@@ -14,7 +14,7 @@ use Rattle.q2_format.specs.Sound.{lowest, is_misplaced, bad_l1_table, bad_l2_tab
 use Rattle.q2_format.specs.Tables.{Tree, active_tree, l2_word_of}
 use Rattle.q2_format.specs.declared.header.Header.{Header}
 use Rattle.q2_format.proofs.Firsts.{lowest_at, none_lowest, first-none, option_map-none, refused_where-none}
-use Rattle.q2_tables.specs.Kept.{Kept, IsTreeOf, is_plain}
+use Rattle.q2_tables.specs.Kept.{KeptTables, IsTreeOf, is_plain}
 use Rattle.q2_tables.specs.Loading.{load_refusal}
 use Rattle.q2_tables.specs.Words.{misplaced_table, misplaced_host, reserved_in_table, reserved_in_words, compressed_in_words, refused_words}
 use Rattle.q2_tables.specs.declared.stop.TablesStop.{TablesStop}
@@ -122,7 +122,7 @@ refused_at_l1 h c len tree l1 stop size same table is =
     rw (table, here) refl
 
 -- behind the offsets of the tables
-pub refused_in_words : (h : Header) (len : ℕ) (kept : Kept) (tree : Tree) → IsTreeOf (cluster_size h.cluster_bits) kept tree
+pub refused_in_words : (h : Header) (len : ℕ) (kept : KeptTables) (tree : Tree) → IsTreeOf (cluster_size h.cluster_bits) kept tree
     → option_map Offset (bad_l1_table h len) ≡ None → misplaced_table (cluster_size h.cluster_bits) len kept.l1 ≡ None
     → load_refusal h len tree ≡ refused_words (cluster_size h.cluster_bits) len kept.l1 kept.words
 unfolding load_refusal refused_words
@@ -137,7 +137,7 @@ refused_in_words h len kept tree is table l1 =
     rw (table, tables, hosts, bits, l2, compressed, is.l1) refl
 
 -- what is refused of a file's tree, by the words that were read from it
-pub refused_of : (file : List ℕ) (h : Header) (len : ℕ) (kept : Kept) → kept.c ≡ cluster_size h.cluster_bits
+pub refused_of : (file : List ℕ) (h : Header) (len : ℕ) (kept : KeptTables) → kept.c ≡ cluster_size h.cluster_bits
     → IsTreeOf (cluster_size h.cluster_bits) kept (active_tree file h)
     → option_map Offset (bad_l1_table h len) ≡ None → misplaced_table kept.c len kept.l1 ≡ None
     → load_refusal h len (active_tree file h) ≡ refused_words kept.c len kept.l1 kept.words

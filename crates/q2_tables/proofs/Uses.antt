@@ -9,7 +9,7 @@ use Rattle.q2_format.specs.References.{names_cluster, own_offset, tree_uses}
 use Rattle.q2_format.specs.Tables.{Tree, tree_at}
 use Rattle.q2_format.proofs.Consistent.{count_none}
 use Rattle.q2_format.proofs.Trees.{l2_word_of-at, length_l1, length_l2, length_of_l2}
-use Rattle.q2_tables.specs.Kept.{Kept, IsTreeOf}
+use Rattle.q2_tables.specs.Kept.{KeptTables, IsTreeOf}
 
 -- zeros behind a list count for nothing, where 0 doesn't pass
 count_padded : (p : ℕ → Bool) → p 0 ≡ false → (xs table : List ℕ) → length table ≤ length xs
@@ -57,7 +57,7 @@ row_place : (i n e j len : ℕ) → i < n → j < e → len ≡ n * e → i * e 
 row_place i n e j len below column is = grind arith
 
 -- so the uses of a tree are counted in the words
-pub tree_uses_of : (file : List ℕ) (c at n cluster : ℕ) (kept : Kept) → IsTreeOf c kept (tree_at file c at n)
+pub tree_uses_of : (file : List ℕ) (c at n cluster : ℕ) (kept : KeptTables) → IsTreeOf c kept (tree_at file c at n)
     → tree_uses c (tree_at file c at n) cluster
     ≡ count_by (λ word. names_cluster c cluster (host_offset word)) kept.l1 + count_by (λ word. names_cluster c cluster (own_offset word)) kept.words
 unfolding tree_uses

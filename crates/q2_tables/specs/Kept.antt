@@ -6,14 +6,14 @@ use Rattle.q2_format.specs.Tables.{Tree, l2_word_of}
 
 -- The cluster size, where the L1 table begins in the file, its words, and for each guest cluster the word of its
 -- L2 entry: 0 where the cluster has no L2 table.
-pub record Kept : Type 0 where
+pub record KeptTables : Type 0 where
   pub c : ℕ
   pub l1_offset : ℕ
   pub l1 : List ℕ
   pub words : List ℕ
 
 -- the kept words are those of a tree
-pub record IsTreeOf (c : ℕ) (kept : Kept) (tree : Tree) : Type 0 where
+pub record IsTreeOf (c : ℕ) (kept : KeptTables) (tree : Tree) : Type 0 where
   pub l1 : kept.l1 ≡ tree.l1
   pub entries : length kept.words ≡ length kept.l1 * entries_in_cluster c
   pub words : (cluster : ℕ) → cluster < length kept.words
@@ -24,7 +24,7 @@ abbrev pub is_plain : ℕ → Bool
 is_plain word = not (is_compressed word) && not (has_reserved_in_l2 word)
 
 -- what always holds of tables in memory, and of the buffer for a new L2 table
-pub record AreWhole (kept : Kept) (buffer : List ℕ) : Type 0 where
+pub record AreWhole (kept : KeptTables) (buffer : List ℕ) : Type 0 where
   pub entries : length kept.words ≡ length kept.l1 * entries_in_cluster kept.c
   pub plain : (cluster : ℕ) → cluster < length kept.words
       → is_plain (slice_index kept.words cluster) ≡ true

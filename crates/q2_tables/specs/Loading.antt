@@ -8,7 +8,7 @@ use Rattle.q2_format.specs.Tables.{Tree}
 use Rattle.q2_format.specs.References.{own_offset}
 use Rattle.q2_format.specs.Sound.{is_misplaced, bad_l1_table, bad_l2_table, bad_host, reserved_in_l1, reserved_in_l2, compressed_cluster}
 use Rattle.q2_format.specs.declared.header.Header.{Header}
-use Rattle.q2_tables.specs.Kept.{Kept, IsTreeOf, is_plain}
+use Rattle.q2_tables.specs.Kept.{KeptTables, IsTreeOf, is_plain}
 use Rattle.q2_tables.specs.declared.stop.TablesStop.{TablesStop}
 use Rattle.q2_tables.specs.declared.stop.TablesStop.TheVariants.{Offset, ReservedInL1, ReservedInL2, Compressed, Io, NoMemory}
 
@@ -33,7 +33,7 @@ IsTableRefusal (Io count) = ⊥
 IsTableRefusal NoMemory = ⊥
 
 -- what the loading of a tree answers
-abbrev pub Loads : Header → ℕ → Tree → Result Kept TablesStop → Type 0
+abbrev pub Loads : Header → ℕ → Tree → Result KeptTables TablesStop → Type 0
 Loads h len tree (Ok kept) =
     (load_refusal h len tree ≡ None) × IsTreeOf (cluster_size h.cluster_bits) kept tree
 Loads h len tree (Err stop) = IsTableRefusal stop → load_refusal h len tree ≡ Some stop
@@ -52,7 +52,7 @@ fault_of_tables (Ok tables) = None
 fault_of_tables (Err stop) = fault_in_tables stop
 
 -- what is kept of a file of `len` bytes, whether or not it tells its bytes
-pub record IsLoaded (h : Header) (len : ℕ) (kept : Kept) : Type 0 where
+pub record IsLoaded (h : Header) (len : ℕ) (kept : KeptTables) : Type 0 where
   pub c : kept.c ≡ cluster_size h.cluster_bits
   pub l1_offset : kept.l1_offset ≡ h.l1_offset
   pub l1_size : length kept.l1 ≡ h.l1_size

@@ -18,13 +18,13 @@ pub record AreTablesOf (file : List ℕ) (c : ℕ) (l1 words : List ℕ) : Type 
       (k % entries_in_cluster c)
 
 -- reading stops at a fault, or for want of memory
-abbrev pub IsReadStop : TablesStop → Type 0
-IsReadStop (Io count) = Unit {0}
-IsReadStop (Offset offset) = ⊥
-IsReadStop (ReservedInL1 index) = ⊥
-IsReadStop (ReservedInL2 table index) = ⊥
-IsReadStop (Compressed cluster) = ⊥
-IsReadStop NoMemory = Unit {0}
+abbrev pub IsTablesReadStop : TablesStop → Type 0
+IsTablesReadStop (Io count) = Unit {0}
+IsTablesReadStop (Offset offset) = ⊥
+IsTablesReadStop (ReservedInL1 index) = ⊥
+IsTablesReadStop (ReservedInL2 table index) = ⊥
+IsTablesReadStop (Compressed cluster) = ⊥
+IsTablesReadStop NoMemory = Unit {0}
 
 -- What is refused of the words, by the first that is.
 

@@ -7,7 +7,7 @@ ghost use Rattle.q2_format.specs.Header.{CanBeRead};
 ghost use Rattle.q2_format.specs.Sound.{bad_l1_table};
 ghost use Rattle.q2_format.specs.Tables.{active_tree};
 ghost use Rattle.q2_tables.specs.Loading.{Loads, fault_of_tables, load_refusal, IsLoaded, IsTableRefusal};
-ghost use Rattle.q2_tables.specs.Words.{AreTablesOf, IsReadStop, misplaced_table};
+ghost use Rattle.q2_tables.specs.Words.{AreTablesOf, IsTablesReadStop, misplaced_table};
 ghost use Rattle.q2_tables.specs.declared.stop.TablesStop.TheVariants.{Offset};
 
 use crate::check::{check_l1_table, check_l2_tables, check_words};
@@ -30,7 +30,7 @@ fn read_table<D: Device>(
     ensures told { OnOk result
         ((file : List ℕ) → D.content dev.old ≡ Some file
         → words.new ≡ words_at file at (length words.old)) }
-    ensures stop { IfErr result IsReadStop }
+    ensures stop { IfErr result IsTablesReadStop }
     ensures device { Reads D.Device (fault_of_tables result) dev.old dev.new }
 {
     match dev.read_at(at, buffer) {
@@ -58,7 +58,7 @@ fn read_l2_tables<D: Device>(
     ensures told { OnOk result
         ((file : List ℕ) → D.content dev.old ≡ Some file
         → AreTablesOf file (length buffer.old) l1.now words.new) }
-    ensures stop { IfErr result IsReadStop }
+    ensures stop { IfErr result IsTablesReadStop }
     ensures device { Reads D.Device (fault_of_tables result) dev.old dev.new }
 {
     let entries = buffer.len() / ENTRY;
@@ -99,7 +99,7 @@ fn read_l1<D: Device>(
         (λ l1. (file : List ℕ) → D.content dev.old ≡ Some file
         → l1.items ≡ words_at file at entries) }
     ensures len { IfOk result (λ l1. length l1.items ≡ entries) }
-    ensures stop { IfErr result IsReadStop }
+    ensures stop { IfErr result IsTablesReadStop }
     ensures device { Reads D.Device (fault_of_tables result) dev.old dev.new }
 {
     let mut l1 = zero_words(alloc, entries)?;
@@ -122,7 +122,7 @@ fn read_l2<D: Device>(
         → AreTablesOf file (length buffer.old) l1.now words.items) }
     ensures len { IfOk result
         (λ words. length words.items ≡ length l1.now * entries_in_cluster (length buffer.old)) }
-    ensures stop { IfErr result IsReadStop }
+    ensures stop { IfErr result IsTablesReadStop }
     ensures device { Reads D.Device (fault_of_tables result) dev.old dev.new }
 {
     let mut words = zero_words(alloc, l1.len() * (buffer.len() / ENTRY))?;

@@ -30,9 +30,9 @@ pub struct Tables {
 }
 
 impl Model for Tables {
-    ghost use Rattle.q2_tables.specs.Kept.{Kept, AreWhole};
+    ghost use Rattle.q2_tables.specs.Kept.{KeptTables, AreWhole};
 
-    ghost Value = { Kept };
+    ghost Value = { KeptTables };
 
     ghost view = { λ t. record {
       c = t.cluster_size;

@@ -16,7 +16,7 @@ why_text BadLine = codes "BadLine"
 why_text TooMany = codes "TooMany"
 why_text TooLarge = codes "TooLarge"
 why_text NeedsBacking = codes "NeedsBacking"
-why_text (Image stop) = codes "Image(" ++ image.stop_text stop ++ codes ")"
+why_text (Image stop) = codes "Image(" ++ image.image_stop_text stop ++ codes ")"
 
 -- whose count of faults rose
 abbrev pub from_text : FaultFrom → List ℕ

@@ -4,7 +4,7 @@ use Rattle.blk_base.specs.declared.fault.FaultFrom.{FaultFrom}
 use Rattle.blk_base.specs.declared.fault.FaultFrom.TheVariants as from
 use Rattle.blk_graph.specs.declared.edge.Perm.{Perm}
 use Rattle.blk_graph.specs.declared.edge.Perm.TheVariants.{Read, Write, Unchanged}
-use Rattle.q2_image.specs.Text.{stop_text}
+use Rattle.q2_image.specs.Text.{image_stop_text}
 use Rattle.qmp_codec.specs.declared.reply.Class.{Class}
 use Rattle.qmp_codec.specs.declared.reply.Class.TheVariants.{GenericError, CommandNotFound, DeviceNotFound, DeviceNotActive}
 use Rattle.qmp_rules.specs.declared.refusal.Crowd.{Crowd}
@@ -111,7 +111,7 @@ refusal_text (refusal.TooMany crowd) = codes "too many " ++ crowd_text crowd
 refusal_text (refusal.Driver node) = codes "node " ++ node ++ codes " has the wrong driver"
 refusal_text (refusal.File name fault) = codes "file " ++ name ++ codes " " ++ file_fault_text fault
 refusal_text (refusal.FileUsed name) = codes "file " ++ name ++ codes " was used before"
-refusal_text (refusal.Image stop) = codes "image refused: " ++ stop_text stop
+refusal_text (refusal.Image stop) = codes "image refused: " ++ image_stop_text stop
 refusal_text (refusal.BackingNeeded node) = codes "node " ++ node ++ codes " needs a backing member"
 refusal_text (refusal.Unsettled node) = codes "node " ++ node ++ codes " is not settled"
 refusal_text (refusal.JobHolds node job) = codes "node " ++ node ++ codes " is held by job " ++ job

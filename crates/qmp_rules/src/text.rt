@@ -1,6 +1,6 @@
 //! What refusals say.
 ghost use Rattle.std.specs.Prelude.{◌≡◌, ◌++◌, IfOk, OnOk, decimal, codes, string_bytes};
-ghost use Rattle.q2_image.specs.Text.{stop_text};
+ghost use Rattle.q2_image.specs.Text.{image_stop_text};
 ghost use Rattle.qmp_rules.specs.Refusals.{conflict_text, crowd_text, file_fault_text, io_text, negotiation_text, perm_text, refusal_class, refusal_text};
 
 use crate::refusal::{Crowd, FileFault, Refusal};
@@ -130,7 +130,8 @@ fn conflict_text(
 }
 
 fn image_text(alloc: Global, stop: ImageStop) -> Result<String, NoMemory>
-    ensures { IfOk result (λ text. string_bytes text ≡ codes "image refused: " ++ stop_text stop) }
+    ensures { IfOk result
+        (λ text. string_bytes text ≡ codes "image refused: " ++ image_stop_text stop) }
 {
     Ok(format!(in alloc; "image refused: {stop}")?)
 }

@@ -14,7 +14,7 @@ use Rattle.blk_graph.specs.declared.edge.Role.TheVariants.{File as FileRole, Bac
 use Rattle.blk_graph.specs.declared.kind.Kind.{Kind}
 use Rattle.blk_graph.specs.declared.kind.Kind.TheVariants as kinds
 use Rattle.blk_history.specs.Fold.{With}
-use Rattle.q2_format.specs.Bytes.{bytes_at}
+use Rattle.q2_format.specs.Bytes.{place_bytes}
 use Rattle.q2_format.specs.Contents.{file_disk, raw_disk, image_disk}
 use Rattle.q2_format.proofs.ByPlace.{length-bytes_at, get_or-bytes_at, bytes_from_places}
 use Rattle.qmp_rules.specs.Asks.{stands_for}
@@ -292,10 +292,10 @@ module _ (w : WorldSeen) (node : ℕ) (joined : IsJoined w.nodes) (unfolds : Unf
   part_of_file : (b : List ℕ) (offset size whole : ℕ) → offset + size ≤ whole → raw_disk offset size b ≡ raw_disk offset size (file_disk whole b)
   part_of_file b offset size whole within =
       let len = length-bytes_at b offset size in
-      bytes_from_places (bytes_at b 0 whole) (bytes_at b offset size) offset
+      bytes_from_places (place_bytes b 0 whole) (place_bytes b offset size) offset
       (λ k below. get_or-bytes_at b offset size k (omega (arith, below, len)) ∙ ap (slice_index b) (let e : offset + k ≡ 0 + (offset + k) = omega arith in e)
       ∙ sym (get_or-bytes_at b 0 whole (offset + k) (omega (arith, below, len, within))))
-      ∙ ap (bytes_at (bytes_at b 0 whole) offset) len
+      ∙ ap (place_bytes (place_bytes b 0 whole) offset) len
 
   abbrev disk : List ℕ
   disk = disk_of nodes node

@@ -2,10 +2,10 @@ use Rattle.std.proofs.Common.{◌≡◌, List, ℕ, Some, Result, Ok, Err, IfOk,
 use Rattle.blk_base.proofs.DeviceLemmas.{reads_then}
 use Rattle.q2_refs.specs.Loading.{fault_of_refs}
 use Rattle.q2_format.specs.Tables.{refcount_table}
-use Rattle.q2_refs.specs.Kept.{Kept, IsCountsOf}
+use Rattle.q2_refs.specs.Kept.{KeptRefs, IsCountsOf}
 use Rattle.q2_refs.proofs.loading.load_refs.Goals as goal
 
-kept_too : {E : Type 0} (P Q : Kept → Type 0) (r : Result Kept E) → ((k : Kept) → P k → Q k) → IfOk r P → IfOk r Q
+kept_too : {E : Type 0} (P Q : KeptRefs → Type 0) (r : Result KeptRefs E) → ((k : KeptRefs) → P k → Q k) → IfOk r P → IfOk r Q
 kept_too P Q (Ok k) f h = f k h
 kept_too P Q (Err e) f h = tt
 

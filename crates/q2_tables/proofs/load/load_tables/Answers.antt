@@ -5,7 +5,7 @@ use Rattle.q2_tables.proofs.Loads.{refused_quietly}
 use Rattle.q2_format.specs.Sizes.{cluster_size, entries_in_cluster}
 use Rattle.q2_format.specs.Tables.{active_tree}
 use Rattle.q2_format.specs.Sound.{is_misplaced}
-use Rattle.q2_tables.specs.Kept.{Kept, IsTreeOf}
+use Rattle.q2_tables.specs.Kept.{KeptTables, IsTreeOf}
 use Rattle.q2_tables.specs.Loading.{load_refusal}
 use Rattle.q2_tables.specs.Words.{misplaced_table, refused_words}
 use Rattle.q2_tables.proofs.Loaded.{read_as, filled_again}
@@ -15,7 +15,7 @@ use Rattle.q2_tables.proofs.load.load_tables.Goals as goal
 pub returns-in_err-check_words-clause-told : goal.returns-in_err-check_words-clause-told
 returns-in_err-check_words-clause-told g c = λ file told.
     let p = err_from_is_err_and c.from_residual-in_err-check_words.result c.from_residual-in_err-check_words.ensures.1 in
-    let kept : Kept = record { c = c.cluster_len-c.result; l1_offset = c.args.h.now.l1_offset; l1 = c.in_ok-l1.l1.items; words = c.in_ok-words.words.items } in
+    let kept : KeptTables = record { c = c.cluster_len-c.result; l1_offset = c.args.h.now.l1_offset; l1 = c.in_ok-l1.l1.items; words = c.in_ok-words.words.items } in
     let room : length c.as_mut_slice.result.now ≡ kept.c = ap length c.as_mut_slice.ensures.value ∙ c.in_ok-buffer.ensures in
     let tree : IsTreeOf (cluster_size c.args.h.now.cluster_bits) kept (active_tree file c.args.h.now) =
     read_as file c.args.h.now kept (length c.as_mut_slice.result.now) c.as_slice.result.now c.cluster_len-c.ensures.size (c.in_ok-l1.ensures.told file told)
@@ -49,7 +49,7 @@ invariant_of-result g c =
 
 pub returns-clause-told : goal.returns-clause-told
 returns-clause-told g c = λ file told.
-    let kept : Kept = record { c = c.cluster_len-c.result; l1_offset = c.args.h.now.l1_offset; l1 = c.in_ok-l1.l1.items; words = c.in_ok-words.words.items } in
+    let kept : KeptTables = record { c = c.cluster_len-c.result; l1_offset = c.args.h.now.l1_offset; l1 = c.in_ok-l1.l1.items; words = c.in_ok-words.words.items } in
     let room : length c.as_mut_slice.result.now ≡ kept.c = ap length c.as_mut_slice.ensures.value ∙ c.in_ok-buffer.ensures in
     let tree : IsTreeOf (cluster_size c.args.h.now.cluster_bits) kept (active_tree file c.args.h.now) =
     read_as file c.args.h.now kept (length c.as_mut_slice.result.now) c.as_slice.result.now c.cluster_len-c.ensures.size (c.in_ok-l1.ensures.told file told)

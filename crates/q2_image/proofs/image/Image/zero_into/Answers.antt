@@ -49,7 +49,7 @@ map_cluster-requires-clause-may g c = λ file told. inr (inl (kept_host c.new_ta
 
 pub returns-clause-others : goal.returns-clause-others
 returns-clause-others g c = λ q other.
-    c.map_cluster.ensures.others q other ∙ ap (λ (t : tables.Kept). get_or t.words q 0) (zero_tables c.args.self.now c.new_table.new.self c.args.cluster c.in_ok-table.table (g.D.Device.capacity c.args.dev.now) c.requires.open c.requires.below c.requires.fits c.in_ok-table.ensures.table c.in_ok-table.ensures.ok)
+    c.map_cluster.ensures.others q other ∙ ap (λ (t : tables.KeptTables). get_or t.words q 0) (zero_tables c.args.self.now c.new_table.new.self c.args.cluster c.in_ok-table.table (g.D.Device.capacity c.args.dev.now) c.requires.open c.requires.below c.requires.fits c.in_ok-table.ensures.table c.in_ok-table.ensures.ok)
 
 pub returns-clause-disk : goal.returns-clause-disk
 returns-clause-disk g c =
@@ -75,7 +75,7 @@ returns-in_err-table-clause-steps g c =
 pub returns-clause-steps : goal.returns-clause-steps
 returns-clause-steps g c =
     let same = zero_tables c.args.self.now c.new_table.new.self c.args.cluster c.in_ok-table.table (g.D.Device.capacity c.args.dev.now) c.requires.open c.requires.below c.requires.fits c.in_ok-table.ensures.table c.in_ok-table.ensures.ok in
-    let entry = c.lookup.ensures ∙ ap (λ (k : Known). entry_in k c.args.cluster) c.self.view_is ∙ ap (λ (t : tables.Kept). l2_entry (get_or t.words c.args.cluster 0)) same in
+    let entry = c.lookup.ensures ∙ ap (λ (k : Known). entry_in k c.args.cluster) c.self.view_is ∙ ap (λ (t : tables.KeptTables). l2_entry (get_or t.words c.args.cluster 0)) same in
     let host = c.host_of-host.ensures ∙ ap host_of entry in
     clean_made g.D.Device c.args.self.now c.new_table.new.self c.map_cluster.new.self c.args.cluster c.host_of-host.result c.in_ok-table.table c.map_cluster.result
     c.args.dev.now c.new_table.new.dev c.map_cluster.new.dev c.in_ok-table.ensures.ok host c.in_ok-table.ensures.table c.in_ok-table.ensures.steps c.map_cluster.ensures.steps

@@ -1,6 +1,6 @@
 use Rattle.std.proofs.Common.{◌≡◌, ℕ, ◌+◌, ◌≤◌, List, length, get_or, ap, sym, ◌∙◌, arith}
 use Rattle.std.proofs.lemmas.List.{get_or_past}
-use Rattle.q2_refs.specs.Kept.{Kept}
+use Rattle.q2_refs.specs.Kept.{KeptRefs}
 use Rattle.q2_refs.specs.Free.{free_clusters, will_be_given}
 use Rattle.q2_refs.proofs.FreeClusters.{passing, passing_none, passing-more, passing-same, passing-at, taken_not_given}
 use Rattle.q2_refs.proofs.refs.Refs.next_free.Goals as goal
@@ -10,16 +10,16 @@ pub loop-cluster-init : goal.loop-cluster-init
 loop-cluster-init c =
     let none = passing_none (will_be_given c.args.self.now) c.self.inside.cursor
     (λ k below. taken_not_given c.args.self.now k
-    (λ e. c.self.invariant.taken k below (ap (λ (kept : Kept). get_or kept.counts k 0) c.self.view_is ∙ e))) in
+    (λ e. c.self.invariant.taken k below (ap (λ (kept : KeptRefs). get_or kept.counts k 0) c.self.view_is ∙ e))) in
     let start : 0 + c.args.k ≡ c.args.k = omega arith in
     ap (λ (xs : List ℕ). length xs + c.args.k) none ∙ start
 
 pub returns-then-left-eq0-clause-cluster : goal.returns-then-left-eq0-clause-cluster
 unfolding free_clusters
 returns-then-left-eq0-clause-cluster c =
-    let kept : Kept = c.args.self.now in
+    let kept : KeptRefs = c.args.self.now in
     let cluster : ℕ = c.loop-cluster.cluster in
-    let counts = ap (λ (kept : Kept). length kept.counts) c.self.view_is in
+    let counts = ap (λ (kept : KeptRefs). length kept.counts) c.self.view_is in
     let reach : c.len-cluster-end.result ≡ length kept.counts = omega (arith, counts, c.self.inside.counts.ok.0, c.len-cluster-end.ensures) in
     let passes = sym c.will_be_given.ensures ∙ c.if-will_be_given.true in
     let before : length (passing (will_be_given kept) cluster) ≡ c.args.k = omega (arith, c.loop-cluster.invariant) in
@@ -39,8 +39,8 @@ loop-cluster-preserved c = elim c.if-will_be_given.branch [
 pub returns-clause-cluster : goal.returns-clause-cluster
 unfolding free_clusters
 returns-clause-cluster c =
-    let kept : Kept = c.args.self.now in
-    let counts = ap (λ (kept : Kept). length kept.counts) c.self.view_is in
+    let kept : KeptRefs = c.args.self.now in
+    let counts = ap (λ (kept : KeptRefs). length kept.counts) c.self.view_is in
     let reach : c.len.result ≡ length kept.counts = omega (arith, counts, c.self.inside.counts.ok.0, c.len.ensures) in
     let all : c.loop-cluster.cluster ≡ length kept.counts = omega (arith, counts, c.self.inside.counts.ok.0, c.len-cluster-end.ensures, c.self.invariant.cursor) in
     let few : length (passing (will_be_given kept) (length kept.counts)) ≤ c.args.k =

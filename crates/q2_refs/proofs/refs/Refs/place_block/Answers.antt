@@ -6,17 +6,17 @@ use Rattle.blk_base.specs.Device.{Writes}
 use Rattle.blk_base.specs.declared.fault.DevStop.{DevStop}
 use Rattle.q2_format.specs.Sizes.{cluster_size}
 use Rattle.q2_refs.specs.Allocating.{block_writes, new_block}
-use Rattle.q2_refs.specs.Kept.{Kept}
+use Rattle.q2_refs.specs.Kept.{KeptRefs}
 use Rattle.q2_refs.proofs.Allocated.{block_writes_are}
 use Rattle.q2_refs.proofs.refs.Refs.place_block.Goals as goal
 
 pub returns-in_err-write_block-clause-writes : goal.returns-in_err-write_block-clause-writes
 returns-in_err-write_block-clause-writes g c =
-    let kept : Kept = c.args.self.now in
+    let kept : KeptRefs = c.args.self.now in
     let block : List ℕ = c.make_block.new.block in
     let len : length block ≡ c.self.inside.buffer.len = omega (arith, c.make_block.auto.block, c.as_mut_slice.ensures.len) in
     let bytes : c.as_slice.result.now ≡ block = c.as_slice.ensures.value ∙ take_at block (drop (length block) c.self.inside.buffer.items) c.self.inside.buffer.len len in
-    let view = ap (λ (k : Kept). cluster_size k.cluster_bits) c.self.view_is in
+    let view = ap (λ (k : KeptRefs). cluster_size k.cluster_bits) c.self.view_is in
     let whole : length c.as_mut_slice.result.now ≡ cluster_size kept.cluster_bits = omega (arith, len, c.make_block.auto.block, c.self.inside.buffer.ok.0, c.self.invariant.buffer, view) in
     let made = bytes ∙ c.make_block.ensures ∙ ap new_block whole in
     let is = block_writes_are kept c.args.i c.block_place-offset.result c.entry_place-entry.result c.as_slice.result.now
@@ -29,11 +29,11 @@ returns-in_err-write_block-clause-writes g c =
 
 pub returns-clause-writes : goal.returns-clause-writes
 returns-clause-writes g c =
-    let kept : Kept = c.args.self.now in
+    let kept : KeptRefs = c.args.self.now in
     let block : List ℕ = c.make_block.new.block in
     let len : length block ≡ c.self.inside.buffer.len = omega (arith, c.make_block.auto.block, c.as_mut_slice.ensures.len) in
     let bytes : c.as_slice.result.now ≡ block = c.as_slice.ensures.value ∙ take_at block (drop (length block) c.self.inside.buffer.items) c.self.inside.buffer.len len in
-    let view = ap (λ (k : Kept). cluster_size k.cluster_bits) c.self.view_is in
+    let view = ap (λ (k : KeptRefs). cluster_size k.cluster_bits) c.self.view_is in
     let whole : length c.as_mut_slice.result.now ≡ cluster_size kept.cluster_bits = omega (arith, len, c.make_block.auto.block, c.self.inside.buffer.ok.0, c.self.invariant.buffer, view) in
     let made = bytes ∙ c.make_block.ensures ∙ ap new_block whole in
     let is = block_writes_are kept c.args.i c.block_place-offset.result c.entry_place-entry.result c.as_slice.result.now

@@ -4,13 +4,13 @@ use Rattle.blk_base.specs.Device.{Writes, stop_of}
 use Rattle.blk_base.specs.declared.fault.DevStop.{DevStop}
 use Rattle.blk_base.proofs.DeviceLemmas.{writes_then, writes_sooner}
 use Rattle.q2_refs.specs.Allocating.{allocation_writes, block_writes_for, count_write, with_block_for}
-use Rattle.q2_refs.specs.Kept.{Kept}
+use Rattle.q2_refs.specs.Kept.{KeptRefs}
 use Rattle.q2_refs.proofs.Allocated.{take_left}
 use Rattle.q2_refs.proofs.refs.Refs.take.Goals as goal
 
 pub returns-in_err-ensure_block-clause-writes : goal.returns-in_err-ensure_block-clause-writes
 returns-in_err-ensure_block-clause-writes g c =
-    let kept : Kept = c.args.self.now in
+    let kept : KeptRefs = c.args.self.now in
     let n : ℕ = c.args.cluster in
     let stop : DevStop = c.in_err-ensure_block.field-0.0 in
     let p = err_from_is_err_and c.from_residual.result c.from_residual.ensures.1 in
@@ -21,9 +21,9 @@ returns-in_err-ensure_block-clause-writes g c =
 
 pub returns-clause-writes : goal.returns-clause-writes
 returns-clause-writes g c =
-    let kept : Kept = c.args.self.now in
+    let kept : KeptRefs = c.args.self.now in
     let n : ℕ = c.args.cluster in
-    let P : Kept → Type 0 = λ k. Writes g.D.Device (count_write k n ∷ []) (stop_of c.count_one.result) c.ensure_block.new.dev c.count_one.new.dev in
+    let P : KeptRefs → Type 0 = λ k. Writes g.D.Device (count_write k n ∷ []) (stop_of c.count_one.result) c.ensure_block.new.dev c.count_one.new.dev in
     writes_then g.D.Device (block_writes_for kept n) (count_write (with_block_for kept n) n ∷ []) (stop_of c.count_one.result)
     c.args.dev.now c.ensure_block.new.dev c.count_one.new.dev
     c.in_ok-ensure_block.ensures.writes (subst P c.in_ok-ensure_block.ensures.ok c.count_one.ensures.writes)

@@ -9,7 +9,7 @@ use Rattle.q2_tables.proofs.LinkWrites.{writes_are, table_len_few}
 use Rattle.std.proofs.Math.ListN.{length-set}
 use Rattle.std.proofs.lemmas.Result.{err_from_is_err_and}
 use Rattle.q2_format.specs.Sizes.{entries_in_cluster}
-use Rattle.q2_tables.specs.Kept.{Kept}
+use Rattle.q2_tables.specs.Kept.{KeptTables}
 use Rattle.q2_tables.proofs.Loaded.{filled_again}
 use Rattle.q2_tables.proofs.Links.{stopped_seen, table_seen, plain_set, below_seen}
 use Rattle.q2_tables.proofs.LinkStops.{link_stops}
@@ -18,21 +18,21 @@ use Rattle.q2_tables.proofs.tables.Tables.link_table.Goals as goal
 pub returns-in_err-write_table-clause-told : goal.returns-in_err-write_table-clause-told
 returns-in_err-write_table-clause-told g c = λ file told tree apart.
     let p = err_from_is_err_and c.from_residual.result c.from_residual.ensures.1 in
-    let seen : Kept = record { c = c.self.inside.cluster_size; l1_offset = c.self.inside.l1_offset; l1 = c.self.inside.l1.items; words = c.self.inside.words.items } in
+    let seen : KeptTables = record { c = c.self.inside.cluster_size; l1_offset = c.self.inside.l1_offset; l1 = c.self.inside.l1.items; words = c.self.inside.words.items } in
     rw p.1 (stopped_seen seen c.args.self.now c.args.cluster c.args.table (length c.as_mut_slice.result.now) file (g.D.Device.content c.write_table.new.dev) (g.D.Device.content c.write_table.new.dev)
     c.self.view_is c.requires.can apart c.requires.some tree (c.in_err-write_table.ensures.told file told) (ap length c.as_mut_slice.ensures.value ∙ c.self.invariant.room) refl)
 
 pub returns-in_err-write_entry-clause-told : goal.returns-in_err-write_entry-clause-told
 returns-in_err-write_entry-clause-told g c = λ file told tree apart.
     let p = err_from_is_err_and c.from_residual-in_err-write_entry.result c.from_residual-in_err-write_entry.ensures.1 in
-    let seen : Kept = record { c = c.self.inside.cluster_size; l1_offset = c.self.inside.l1_offset; l1 = c.self.inside.l1.items; words = c.self.inside.words.items } in
+    let seen : KeptTables = record { c = c.self.inside.cluster_size; l1_offset = c.self.inside.l1_offset; l1 = c.self.inside.l1.items; words = c.self.inside.words.items } in
     rw p.1 (stopped_seen seen c.args.self.now c.args.cluster c.args.table (length c.as_mut_slice.result.now) file (g.D.Device.content c.write_table.new.dev) (g.D.Device.content c.write_entry.new.dev)
     c.self.view_is c.requires.can apart c.requires.some tree (c.in_ok-write_table.ensures.told file told) (ap length c.as_mut_slice.ensures.value ∙ c.self.invariant.room) c.in_err-write_entry.ensures.kept)
 
 pub invariant_of-self-2 : goal.invariant_of-self-2
 invariant_of-self-2 g c =
     let n : ℕ = c.self.inside.cluster_size in
-    let seen : Kept = record { c = c.self.inside.cluster_size; l1_offset = c.self.inside.l1_offset; l1 = c.self.inside.l1.items; words = c.self.inside.words.items } in
+    let seen : KeptTables = record { c = c.self.inside.cluster_size; l1_offset = c.self.inside.l1_offset; l1 = c.self.inside.l1.items; words = c.self.inside.words.items } in
     record {
       entries = length-set {A = ℕ} c.self.inside.words.items c.args.cluster c.args.word ∙ c.self.invariant.entries
           ∙ ap (λ (m : ℕ). m * entries_in_cluster n) (sym (length-set {A = ℕ} c.self.inside.l1.items (c.args.cluster / (n / 8)) (c.args.table + 9223372036854775808)));
@@ -48,7 +48,7 @@ invariant_of-self-2 g c =
 
 pub returns-clause-told : goal.returns-clause-told
 returns-clause-told g c = λ file told tree apart.
-    let seen : Kept = record { c = c.self.inside.cluster_size; l1_offset = c.self.inside.l1_offset; l1 = c.self.inside.l1.items; words = c.self.inside.words.items } in
+    let seen : KeptTables = record { c = c.self.inside.cluster_size; l1_offset = c.self.inside.l1_offset; l1 = c.self.inside.l1.items; words = c.self.inside.words.items } in
     let after = c.in_ok-write_table.ensures.told file told in
     table_seen seen c.args.self.now c.args.cluster c.args.word c.args.table (length c.as_mut_slice.result.now) file (g.D.Device.content c.write_table.new.dev) (g.D.Device.content c.write_entry.new.dev)
     c.self.view_is c.requires.can apart c.requires.some tree after (ap length c.as_mut_slice.ensures.value ∙ c.self.invariant.room)
@@ -56,7 +56,7 @@ returns-clause-told g c = λ file told tree apart.
 
 pub returns-in_err-write_entry-clause-writes : goal.returns-in_err-write_entry-clause-writes
 returns-in_err-write_entry-clause-writes g c =
-    let seen : Kept = record { c = c.self.inside.cluster_size; l1_offset = c.self.inside.l1_offset; l1 = c.self.inside.l1.items; words = c.self.inside.words.items } in
+    let seen : KeptTables = record { c = c.self.inside.cluster_size; l1_offset = c.self.inside.l1_offset; l1 = c.self.inside.l1.items; words = c.self.inside.words.items } in
     let n : ℕ = length c.as_mut_slice.result.now in
     let e : ℕ = c.self.inside.cluster_size / 8 in
     let at : ℕ = c.self.inside.l1_offset + 8 * (c.args.cluster / e) in
@@ -67,14 +67,14 @@ returns-in_err-write_entry-clause-writes g c =
     let p = err_from_is_err_and c.from_residual-in_err-write_entry.result c.from_residual-in_err-write_entry.ensures.1 in
     let Q : DevStop → Type 0 = λ x. Writes g.D.Device (link_writes c.args.self.now c.args.cluster c.args.word c.args.table) (Some x) c.args.dev.now c.write_entry.new.dev in
     let L : List Write → Type 0 = λ ws. Writes g.D.Device ws (Some stop) c.args.dev.now c.write_entry.new.dev in
-    let K : Kept → Type 0 = λ k. Writes g.D.Device (link_writes k c.args.cluster c.args.word c.args.table) (Some stop) c.args.dev.now c.write_entry.new.dev in
+    let K : KeptTables → Type 0 = λ k. Writes g.D.Device (link_writes k c.args.cluster c.args.word c.args.table) (Some stop) c.args.dev.now c.write_entry.new.dev in
     rw p.1 (subst Q (sym p.2) (subst K c.self.view_is (subst L are
     (writes_then g.D.Device (write_of c.args.table (new_table n (c.args.cluster % e) c.args.word) ∷ []) (entry_write at l1 ∷ []) (Some stop)
     c.args.dev.now c.write_table.new.dev c.write_entry.new.dev c.in_ok-write_table.ensures.writes c.in_err-write_entry.ensures.writes))))
 
 pub returns-clause-reaches : goal.returns-clause-reaches
 returns-clause-reaches g c =
-    let view = ap (λ (k : Kept). k.c) c.self.view_is in
+    let view = ap (λ (k : KeptTables). k.c) c.self.view_is in
     let room = ap length c.as_mut_slice.ensures.value ∙ c.self.invariant.room in
     let last = c.in_ok-write_entry.ensures.writes in
     let grows = wrote-grows g.D.Device last.made c.write_table.new.dev c.write_entry.new.dev last.wrote in
@@ -83,15 +83,15 @@ returns-clause-reaches g c =
 
 pub returns-in_err-write_table-clause-stops : goal.returns-in_err-write_table-clause-stops
 returns-in_err-write_table-clause-stops g c = λ file told tree apart.
-    let A : Kept → Type 0 = λ k. k.l1_offset % 8 ≡ 0 in
+    let A : KeptTables → Type 0 = λ k. k.l1_offset % 8 ≡ 0 in
     link_stops file c.args.self.now c.args.cluster c.args.word c.args.table c.requires.can apart (omega arith) tree (subst A c.self.view_is c.self.invariant.aligned)
 
 pub returns-in_err-write_entry-clause-stops : goal.returns-in_err-write_entry-clause-stops
 returns-in_err-write_entry-clause-stops g c = λ file told tree apart.
-    let A : Kept → Type 0 = λ k. k.l1_offset % 8 ≡ 0 in
+    let A : KeptTables → Type 0 = λ k. k.l1_offset % 8 ≡ 0 in
     link_stops file c.args.self.now c.args.cluster c.args.word c.args.table c.requires.can apart (omega arith) tree (subst A c.self.view_is c.self.invariant.aligned)
 
 pub returns-clause-stops : goal.returns-clause-stops
 returns-clause-stops g c = λ file told tree apart.
-    let A : Kept → Type 0 = λ k. k.l1_offset % 8 ≡ 0 in
+    let A : KeptTables → Type 0 = λ k. k.l1_offset % 8 ≡ 0 in
     link_stops file c.args.self.now c.args.cluster c.args.word c.args.table c.requires.can apart (omega arith) tree (subst A c.self.view_is c.self.invariant.aligned)
