@@ -273,12 +273,12 @@ pub cluster_zeros : (c : ℕ) → AreClusterZeros c (replicate c 0)
 cluster_zeros c = record { whole = length-replicate {A = ℕ} c 0; zeros = zeros_at c }
 
 -- a zero write, with the zeros of a cluster
-pub zeros_disk : (r : Result (Unit {0}) DevStop) (old new : Option (List ℕ)) (at : ℕ)
-    → OnOk r ((b now zeros : List ℕ) → old ≡ Some b → new ≡ Some now → AreClusterZeros 65536 zeros → IsDiskWith b now at zeros)
-    → OnOk r ((b now : List ℕ) → old ≡ Some b → new ≡ Some now → IsDiskWith b now at (replicate 65536 0))
-zeros_disk (Ok done) old new at ok = λ b now is_old is_new.
-    ok b now (replicate 65536 0) is_old is_new (cluster_zeros 65536)
-zeros_disk (Err stop) old new at ok = tt
+pub zeros_disk : (c : ℕ) (r : Result (Unit {0}) DevStop) (old new : Option (List ℕ)) (at : ℕ)
+    → OnOk r ((b now zeros : List ℕ) → old ≡ Some b → new ≡ Some now → AreClusterZeros c zeros → IsDiskWith b now at zeros)
+    → OnOk r ((b now : List ℕ) → old ≡ Some b → new ≡ Some now → IsDiskWith b now at (replicate c 0))
+zeros_disk c (Ok done) old new at ok = λ b now is_old is_new.
+    ok b now (replicate c 0) is_old is_new (cluster_zeros c)
+zeros_disk c (Err stop) old new at ok = tt
 
 -- the header but for the autoclear field tells how many clusters there are
 pub clusters_same : (old new : Known) → HasHeaderOf old new → clusters_in new ≡ clusters_in old

@@ -50,7 +50,7 @@ disk_written old new backing at bytes is within =
 
 -- after a put of a whole cluster, of which but for a part the disk had the bytes
 pub disk_put : (old new backing : List ℕ) (start n : ℕ) (bytes cluster found : List ℕ) → IsDiskWith old new (start - start % 65536) cluster
-    → IsLaid n (start % 65536) bytes cluster → HasFound n (start % 65536) bytes found cluster → found ≡ bytes_at (image_disk old backing) (start - start % 65536) n
+    → IsLaid 65536 n (start % 65536) bytes cluster → HasFound n (start % 65536) bytes found cluster → found ≡ bytes_at (image_disk old backing) (start - start % 65536) n
     → n ≡ min 65536 ((header_of old).size - (start - start % 65536)) → start % 65536 + length bytes ≤ 65536 → start + length bytes ≤ (header_of old).size
     → image_disk new backing ≡ with_bytes (image_disk old backing) start bytes
 disk_put old new backing start n bytes cluster found is laid rest was count block within =

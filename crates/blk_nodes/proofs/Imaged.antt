@@ -1,5 +1,5 @@
 -- What a piece that is written to an image leaves of all nodes.
-use Rattle.std.proofs.Common.{◌≡◌, ◌≢◌, ℕ, ◌+◌, ◌-◌, ◌/◌, ◌%◌, ◌<◌, ◌≤◌, min, Bool, true, false, List, [], ◌++◌, length, take, drop, replicate, Option, Some, None, refl, sym, ◌∙◌, ap, subst, arith, inl, inr}
+use Rattle.std.proofs.Common.{◌≡◌, ◌≢◌, ℕ, ◌+◌, ◌/◌, ◌%◌, ◌<◌, ◌≤◌, Bool, true, false, List, [], ◌++◌, length, take, drop, replicate, Option, Some, None, refl, sym, ◌∙◌, ap, subst, arith, inl, inr}
 use Rattle.std.specs.Prelude.{IsSome, is_some}
 use Rattle.std.proofs.lemmas.Bool.{cases_eq}
 use Rattle.std.proofs.lemmas.List.{get_or-set_same, get_or-set_other, length-set, length-replicate, take-append-le, take_all}
@@ -36,7 +36,7 @@ use Rattle.blk_nodes.proofs.Disks.{disks_risen}
 use Rattle.blk_nodes.proofs.HeldDevices.{told_is, told_held, held_after, before_rise, device_risen, HasRisen-refl, HaveRisen-refl, some_device}
 use Rattle.blk_nodes.proofs.Joints.{joined_after}
 use Rattle.blk_nodes.proofs.PartFits.{rest_begins}
-use Rattle.blk_nodes.proofs.PartsWritten.{same_row}
+use Rattle.blk_nodes.proofs.PartsWritten.{len_is, same_row, start_is}
 use Rattle.blk_nodes.proofs.RestBeside.{read_beside, rest_beside}
 use Rattle.blk_nodes.proofs.Rows.{row_below, image_found}
 use Rattle.blk_nodes.proofs.Unfolding.{unfolds}
@@ -82,8 +82,8 @@ module _ (nodes : Nodes) (joined : IsJoined nodes) (part : Part) (may : MayWrite
   -- the bytes of its cluster are found on its disk
   found_is : AreTold nodes.devices → found_bytes nodes.devices part.source part.whole.start part.whole.len ≡ bytes_at (disk_of nodes node) part.whole.start part.whole.len
   found_is all =
-      let start : part.whole.start ≡ part.span.start - part.span.start % 65536 = ap (λ (s : Extent). s.start) is_piece.whole in
-      let count : part.whole.len ≡ min 65536 (w.image.header.size - (part.span.start - part.span.start % 65536)) = ap (λ (s : Extent). s.len) is_piece.whole in
+      let start = start_is nodes.rows nodes.devices part w.image is_piece in
+      let count = len_is nodes.rows nodes.devices part w.image is_piece in
       let size = sized in
       let within = is_piece.inside in
       let inside : part.whole.start + part.whole.len ≤ node_size nodes node = omega arith in
@@ -92,8 +92,8 @@ module _ (nodes : Nodes) (joined : IsJoined nodes) (part : Part) (may : MayWrite
 
   pub disk_found : (disk : List ℕ) → IsToldDisk nodes node disk → IsDiskFound nodes.devices part disk
   disk_found disk is =
-      let start : part.whole.start ≡ part.span.start - part.span.start % 65536 = ap (λ (s : Extent). s.start) is_piece.whole in
-      let count : part.whole.len ≡ min 65536 (w.image.header.size - (part.span.start - part.span.start % 65536)) = ap (λ (s : Extent). s.len) is_piece.whole in
+      let start = start_is nodes.rows nodes.devices part w.image is_piece in
+      let count = len_is nodes.rows nodes.devices part w.image is_piece in
       let size = sized in
       let within = is_piece.inside in
       let all : length disk ≡ node_size nodes node = ap length is.1 ∙ length_disk nodes joined is.0 node w.row w.there ∙ sym (ap size_by w.there) in

@@ -20,9 +20,9 @@ use Rattle.blk_nodes.specs.Parts.{OfImage, HasPiece, IsPieceOf, IsDiskFound, Wri
 use Rattle.blk_nodes.specs.Writing.{own_place_by, rest_place, zeros_place}
 use Rattle.blk_nodes.specs.declared.part.Part.{Part}
 use Rattle.blk_nodes.specs.declared.row.Row.{Row}
-use Rattle.blk_nodes.proofs.PartsWritten.{base_is, cluster_is, entry_is, size_bits, start_is, len_is, left_wrote, wrote_as}
+use Rattle.blk_nodes.proofs.PartsWritten.{base_is, cluster_is, entry_is, in_block, size_bits, start_is, len_is, left_wrote, wrote_as}
 use Rattle.blk_nodes.proofs.HeldDevices.{some_device}
-use Rattle.blk_nodes.proofs.Rows.{has_image, image_found, row_below, row_found}
+use Rattle.blk_nodes.proofs.Rows.{has_image, image_found, of_image, row_below, row_found}
 
 -- a cluster that isn't mapped
 put_to : (image : Known) (span : Extent) (capacity : ℕ) (e : L2Entry) → (IsHost e → ⊥) → PutFits image (cluster_of image span) capacity → WriteFitsBy e image span capacity
@@ -93,7 +93,7 @@ module _ (rows : List (Option Row)) (devices : List DeviceSeen) (part : Part) (i
   no_whole =
       let bits = size_bits rows devices part image piece in
       let len = len_is rows devices part image piece in
-      rw bits (whole_false part.span image.header.size piece.some piece.block piece.inside (λ same. absurd (omega (arith, less, len, same))))
+      rw bits (whole_false part.span image.header.size piece.some (in_block rows devices part image piece) piece.inside (λ same. absurd (omega (arith, less, len, same))))
 
   -- the read of the rest of its cluster begins with the cluster
   pub rest_begins : (own : Option ℕ) → own ≡ None → rest_place own (is_whole image part.span) image part.span ≡ Some part.whole.start
@@ -135,21 +135,18 @@ module _ (rows left : List (Option Row)) (old new : List DeviceSeen) (part : Par
     entry_of_image e is =
         entry_is rows old part w.image piece ∙ sym (entry_at e is)
 
-    clusters : cluster_of w.image part.span ≡ cluster
-    clusters = cluster_is rows old part w.image piece
-
     is_whole_by : (b : Bool) → ((part.span.start % 65536 == 0 && (part.span.len == 65536 || end_of part.span == w.image.header.size)) ≡ b) → is_whole w.image part.span ≡ b
     is_whole_by b test = let bits = size_bits rows old part w.image piece in rw bits test
 
     whole_is : part.span.len ≡ part.whole.len → is_whole w.image part.span ≡ true
     whole_is all =
         let len = len_is rows old part w.image piece in
-        is_whole_by true (whole_true part.span w.image.header.size piece.some piece.block piece.inside (all ∙ len))
+        is_whole_by true (whole_true part.span w.image.header.size piece.some (in_block rows old part w.image piece) piece.inside (all ∙ len))
 
     part_is : part.span.len ≢ part.whole.len → is_whole w.image part.span ≡ false
     part_is less =
         let len = len_is rows old part w.image piece in
-        is_whole_by false (whole_false part.span w.image.header.size piece.some piece.block piece.inside (λ is. less (is ∙ sym len)))
+        is_whole_by false (whole_false part.span w.image.header.size piece.some (in_block rows old part w.image piece) piece.inside (λ is. less (is ∙ sym len)))
 
   abbrev OwnFits : Known → ℕ → Type 0
   OwnFits image capacity = own_end image part.span ≤ capacity
@@ -164,7 +161,7 @@ module _ (rows left : List (Option Row)) (old new : List DeviceSeen) (part : Par
   written = IsImageWritten IsIts part.span bytes
 
   abbrev ClusterFits : Known → ℕ → Type 0
-  ClusterFits image = PutFits image cluster
+  ClusterFits image = PutFits image (cluster_of image part.span)
 
   abbrev nowhere : Known → Option ℕ
   nowhere image = None
@@ -188,14 +185,12 @@ module _ (rows left : List (Option Row)) (old new : List DeviceSeen) (part : Par
       → WritesPart (λ image. WriteFits image part.span) (λ image. own_place_by (entry_for image part.span) image part.span) written rows left old new part bytes outcome
   write_put_as e none is w =
       let entry = entry_of_image ClusterFits nowhere around w e is in
-      let at = clusters ClusterFits nowhere around w in
       wrote_as rows left old new part bytes outcome ClusterFits (λ image. WriteFits image part.span) nowhere (λ image. own_place_by (entry_for image part.span) image part.span) around written w
       (λ capacity fit.
       subst (λ (e : L2Entry). WriteFitsBy e w.image part.span capacity) (sym entry)
-      (put_to w.image part.span capacity e none (subst (λ (k : ℕ). PutFits w.image k capacity) (sym at) fit)))
+      (put_to w.image part.span capacity e none fit))
       (λ capacity fit.
-      subst (λ (k : ℕ). PutFits w.image k capacity) at
-      (put_back w.image part.span capacity e none (subst (λ (e : L2Entry). WriteFitsBy e w.image part.span capacity) entry fit)))
+      put_back w.image part.span capacity e none (subst (λ (e : L2Entry). WriteFitsBy e w.image part.span capacity) entry fit))
       (sym (ap (λ (e : L2Entry). own_place_by e w.image part.span) entry ∙ no_place w.image part.span e none))
       (λ now before after o is.
       subst (λ (e : L2Entry). ChangesPart IsIts e part.span bytes w.image now before after o) (sym entry)
@@ -211,23 +206,21 @@ module _ (rows left : List (Option Row)) (old new : List DeviceSeen) (part : Par
   zeroed = IsZeroed IsIts part.span
 
   abbrev cleared : ImageChange
-  cleared = ClearsCluster cluster
+  cleared image = ClearsCluster (cluster_of image part.span) image
 
-  pub zero_clear_as : part.span.len ≡ part.whole.len → WritesPart (λ image. ZeroFits image cluster) nowhere cleared rows left old new part bytes outcome
+  pub zero_clear_as : part.span.len ≡ part.whole.len → WritesPart (λ image. ZeroFits image (cluster_of image part.span)) nowhere cleared rows left old new part bytes outcome
       → WritesPart to_zeros zeros_at zeroed rows left old new part bytes outcome
   zero_clear_as all w =
-      let EntryFits : Known → ℕ → Type 0 = λ image. ZeroFits image cluster in
+      let EntryFits : Known → ℕ → Type 0 = λ image. ZeroFits image (cluster_of image part.span) in
       let whole = whole_is EntryFits nowhere cleared w all in
-      let at = clusters EntryFits nowhere cleared w in
       wrote_as rows left old new part bytes outcome EntryFits to_zeros nowhere zeros_at cleared zeroed w
       (λ capacity fit.
-      subst (λ (b : Bool). ZerosFitBy b w.image part.span capacity) (sym whole) (subst (λ (k : ℕ). ZeroFits w.image k capacity) (sym at) fit))
+      subst (λ (b : Bool). ZerosFitBy b w.image part.span capacity) (sym whole) fit)
       (λ capacity fit.
-      subst (λ (k : ℕ). ZeroFits w.image k capacity) at (subst (λ (b : Bool). ZerosFitBy b w.image part.span capacity) whole fit))
+      subst (λ (b : Bool). ZerosFitBy b w.image part.span capacity) whole fit)
       (sym (ap (λ (b : Bool). zeros_place b w.image part.span) whole))
       (λ now before after o is.
-      subst (λ (b : Bool). ZeroesBy IsIts b part.span w.image now before after o) (sym whole)
-      (subst (λ (k : ℕ). ClearsCluster k w.image now before after o) (sym at) is))
+      subst (λ (b : Bool). ZeroesBy IsIts b part.span w.image now before after o) (sym whole) is)
 
   -- zeros of a part that are written as other bytes are
   module _ (less : part.span.len ≢ part.whole.len) (e : L2Entry) (plain : (image : Known) (capacity : ℕ) → WriteFitsBy e image part.span capacity → PartZerosFit e image part.span capacity)
@@ -269,7 +262,7 @@ module _ (rows left : List (Option Row)) (old new : List DeviceSeen) (part : Par
       let bits = size_bits rows old part image piece in
       let len = len_is rows old part image piece in
       let test : is_whole image part.span ≡ false
-      = rw bits (whole_false part.span image.header.size piece.some piece.block piece.inside (λ same. less (same ∙ sym len))) in
+      = rw bits (whole_false part.span image.header.size piece.some (in_block rows old part image piece) piece.inside (λ same. less (same ∙ sym len))) in
       let entry : entry_for image part.span ≡ entries.Zero host = entry_is rows old part image piece ∙ sym is in
       subst (λ (b : Bool). ZerosFitBy b image part.span capacity) (sym test) (subst (λ (e : L2Entry). PartZerosFit e image part.span capacity) (sym entry) tt)
 
@@ -279,7 +272,7 @@ module _ (rows left : List (Option Row)) (old new : List DeviceSeen) (part : Par
       let bits = size_bits rows old part image piece in
       let len = len_is rows old part image piece in
       let test : is_whole image part.span ≡ false
-      = rw bits (whole_false part.span image.header.size piece.some piece.block piece.inside (λ same. less (same ∙ sym len))) in
+      = rw bits (whole_false part.span image.header.size piece.some (in_block rows old part image piece) piece.inside (λ same. less (same ∙ sym len))) in
       let entry : entry_for image part.span ≡ entries.Zero host = entry_is rows old part image piece ∙ sym is in
       subst (λ (b : Bool). ZeroesBy IsIts b part.span image image device device Good) (sym test)
       (subst (λ (e : L2Entry). ZeroesPart IsIts e part.span image image device device Good) (sym entry) ((refl, refl), refl))
@@ -297,6 +290,17 @@ pub seen_at : (rows : List (Option Row)) (part : Part) (index : ℕ) (found : Op
 seen_at rows part index found same below is m seen =
     let there : row_in rows part.node ≡ found = row_found rows index part.node found same below is in
     subst (λ (f : Option Row). OfImage f (λ image. entry_of m ≡ entry_in image (part.span.start / 65536))) (sym there) seen
+
+-- a mapped one
+pub host_at : (rows : List (Option Row)) (old : List DeviceSeen) (part : Part) → HasPiece rows old part → (host : ℕ)
+    → OfImage (row_in rows part.node) (λ image. entries.Host host ≡ entry_in image (part.span.start / 65536))
+    → OfImage (row_in rows part.node) (λ image. IsHost (entry_for image part.span))
+host_at rows old part has host seen =
+    let image = has_image (row_in rows part.node) (IsPieceOf rows old part) has in
+    let entry : entries.Host host ≡ entry_in image.1 (part.span.start / 65536)
+    = image_found (row_in rows part.node) image.0 image.1 (λ image. entries.Host host ≡ entry_in image (part.span.start / 65536)) image.2 image.3 seen in
+    of_image (row_in rows part.node) image.0 image.1 (λ image. IsHost (entry_for image part.span)) image.2 image.3
+    (subst IsHost (entry ∙ sym (entry_is rows old part image.1 image.4)) tt)
 
 to_part : (image : Known) (span : Extent) (capacity : ℕ) (m : Mapping) → ((host : ℕ) → m ≡ mappings.Zero host → ⊥) → WriteFitsBy (entry_of m) image span capacity
     → PartZerosFit (entry_of m) image span capacity

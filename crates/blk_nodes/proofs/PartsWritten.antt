@@ -4,7 +4,7 @@ use Rattle.std.proofs.lemmas.Bool.{cases_lt}
 use Rattle.std.proofs.lemmas.List.{get_or-drop, get_or-replicate, get_or-take, get_or_past, length-replicate, set-get_or}
 use Rattle.blk_base.proofs.Contents.{bytes_at-by_place, get_or-bytes_at, get_or-with_bytes_inside, get_or-with_bytes_outside, length-overwritten, overwritten-within}
 use Rattle.blk_base.specs.Content.{bytes_at, with_bytes}
-use Rattle.blk_base.specs.Pieces.{Extent}
+use Rattle.blk_base.specs.Pieces.{Extent, block_size}
 use Rattle.blk_base.specs.declared.fault.DevNo.{DevNo}
 use Rattle.blk_base.specs.declared.fault.Outcome.{Outcome}
 use Rattle.blk_base.specs.declared.fault.Outcome.TheVariants.{Good, Torn, Io, NoSpace}
@@ -14,6 +14,7 @@ use Rattle.q2_format.specs.declared.header.Header.{Header}
 use Rattle.q2_format.specs.declared.entries.L2Entry.TheVariants as entries
 use Rattle.q2_image.specs.Guest.{file_entry}
 use Rattle.q2_image.specs.Image.{Known, IsImageOf, cluster_size_in, clusters_in, entry_in}
+use Rattle.q2_image.specs.Reading.{IsHost, IsWithinCluster}
 use Rattle.q2_image.specs.Room.{cluster_of, entry_for}
 use Rattle.q2_image.specs.Writing.{IsDiskWith, PutFits, ZeroFits, own_end, own_place}
 use Rattle.q2_image.proofs.Guests.{guest_zero}
@@ -26,8 +27,8 @@ use Rattle.blk_nodes.specs.Walk.{IsKnownAt}
 use Rattle.blk_nodes.specs.declared.source.Source.{Source}
 use Rattle.blk_nodes.specs.declared.source.Source.TheVariants as sources
 use Rattle.blk_nodes.specs.Nodes.{DeviceSeen, AreTold, device_in}
-use Rattle.blk_nodes.specs.Parts.{OfImage, HasPiece, IsPieceOf, IsLaid, HasFound, IsDiskFound, CallsRow, IsDiskAfter, ReadsRest, WritesPart, row_in}
-use Rattle.blk_nodes.specs.Writing.{taken_by, FitsAt, HasRoomAt, HasRoomBy, HasImageCause, IsTornAt}
+use Rattle.blk_nodes.specs.Parts.{OfImage, HasPiece, IsPieceOf, IsLaid, HasFound, IsDiskFound, CallsRow, IsDiskAfter, ReadsRest, WritesPart, block_around, row_in, stretch_around}
+use Rattle.blk_nodes.specs.Writing.{taken_by, FitsAt, HasRoomAt, HasRoomBy, HasImageCause, IsImageWrite, IsTornAt}
 use Rattle.blk_nodes.specs.declared.part.Part.{Part}
 use Rattle.blk_nodes.specs.declared.row.Driver.{Driver}
 use Rattle.blk_nodes.specs.declared.row.Driver.TheVariants.{Qcow2}
@@ -62,18 +63,25 @@ module _ (rows : List (Option Row)) (old : List DeviceSeen) (part : Part) (image
   pub size_in : (device : DeviceSeen) (b : List ℕ) → device_in old part.file ≡ Some device → device.content ≡ Some b → (header_of b).size ≡ image.header.size
   size_in device b held content = ap (λ (h : Header). h.size) (known_of device b held content).header
 
+  -- its cluster is its block
+  pub size_bits : cluster_size_in image ≡ 65536
+  size_bits = rw piece.opened.cluster_bits refl
+
+  pub in_block : IsWithinCluster block_size part.span
+  in_block = subst (λ (c : ℕ). IsWithinCluster c part.span) size_bits piece.cluster
+
+  whole_is : part.whole ≡ block_around image.header.size part.span
+  whole_is = piece.whole ∙ ap (λ (c : ℕ). stretch_around c image.header.size part.span) size_bits
+
   pub start_is : part.whole.start ≡ part.span.start - part.span.start % 65536
-  start_is = ap (λ (s : Extent). s.start) piece.whole
+  start_is = ap (λ (s : Extent). s.start) whole_is
 
   pub len_is : part.whole.len ≡ min 65536 (image.header.size - (part.span.start - part.span.start % 65536))
-  len_is = ap (λ (s : Extent). s.len) piece.whole
+  len_is = ap (λ (s : Extent). s.len) whole_is
 
   -- a piece that is its whole cluster begins where that does
   pub begins : part.span.len ≡ part.whole.len → part.span.start % 65536 ≡ 0
-  begins all = let inside = piece.inside in let block = piece.block in let len = len_is in omega arith
-
-  pub size_bits : cluster_size_in image ≡ 65536
-  size_bits = rw piece.opened.cluster_bits refl
+  begins all = let inside = piece.inside in let block = in_block in let len = len_is in omega arith
 
   pub cluster_is : cluster_of image part.span ≡ part.span.start / 65536
   cluster_is = ap (λ (c : ℕ). part.span.start / c) size_bits
@@ -85,7 +93,7 @@ module _ (rows : List (Option Row)) (old : List DeviceSeen) (part : Part) (image
   base_is = let same : cluster_start image part.span ≡ part.span.start / 65536 * 65536 = ap (λ (c : ℕ). part.span.start / c * c) size_bits in same ∙ omega arith
 
   -- a cluster that was put together has all bytes of the disk with the piece
-  module _ (bytes cluster : List ℕ) (len : length bytes ≡ part.span.len) (is_laid : IsLaid part.whole.len (part.span.start % 65536) bytes cluster)
+  module _ (bytes cluster : List ℕ) (len : length bytes ≡ part.span.len) (is_laid : IsLaid 65536 part.whole.len (part.span.start % 65536) bytes cluster)
       (rest : AreTold old → HasFound part.whole.len (part.span.start % 65536) bytes (found_bytes old part.source part.whole.start part.whole.len) cluster) where
     abbrev begin : ℕ
     begin = part.span.start - part.span.start % 65536
@@ -146,7 +154,7 @@ gathered rows devices part has old found bytes new whole is len read =
     let n : ℕ = part.whole.len in
     let count = len_is rows devices part image.1 piece in
     let some = piece.some in
-    let block = piece.block in
+    let block = in_block rows devices part image.1 piece in
     let inside = piece.inside in
     let put : new ≡ with_bytes old at bytes = is ∙ laid old bytes at (omega arith) (omega arith) in
     λ i few apart. elim (cases_lt part.span.len n) [
@@ -167,13 +175,13 @@ length-laid old (x ∷ xs) at within = length-overwritten old at (x ∷ xs) ∙ 
 
 pub laid_part : (rows : List (Option Row)) (devices : List DeviceSeen) (part : Part) → HasPiece rows devices part → (old bytes new : List ℕ)
     → length old ≡ 65536 → new ≡ take (part.span.start % 65536) old ++ bytes ++ drop (part.span.start % 65536 + length bytes) old → length bytes ≡ part.span.len
-    → drop part.whole.len old ≡ replicate (65536 - part.whole.len) 0 → IsLaid part.whole.len (part.span.start % 65536) bytes new
+    → drop part.whole.len old ≡ replicate (65536 - part.whole.len) 0 → IsLaid 65536 part.whole.len (part.span.start % 65536) bytes new
 laid_part rows devices part has old bytes new whole is len zeros =
     let image = has_image (row_in rows part.node) (IsPieceOf rows devices part) has in
     let piece : IsPieceOf rows devices part image.1 = image.4 in
     let at : ℕ = part.span.start % 65536 in
     let some = piece.some in
-    let block = piece.block in
+    let block = in_block rows devices part image.1 piece in
     let inside = piece.inside in
     let count = len_is rows devices part image.1 piece in
     let n : ℕ = part.whole.len in
@@ -189,8 +197,8 @@ laid_part rows devices part has old bytes new whole is len zeros =
     }
 
 -- a call on the image of a piece
-module _ (rows left : List (Option Row)) (old new : List DeviceSeen) (part : Part) (bytes all_bytes : List ℕ) (outcome : Outcome) (fits : Known → ℕ → Type 0) (own : Known → Option ℕ)
-    (change : ImageChange) (place : ℕ) (slot : Option Row) (has : HasPiece rows old part) (below : part.node < length rows)
+module _ (rows left : List (Option Row)) (old new : List DeviceSeen) (part : Part) (bytes : List ℕ) (all_bytes : Known → List ℕ) (outcome : Outcome) (fits : Known → ℕ → Type 0) (own : Known → Option ℕ)
+    (change : ImageChange) (place : Known → ℕ) (slot : Option Row) (has : HasPiece rows old part) (below : part.node < length rows)
     (call : CallsRow part.file fits own change (row_in rows part.node) slot old new place all_bytes outcome)
     (is_left : left ≡ set rows part.node slot) where
   pub piece : IsPieceOf rows old part call.image
@@ -200,7 +208,7 @@ module _ (rows left : List (Option Row)) (old new : List DeviceSeen) (part : Par
   row_now = is_left ∙ ap (set rows part.node) call.left
 
   full_by : (dev : DevNo) (o : Outcome) → outcome ≡ o → o ≡ NoSpace dev
-      → HasImageCause (fits call.image call.call.before.capacity) (own call.image) (length all_bytes) call.call.before call.call.after call.image call.now o → call.now ≡ call.image
+      → HasImageCause (fits call.image call.call.before.capacity) (own call.image) (length (all_bytes call.image)) call.call.before call.call.after call.image call.now o → call.now ≡ call.image
   full_by dev Good is none cause = absurd (cc none)
   full_by dev (Torn done other count) is none cause = absurd (cc none)
   full_by dev (Io other count) is none cause = absurd (cc none)
@@ -245,15 +253,17 @@ module _ (rows left : List (Option Row)) (old new : List DeviceSeen) (part : Par
 -- in place
 pub own_wrote : (rows left : List (Option Row)) (old new : List DeviceSeen) (part : Part) (bytes : List ℕ) (outcome : Outcome) (slot : Option Row) → HasPiece rows old part
     → part.node < length rows
-    → CallsRow part.file (λ image capacity. own_end image part.span ≤ capacity) (λ image. Some (own_place image part.span)) (ChangesInPlace part.span bytes) (row_in rows part.node) slot old new part.span.start bytes outcome
+    → CallsRow part.file (λ image capacity. own_end image part.span ≤ capacity) (λ image. Some (own_place image part.span)) (ChangesInPlace part.span bytes) (row_in rows part.node) slot old new (λ _. part.span.start) (λ _. bytes) outcome
     → left ≡ set rows part.node slot → length bytes ≡ part.span.len
     → WritesPart (λ image capacity. own_end image part.span ≤ capacity) (λ image. Some (own_place image part.span)) (ChangesInPlace part.span bytes) rows left old new part bytes outcome
 own_wrote rows left old new part bytes outcome slot has below call is_left len =
     let fits : Known → ℕ → Type 0 = λ image capacity. own_end image part.span ≤ capacity in
     let own : Known → Option ℕ = λ image. Some (own_place image part.span) in
     let change : ImageChange = ChangesInPlace part.span bytes in
-    let is = piece rows left old new part bytes bytes outcome fits own change part.span.start slot has below call is_left in
-    called_part rows left old new part bytes bytes outcome fits own change part.span.start slot has below call is_left call.call.call.cause
+    let place : Known → ℕ = λ _. part.span.start in
+    let all_bytes : Known → List ℕ = λ _. bytes in
+    let is = piece rows left old new part bytes all_bytes outcome fits own change place slot has below call is_left in
+    called_part rows left old new part bytes all_bytes outcome fits own change place slot has below call is_left call.call.call.cause
     (λ all b b' was now backing rest.
     let size = size_in rows old part call.image is call.call.before b call.call.held was in
     let few = length-written outcome bytes in
@@ -262,23 +272,23 @@ own_wrote rows left old new part bytes outcome slot has below call is_left len =
 
 -- of a whole cluster
 module _ (rows left : List (Option Row)) (old new : List DeviceSeen) (part : Part) (outcome : Outcome) (fits : Known → ℕ → Type 0) (change : ImageChange)
-    (slot : Option Row) (has : HasPiece rows old part) (below : part.node < length rows) (all_bytes bytes : List ℕ)
-    (call : CallsRow part.file fits (λ _. None) change (row_in rows part.node) slot old new (part.span.start / 65536 * 65536) all_bytes outcome)
+    (slot : Option Row) (has : HasPiece rows old part) (below : part.node < length rows) (all_bytes : Known → List ℕ) (bytes : List ℕ)
+    (call : CallsRow part.file fits (λ _. None) change (row_in rows part.node) slot old new (λ image. cluster_start image part.span) all_bytes outcome)
     (is_left : left ≡ set rows part.node slot)
     (good : AreTold old → (b b' : List ℕ) → call.call.before.content ≡ Some b → call.call.after.content ≡ Some b' → (header_of b).size ≡ call.image.header.size
-    → IsDiskWith b b' (part.span.start - part.span.start % 65536) all_bytes → IsDiskAfter old part bytes b b') where
+    → IsDiskWith b b' (part.span.start - part.span.start % 65536) (all_bytes call.image) → IsDiskAfter old part bytes b b') where
   abbrev base : ℕ
   base = part.span.start - part.span.start % 65536
 
-  here : part.span.start / 65536 * 65536 ≡ base
-  here = omega arith
-
   pub cluster_piece : IsPieceOf rows old part call.image
-  cluster_piece = piece rows left old new part bytes all_bytes outcome fits (λ _. None) change (part.span.start / 65536 * 65536) slot has below call is_left
+  cluster_piece = piece rows left old new part bytes all_bytes outcome fits (λ _. None) change (λ image. cluster_start image part.span) slot has below call is_left
 
-  by : (o : Outcome) → HasImageCause (fits call.image call.call.before.capacity) None (length all_bytes) call.call.before call.call.after call.image call.now o
+  here : cluster_start call.image part.span ≡ base
+  here = base_is rows old part call.image cluster_piece
+
+  by : (o : Outcome) → HasImageCause (fits call.image call.call.before.capacity) None (length (all_bytes call.image)) call.call.before call.call.after call.image call.now o
       → AreTold old → (b b' : List ℕ) → call.call.before.content ≡ Some b → call.call.after.content ≡ Some b' → (header_of b).size ≡ call.image.header.size
-      → IsDiskWith b b' base (taken_by o all_bytes) → IsDiskAfter old part (taken_by o bytes) b b'
+      → IsDiskWith b b' base (taken_by o (all_bytes call.image)) → IsDiskAfter old part (taken_by o bytes) b b'
   by Good cause all b b' was now size is = good all b b' was now size is
   by (Torn done dev count) cause all b b' was now size is = absurd cause.1
   by (Io dev count) cause all b b' was now size is = λ backing rest.
@@ -288,16 +298,17 @@ module _ (rows left : List (Option Row)) (old new : List DeviceSeen) (part : Par
 
   pub cluster_wrote : WritesPart fits (λ _. None) change rows left old new part bytes outcome
   cluster_wrote =
-      called_part rows left old new part bytes all_bytes outcome fits (λ _. None) change (part.span.start / 65536 * 65536) slot has below call is_left
-      (cause_of (fits call.image call.call.before.capacity) (length all_bytes) (length bytes) call.call.before call.call.after call.image call.now outcome call.call.call.cause)
+      called_part rows left old new part bytes all_bytes outcome fits (λ _. None) change (λ image. cluster_start image part.span) slot has below call is_left
+      (cause_of (fits call.image call.call.before.capacity) (length (all_bytes call.image)) (length bytes) call.call.before call.call.after call.image call.now outcome call.call.call.cause)
       (λ all b b' was now.
       let size = size_in rows old part call.image cluster_piece call.call.before b call.call.held was in
-      let disk : IsDiskWith b b' base (taken_by outcome all_bytes) = subst (λ (at : ℕ). IsDiskWith b b' at (taken_by outcome all_bytes)) here (call.call.call.wrote.disk b b' was now) in
+      let disk : IsDiskWith b b' base (taken_by outcome (all_bytes call.image))
+      = subst (λ (at : ℕ). IsDiskWith b b' at (taken_by outcome (all_bytes call.image))) here (call.call.call.wrote.disk b b' was now) in
       by outcome call.call.call.cause all b b' was now size disk)
 
 -- the same call by other words for the change
-calls_as : (file : ℕ) (fits : Known → ℕ → Type 0) (own : Known → Option ℕ) (change to : ImageChange) (old new : Option Row) (before after : List DeviceSeen) (place : ℕ)
-    (bytes : List ℕ) (outcome : Outcome) (call : CallsRow file fits own change old new before after place bytes outcome)
+calls_as : (file : ℕ) (fits : Known → ℕ → Type 0) (own : Known → Option ℕ) (change to : ImageChange) (old new : Option Row) (before after : List DeviceSeen) (place : Known → ℕ)
+    (bytes : Known → List ℕ) (outcome : Outcome) (call : CallsRow file fits own change old new before after place bytes outcome)
     → to call.image call.now call.call.before call.call.after outcome → CallsRow file fits own to old new before after place bytes outcome
 calls_as file fits own change to old new before after place bytes outcome call changed = record {
   row = call.row;
@@ -313,6 +324,34 @@ calls_as file fits own change to old new before after place bytes outcome call c
     held = call.call.held;
     left = call.call.left;
     call = record { wrote = call.call.call.wrote; cause = call.call.call.cause; changed = changed };
+    only = call.call.only;
+    full = call.call.full;
+  };
+}
+
+-- the same call, where the image tells the number of its cluster
+numbered : (file : ℕ) (fits : ℕ → Known → ℕ → Type 0) (change : ℕ → ImageChange) (old new : Option Row) (before after : List DeviceSeen) (bytes : Known → List ℕ) (outcome : Outcome)
+    (n : ℕ) (number : Known → ℕ) (call : CallsRow file (fits n) (λ _. None) (change n) old new before after (λ image. n * cluster_size_in image) bytes outcome) → n ≡ number call.image
+    → CallsRow file (λ image. fits (number image) image) (λ _. None) (λ image. change (number image) image) old new before after (λ image. number image * cluster_size_in image) bytes outcome
+numbered file fits change old new before after bytes outcome n number call is = record {
+  row = call.row;
+  image = call.image;
+  now = call.now;
+  there = call.there;
+  driver = call.driver;
+  left = call.left;
+  opened = call.opened;
+  call = record {
+    before = call.call.before;
+    after = call.call.after;
+    held = call.call.held;
+    left = call.call.left;
+    call = record {
+      wrote = subst (λ (k : ℕ). IsImageWrite call.call.before call.call.after call.image call.now (k * cluster_size_in call.image) (taken_by outcome (bytes call.image))) is call.call.call.wrote;
+      cause = subst (λ (k : ℕ). HasImageCause (fits k call.image call.call.before.capacity) None (length (bytes call.image)) call.call.before call.call.after call.image call.now outcome) is
+          call.call.call.cause;
+      changed = subst (λ (k : ℕ). change k call.image call.now call.call.before call.call.after outcome) is call.call.call.changed;
+    };
     only = call.call.only;
     full = call.call.full;
   };
@@ -334,54 +373,63 @@ around IsDisk part bytes cluster image now before after outcome has number is pu
 -- a put, of a cluster that was put together
 pub put_wrote : (rows left : List (Option Row)) (old new : List DeviceSeen) (part : Part) (bytes cluster : List ℕ) (outcome : Outcome) (slot : Option Row) → HasPiece rows old part
     → part.node < length rows
-    → CallsRow part.file (λ image. PutFits image (part.span.start / 65536)) (λ _. None) (PutsCluster (part.span.start / 65536) cluster) (row_in rows part.node) slot old new (part.span.start / 65536 * 65536) cluster outcome
-    → left ≡ set rows part.node slot → length bytes ≡ part.span.len → IsLaid part.whole.len (part.span.start % 65536) bytes cluster
+    → CallsRow part.file (λ image. PutFits image (cluster_of image part.span)) (λ _. None) (λ image. PutsCluster (cluster_of image part.span) cluster image) (row_in rows part.node) slot old new
+    (λ image. cluster_start image part.span) (λ _. cluster) outcome
+    → left ≡ set rows part.node slot → length bytes ≡ part.span.len → IsLaid 65536 part.whole.len (part.span.start % 65536) bytes cluster
     → (AreTold old → HasFound part.whole.len (part.span.start % 65536) bytes (found_bytes old part.source part.whole.start part.whole.len) cluster)
-    → WritesPart (λ image. PutFits image (part.span.start / 65536)) (λ _. None) (ChangesAround (IsDiskFound old part) part.span bytes) rows left old new part bytes outcome
+    → WritesPart (λ image. PutFits image (cluster_of image part.span)) (λ _. None) (ChangesAround (IsDiskFound old part) part.span bytes) rows left old new part bytes outcome
 unfolding calls_as
 put_wrote rows left old new part bytes cluster outcome slot has below put is_left len holds rest_is =
-    let fits : Known → ℕ → Type 0 = λ image. PutFits image (part.span.start / 65536) in
+    let fits : Known → ℕ → Type 0 = λ image. PutFits image (cluster_of image part.span) in
+    let place : Known → ℕ = λ image. cluster_start image part.span in
+    let all_bytes : Known → List ℕ = λ _. cluster in
+    let puts : ImageChange = λ image. PutsCluster (cluster_of image part.span) cluster image in
     let is : IsPieceOf rows old part put.image
-    = piece rows left old new part bytes cluster outcome fits (λ _. None) (PutsCluster (part.span.start / 65536) cluster) (part.span.start / 65536 * 65536) slot has below put is_left in
+    = piece rows left old new part bytes all_bytes outcome fits (λ _. None) puts place slot has below put is_left in
     let change : ImageChange = ChangesAround (IsDiskFound old part) part.span bytes in
-    let call : CallsRow part.file fits (λ _. None) change (row_in rows part.node) slot old new (part.span.start / 65536 * 65536) cluster outcome
-    = calls_as part.file fits (λ _. None) (PutsCluster (part.span.start / 65536) cluster) change (row_in rows part.node) slot old new (part.span.start / 65536 * 65536) cluster outcome put
+    let call : CallsRow part.file fits (λ _. None) change (row_in rows part.node) slot old new place all_bytes outcome
+    = calls_as part.file fits (λ _. None) puts change (row_in rows part.node) slot old new place all_bytes outcome put
     (around (IsDiskFound old part) part.span bytes cluster put.image put.now put.call.before put.call.after outcome
     (around_is rows old part put.image is bytes cluster len holds rest_is)
-    (part.span.start / 65536) (sym (cluster_is rows old part put.image is)) put.call.call.changed) in
+    (cluster_of put.image part.span) refl put.call.call.changed) in
     let good : AreTold old → (b b' : List ℕ) → call.call.before.content ≡ Some b → call.call.after.content ≡ Some b' → (header_of b).size ≡ call.image.header.size
     → IsDiskWith b b' (part.span.start - part.span.start % 65536) cluster → IsDiskAfter old part bytes b b'
     = λ all b b' was now size disk backing rest.
     let start = start_is rows old part call.image is in
     let count = len_is rows old part call.image is in
     let inside = is.inside in
-    let block = is.block in
+    let block = in_block rows old part call.image is in
     let found : List ℕ = found_bytes old part.source part.whole.start part.whole.len in
     let at_base : found ≡ bytes_at (image_disk b backing) (part.span.start - part.span.start % 65536) part.whole.len
     = rest ∙ ap (λ (k : ℕ). bytes_at (image_disk b backing) k part.whole.len) start in
     disk_put b b' backing part.span.start part.whole.len bytes cluster found disk holds (rest_is all) at_base
     (count ∙ ap (λ (s : ℕ). min 65536 (s - (part.span.start - part.span.start % 65536))) (sym size)) (omega arith) (omega arith) in
-    cluster_wrote rows left old new part outcome fits change slot has below cluster bytes call is_left good
+    cluster_wrote rows left old new part outcome fits change slot has below all_bytes bytes call is_left good
 
 -- a whole cluster that is made to read as zeros
 pub clear_wrote : (rows left : List (Option Row)) (old new : List DeviceSeen) (part : Part) (outcome : Outcome) (slot : Option Row) → HasPiece rows old part
     → part.node < length rows
-    → CallsRow part.file (λ image. ZeroFits image (part.span.start / 65536)) (λ _. None) (ClearsCluster (part.span.start / 65536)) (row_in rows part.node) slot old new (part.span.start / 65536 * 65536) (replicate 65536 0) outcome
+    → CallsRow part.file (λ image. ZeroFits image (cluster_of image part.span)) (λ _. None) (λ image. ClearsCluster (cluster_of image part.span) image) (row_in rows part.node) slot old new
+    (λ image. cluster_start image part.span) (λ image. replicate (cluster_size_in image) 0) outcome
     → left ≡ set rows part.node slot → part.span.len ≡ part.whole.len
-    → WritesPart (λ image. ZeroFits image (part.span.start / 65536)) (λ _. None) (ClearsCluster (part.span.start / 65536)) rows left old new part (replicate part.span.len 0) outcome
+    → WritesPart (λ image. ZeroFits image (cluster_of image part.span)) (λ _. None) (λ image. ClearsCluster (cluster_of image part.span) image) rows left old new part (replicate part.span.len 0) outcome
 clear_wrote rows left old new part outcome slot has below call is_left all_of =
-    let fits : Known → ℕ → Type 0 = λ image. ZeroFits image (part.span.start / 65536) in
+    let fits : Known → ℕ → Type 0 = λ image. ZeroFits image (cluster_of image part.span) in
     let zeros : List ℕ = replicate part.span.len 0 in
+    let all_zeros : Known → List ℕ = λ image. replicate (cluster_size_in image) 0 in
+    let clears : ImageChange = λ image. ClearsCluster (cluster_of image part.span) image in
     let is : IsPieceOf rows old part call.image
-    = piece rows left old new part zeros (replicate 65536 0) outcome fits (λ _. None) (ClearsCluster (part.span.start / 65536)) (part.span.start / 65536 * 65536) slot has below call is_left in
+    = piece rows left old new part zeros all_zeros outcome fits (λ _. None) clears (λ image. cluster_start image part.span) slot has below call is_left in
     let good : AreTold old → (b b' : List ℕ) → call.call.before.content ≡ Some b → call.call.after.content ≡ Some b' → (header_of b).size ≡ call.image.header.size
-    → IsDiskWith b b' (part.span.start - part.span.start % 65536) (replicate 65536 0) → IsDiskAfter old part zeros b b'
+    → IsDiskWith b b' (part.span.start - part.span.start % 65536) (replicate (cluster_size_in call.image) 0) → IsDiskAfter old part zeros b b'
     = λ all b b' was now size disk backing rest.
     let count = len_is rows old part call.image is in
     let inside = is.inside in
     let first = begins rows old part call.image is all_of in
-    disk_zeroed b b' backing part.span.start part.span.len disk first (omega arith) (omega arith) in
-    cluster_wrote rows left old new part outcome fits (ClearsCluster (part.span.start / 65536)) slot has below (replicate 65536 0) zeros call is_left good
+    let cleared : IsDiskWith b b' (part.span.start - part.span.start % 65536) (replicate 65536 0)
+    = subst (λ (c : ℕ). IsDiskWith b b' (part.span.start - part.span.start % 65536) (replicate c 0)) (size_bits rows old part call.image is) disk in
+    disk_zeroed b b' backing part.span.start part.span.len cleared first (omega arith) (omega arith) in
+    cluster_wrote rows left old new part outcome fits clears slot has below all_zeros zeros call is_left good
 
 -- a part of a cluster that reads as zeros already
 pub left_wrote : (rows : List (Option Row)) (old : List DeviceSeen) (part : Part) (fits : Known → ℕ → Type 0) (own : Known → Option ℕ) (change : ImageChange)
@@ -417,7 +465,7 @@ left_wrote rows old part fits own change row image host device there driver is b
         let size = ap (λ (h : Header). h.size) known.header in
         let bits : (header_of b).cluster_bits ≡ 16 = ap (λ (h : Header). h.cluster_bits) known.header ∙ is.opened.cluster_bits in
         let inside = is.inside in
-        let block = is.block in
+        let block = in_block rows old part image is in
         let some = is.some in
         let zero_at : (i : ℕ) → i < part.span.len → guest_byte b backing (part.span.start + i) ≡ 0
         = λ i few.
@@ -521,25 +569,48 @@ module _ (rows : List (Option Row)) (old : List DeviceSeen) (part : Part) (has :
   set_at slot = ap (λ (k : ℕ). set rows k slot) same
 
   pub own_at : (new : List DeviceSeen) (bytes : List ℕ) (outcome : Outcome) (slot : Option Row)
-      → CallsRow part.file (λ image capacity. own_end image part.span ≤ capacity) (λ image. Some (own_place image part.span)) (ChangesInPlace part.span bytes) found slot old new part.span.start bytes outcome
+      → CallsRow part.file (λ image capacity. own_end image part.span ≤ capacity) (λ image. Some (own_place image part.span)) (ChangesInPlace part.span bytes) found slot old new (λ _. part.span.start) (λ _. bytes) outcome
       → length bytes ≡ part.span.len
       → WritesPart (λ image capacity. own_end image part.span ≤ capacity) (λ image. Some (own_place image part.span)) (ChangesInPlace part.span bytes) rows (set rows index slot) old new part bytes outcome
   own_at new bytes outcome slot call len =
       let P : Option Row → Type 0 = λ f. CallsRow part.file (λ image capacity. own_end image part.span ≤ capacity) (λ image. Some (own_place image part.span)) (ChangesInPlace part.span bytes) f slot old new
-      part.span.start bytes outcome in
+      (λ _. part.span.start) (λ _. bytes) outcome in
       own_wrote rows (set rows index slot) old new part bytes outcome slot has below_node (subst P (sym there) call) (set_at slot) len
+
+  pub own_asks : OfImage (row_in rows part.node) (λ image. IsHost (entry_for image part.span))
+      → OfImage found (λ image. IsWithinCluster (cluster_size_in image) part.span × (cluster_of image part.span < clusters_in image) × (part.span.start < image.header.size)
+      × IsHost (entry_for image part.span) × IsKnownAt part.file old image)
+  own_asks mapped =
+      let P : Known → Type 0 = λ image. IsWithinCluster (cluster_size_in image) part.span × (cluster_of image part.span < clusters_in image) × (part.span.start < image.header.size)
+      × IsHost (entry_for image part.span) × IsKnownAt part.file old image in
+      let image = has_image (row_in rows part.node) (IsPieceOf rows old part) has in
+      let piece : IsPieceOf rows old part image.1 = image.4 in
+      let some = piece.some in
+      let inside = piece.inside in
+      let below : cluster_of image.1 part.span < clusters_in image.1
+      = subst (λ (k : ℕ). k < clusters_in image.1) (sym (cluster_is rows old part image.1 piece)) (cluster_below image.1 piece) in
+      let host = image_found (row_in rows part.node) image.0 image.1 (λ image. IsHost (entry_for image part.span)) image.2 image.3 mapped in
+      of_image found image.0 image.1 P (sym there ∙ image.2) image.3 (piece.cluster, below, omega arith, host, piece.known)
 
   pub clear_asks : OfImage found (λ image. (part.span.start / 65536 < clusters_in image) × IsKnownAt part.file old image)
   clear_asks = of_found (λ image. (part.span.start / 65536 < clusters_in image) × IsKnownAt part.file old image) (λ row image piece. (cluster_below image piece, piece.known))
 
   pub clear_at : (new : List DeviceSeen) (outcome : Outcome) (slot : Option Row)
-      → CallsRow part.file (λ image. ZeroFits image (part.span.start / 65536)) (λ _. None) (ClearsCluster (part.span.start / 65536)) found slot old new (part.span.start / 65536 * 65536) (replicate 65536 0) outcome
+      → CallsRow part.file (λ image. ZeroFits image (part.span.start / 65536)) (λ _. None) (ClearsCluster (part.span.start / 65536)) found slot old new
+      (λ image. part.span.start / 65536 * cluster_size_in image) (λ image. replicate (cluster_size_in image) 0) outcome
       → part.span.len ≡ part.whole.len
-      → WritesPart (λ image. ZeroFits image (part.span.start / 65536)) (λ _. None) (ClearsCluster (part.span.start / 65536)) rows (set rows index slot) old new part (replicate part.span.len 0) outcome
+      → WritesPart (λ image. ZeroFits image (cluster_of image part.span)) (λ _. None) (λ image. ClearsCluster (cluster_of image part.span) image) rows (set rows index slot) old new part (replicate part.span.len 0) outcome
   clear_at new outcome slot call all =
-      let P : Option Row → Type 0 = λ f. CallsRow part.file (λ image. ZeroFits image (part.span.start / 65536)) (λ _. None) (ClearsCluster (part.span.start / 65536)) f slot old new
-      (part.span.start / 65536 * 65536) (replicate 65536 0) outcome in
-      clear_wrote rows (set rows index slot) old new part outcome slot has below_node (subst P (sym there) call) (set_at slot) all
+      let number : ℕ = part.span.start / 65536 in
+      let zeros : Known → List ℕ = λ image. replicate (cluster_size_in image) 0 in
+      let P : Option Row → Type 0 = λ f. CallsRow part.file (λ image. ZeroFits image number) (λ _. None) (ClearsCluster number) f slot old new
+      (λ image. number * cluster_size_in image) zeros outcome in
+      let at_node : P (row_in rows part.node) = subst P (sym there) call in
+      let is = image_found (row_in rows part.node) at_node.row at_node.image (IsPieceOf rows old part) at_node.there at_node.driver has in
+      clear_wrote rows (set rows index slot) old new part outcome slot has below_node
+      (numbered part.file (λ k image. ZeroFits image k) ClearsCluster (row_in rows part.node) slot old new zeros outcome number (λ image. cluster_of image part.span) at_node
+      (sym (cluster_is rows old part at_node.image is)))
+      (set_at slot) all
 
 -- A good outcome, and what was read by it.
 pub good_is : (o : Outcome) → is_good o ≡ true → o ≡ Good
@@ -560,16 +631,18 @@ good_read part old new o good (inr both) = both.1
 fits_by : (file : ℕ) (devices : List DeviceSeen) (fits : ℕ → Type 0) (room : Outcome) → room ≡ Good → HasRoomAt file devices fits room → FitsAt file devices fits
 fits_by file devices fits room good has device held = subst (HasRoomBy (fits device.capacity) device) good (has device held)
 
-pub put_asks : (rows : List (Option Row)) (old mid : List DeviceSeen) (part : Part) (room read : Outcome) → HasPiece rows old part → (index : ℕ) (first found : Option Row)
+pub put_asks : (rows : List (Option Row)) (old mid : List DeviceSeen) (part : Part) (cluster : List ℕ) (room read : Outcome) → HasPiece rows old part → (index : ℕ) (first found : Option Row)
     → index ≡ part.node → index < length rows → first ≡ get_or rows index first → found ≡ get_or rows index found
     → OfImage first (λ image. HasRoomAt part.file old (PutFits image (part.span.start / 65536)) room) → is_good room ≡ true → is_good read ≡ true
     → ReadsRest part old mid read
-    → OfImage found (λ image. (part.span.start / 65536 < clusters_in image) × IsKnownAt part.file mid image × FitsAt part.file mid (PutFits image (part.span.start / 65536)))
-put_asks rows old mid part room read has index first found same below is_first is fits room_good read_good outcome =
+    → length cluster ≡ 65536
+    → OfImage found (λ image. (length cluster ≡ cluster_size_in image) × (part.span.start / 65536 < clusters_in image) × IsKnownAt part.file mid image
+    × FitsAt part.file mid (PutFits image (part.span.start / 65536)))
+put_asks rows old mid part cluster room read has index first found same below is_first is fits room_good read_good outcome whole =
     let stays : mid ≡ old = good_read part old mid read (good_is read read_good) outcome in
-    let Q : Known → Type 0 = λ image. (part.span.start / 65536 < clusters_in image) × IsKnownAt part.file old image × FitsAt part.file old (PutFits image (part.span.start / 65536)) in
+    let Q : Known → Type 0 = λ image. (length cluster ≡ cluster_size_in image) × (part.span.start / 65536 < clusters_in image) × IsKnownAt part.file old image × FitsAt part.file old (PutFits image (part.span.start / 65536)) in
     let R : List DeviceSeen → Type 0
-    = λ devices. OfImage found (λ image. (part.span.start / 65536 < clusters_in image) × IsKnownAt part.file devices image
+    = λ devices. OfImage found (λ image. (length cluster ≡ cluster_size_in image) × (part.span.start / 65536 < clusters_in image) × IsKnownAt part.file devices image
     × FitsAt part.file devices (PutFits image (part.span.start / 65536))) in
     let row = has_image (row_in rows part.node) (IsPieceOf rows old part) has in
     let here : row_in rows part.node ≡ first = row_found rows index part.node first same below is_first in
@@ -578,6 +651,7 @@ put_asks rows old mid part room read has index first found same below is_first i
     let there_now : row_in rows part.node ≡ found = row_found rows index part.node found same below is in
     subst R (sym stays)
     (of_image found row.0 row.1 Q (sym there_now ∙ row.2) row.3 (
+      whole ∙ sym (size_bits rows old part row.1 row.4),
       cluster_below rows old part has index found same below is row.1 row.4,
       row.4.known,
       fits_by part.file old (PutFits row.1 (part.span.start / 65536)) room (good_is room room_good) room_of,
@@ -598,7 +672,7 @@ pub read_stopped : (rows : List (Option Row)) (old mid : List DeviceSeen) (part 
     → index ≡ part.node → index < length rows → first ≡ get_or rows index first
     → OfImage first (λ image. HasRoomAt part.file old (PutFits image (part.span.start / 65536)) room) → is_good room ≡ true → is_good read ≡ false
     → ReadsRest part old mid read → HaveRisen old mid
-    → WritesPart (λ image. PutFits image (part.span.start / 65536)) (λ _. None) (ChangesAround (IsDiskFound old part) part.span bytes) rows rows old mid part bytes read
+    → WritesPart (λ image. PutFits image (cluster_of image part.span)) (λ _. None) (ChangesAround (IsDiskFound old part) part.span bytes) rows rows old mid part bytes read
 read_stopped rows old mid part bytes room read has index first same below is_first fits room_good read_bad outcome risen = by read refl read_bad outcome
   where
     row : (row : Row) × (image : Known) × (row_in rows part.node ≡ Some row) × (row.driver ≡ Qcow2 image) × IsPieceOf rows old part image
@@ -614,7 +688,7 @@ read_stopped rows old mid part bytes room read has index first same below is_fir
     device = some_device (device_in old part.file) row.4.held
 
     by : (o : Outcome) → read ≡ o → is_good o ≡ false → ReadsRest part old mid o
-        → WritesPart (λ image. PutFits image (part.span.start / 65536)) (λ _. None) (ChangesAround (IsDiskFound old part) part.span bytes) rows rows old mid part bytes read
+        → WritesPart (λ image. PutFits image (cluster_of image part.span)) (λ _. None) (ChangesAround (IsDiskFound old part) part.span bytes) rows rows old mid part bytes read
     by Good is bad outcome = absurd (cc bad)
     by (Torn done dev count) is bad (inl at) = absurd (no_torn part.source old mid done dev count at.1)
     by (Torn done dev count) is bad (inr good) = absurd (cc good.0)
@@ -632,7 +706,8 @@ read_stopped rows old mid part bytes room read has index first same below is_fir
         is = is;
         device = device.0;
         held = device.1;
-        fit = fits_by part.file old (PutFits row.1 (part.span.start / 65536)) room (good_is room room_good) room_of device.0 device.1;
+        fit = subst (λ (k : ℕ). PutFits row.1 k device.0.capacity) (sym (cluster_is rows old part row.1 row.4))
+            (fits_by part.file old (PutFits row.1 (part.span.start / 65536)) room (good_is room room_good) room_of device.0 device.1);
         nowhere = refl;
         less = at.0;
         read = subst (IsReadOfSource part.source old mid) (sym is) at.1;
@@ -644,21 +719,25 @@ read_stopped rows old mid part bytes room read has index first same below is_fir
 
 pub put_at : (rows : List (Option Row)) (old mid new : List DeviceSeen) (part : Part) (bytes cluster gathered_in : List ℕ) (read outcome : Outcome) (slot : Option Row) → HasPiece rows old part
     → (index : ℕ) (found : Option Row) → index ≡ part.node → index < length rows → found ≡ get_or rows index found
-    → CallsRow part.file (λ image. PutFits image (part.span.start / 65536)) (λ _. None) (PutsCluster (part.span.start / 65536) cluster) found slot mid new (part.span.start / 65536 * 65536) cluster outcome
+    → CallsRow part.file (λ image. PutFits image (part.span.start / 65536)) (λ _. None) (PutsCluster (part.span.start / 65536) cluster) found slot mid new
+    (λ image. part.span.start / 65536 * cluster_size_in image) (λ _. cluster) outcome
     → length bytes ≡ part.span.len → cluster ≡ gathered_in → is_good read ≡ true → ReadsRest part old mid read
     → (AreTold old → read ≡ Good → HasFound part.whole.len (part.span.start % 65536) bytes (found_bytes old part.source part.whole.start part.whole.len) gathered_in)
-    → (read ≡ Good → IsLaid part.whole.len (part.span.start % 65536) bytes gathered_in)
-    → WritesPart (λ image. PutFits image (part.span.start / 65536)) (λ _. None) (ChangesAround (IsDiskFound old part) part.span bytes) rows (set rows index slot) old new part bytes outcome
+    → (read ≡ Good → IsLaid 65536 part.whole.len (part.span.start % 65536) bytes gathered_in)
+    → WritesPart (λ image. PutFits image (cluster_of image part.span)) (λ _. None) (ChangesAround (IsDiskFound old part) part.span bytes) rows (set rows index slot) old new part bytes outcome
 put_at rows old mid new part bytes cluster gathered_in read outcome slot has index found same below is call len is_cluster read_good read_is gathered holds =
     let good : read ≡ Good = good_is read read_good in
     let stays : mid ≡ old = good_read part old mid read good read_is in
     let found_is : row_in rows part.node ≡ found = row_found rows index part.node found same below is in
-    let P : Option Row → Type 0 = λ f. CallsRow part.file (λ image. PutFits image (part.span.start / 65536)) (λ _. None) (PutsCluster (part.span.start / 65536) cluster) f slot mid new
-    (part.span.start / 65536 * 65536) cluster outcome in
-    let Q : List DeviceSeen → Type 0 = λ devices. CallsRow part.file (λ image. PutFits image (part.span.start / 65536)) (λ _. None) (PutsCluster (part.span.start / 65536) cluster) (row_in rows part.node) slot devices new
-    (part.span.start / 65536 * 65536) cluster outcome in
-    let there_call : CallsRow part.file (λ image. PutFits image (part.span.start / 65536)) (λ _. None) (PutsCluster (part.span.start / 65536) cluster) (row_in rows part.node) slot old new (part.span.start / 65536 * 65536) cluster outcome
-    = subst Q stays (subst P (sym found_is) call) in
-    put_wrote rows (set rows index slot) old new part bytes cluster outcome slot has (omega (arith, same, below)) there_call
-    (ap (λ (k : ℕ). set rows k slot) same) len (subst (IsLaid part.whole.len (part.span.start % 65536) bytes) (sym is_cluster) (holds good))
+    let number : ℕ = part.span.start / 65536 in
+    let P : Option Row → Type 0 = λ f. CallsRow part.file (λ image. PutFits image number) (λ _. None) (PutsCluster number cluster) f slot mid new
+    (λ image. number * cluster_size_in image) (λ _. cluster) outcome in
+    let Q : List DeviceSeen → Type 0 = λ devices. CallsRow part.file (λ image. PutFits image number) (λ _. None) (PutsCluster number cluster) (row_in rows part.node) slot devices new
+    (λ image. number * cluster_size_in image) (λ _. cluster) outcome in
+    let there_call : Q old = subst Q stays (subst P (sym found_is) call) in
+    let is = image_found (row_in rows part.node) there_call.row there_call.image (IsPieceOf rows old part) there_call.there there_call.driver has in
+    put_wrote rows (set rows index slot) old new part bytes cluster outcome slot has (omega (arith, same, below))
+    (numbered part.file (λ k image. PutFits image k) (λ k. PutsCluster k cluster) (row_in rows part.node) slot old new (λ _. cluster) outcome number (λ image. cluster_of image part.span) there_call
+    (sym (cluster_is rows old part there_call.image is)))
+    (ap (λ (k : ℕ). set rows k slot) same) len (subst (IsLaid 65536 part.whole.len (part.span.start % 65536) bytes) (sym is_cluster) (holds good))
     (λ all. subst (HasFound part.whole.len (part.span.start % 65536) bytes (found_bytes old part.source part.whole.start part.whole.len)) (sym is_cluster) (gathered all good))

@@ -1,12 +1,12 @@
 -- A piece of a qcow2 node: where it lies, and what its writing leaves of the rows and the devices.
 use Rattle.std.specs.Prelude.{◌≡◌, ◌⊎◌, ℕ, ◌+◌, ◌-◌, ◌%◌, ◌<◌, ◌≤◌, min, List, length, slice_index, slice_index_or, slice_set, Option, Some, None, IsSome}
 use Rattle.blk_base.specs.Content.{bytes_at, with_bytes}
-use Rattle.blk_base.specs.Pieces.{Extent, end_of}
+use Rattle.blk_base.specs.Pieces.{Extent, block_size, end_of}
 use Rattle.blk_base.specs.declared.fault.DevNo.{DevNo}
 use Rattle.blk_base.specs.declared.fault.Outcome.{Outcome}
 use Rattle.blk_base.specs.declared.fault.Outcome.TheVariants.{Good, Io, NoSpace}
 use Rattle.q2_format.specs.Contents.{image_disk}
-use Rattle.q2_image.specs.Image.{Known, IsImageOf, IsOpen}
+use Rattle.q2_image.specs.Image.{Known, IsImageOf, IsOpen, cluster_size_in}
 use Rattle.q2_image.specs.Reading.{IsWithinCluster}
 use Rattle.q2_image.specs.Writing.{HasHeaderOf, StaysTaken}
 use Rattle.blk_nodes.specs.Changing.{ImageChange}
@@ -35,20 +35,28 @@ OfImage (Some row) P = OfImageBy row.driver P
 abbrev pub IsImage : Nodes → ℕ → Type 0
 IsImage nodes node = OfImage (row_at nodes node) (λ _. Unit {0})
 
--- the cluster in which a span lies, up to the end of a disk of so many bytes
-abbrev pub cluster_around : ℕ → Extent → Extent
-cluster_around size span =
-    let start = span.start - span.start % 65536 in
-    record { start = start; len = min 65536 (size - start) }
+-- the stretch of c bytes, from a multiple of c on, in which a span lies, up to the end of a disk of so many bytes
+abbrev pub stretch_around : ℕ → ℕ → Extent → Extent
+stretch_around c size span =
+    let start = span.start - span.start % c in
+    record { start = start; len = min c (size - start) }
+
+-- the block of it, by which pieces are cut
+abbrev pub block_around : ℕ → Extent → Extent
+block_around size span = stretch_around block_size size span
+
+-- the cluster of it on an image's disk
+abbrev pub cluster_around : Known → Extent → Extent
+cluster_around image span = stretch_around (cluster_size_in image) image.header.size span
 
 -- a piece of an image: it has bytes, lies in one cluster within the disk, and the rest of the cluster can be read
 pub record IsPieceOf (rows : List (Option Row)) (devices : List DeviceSeen) (part : Part)
     (image : Known) : Type 0 where
   pub opened : IsOpen image
   pub some : 0 < part.span.len
-  pub block : IsWithinCluster 65536 part.span
+  pub cluster : IsWithinCluster (cluster_size_in image) part.span
   pub inside : end_of part.span ≤ image.header.size
-  pub whole : part.whole ≡ cluster_around image.header.size part.span
+  pub whole : part.whole ≡ cluster_around image part.span
   pub held : IsSome (device_in devices part.file)
   pub known : IsKnownAt part.file devices image
   pub can : CanSourceBeRead rows devices part.whole.start part.source
@@ -59,9 +67,9 @@ row_in rows node = slice_index_or rows node None
 abbrev pub HasPiece : List (Option Row) → List DeviceSeen → Part → Type 0
 HasPiece rows devices part = OfImage (row_in rows part.node) (IsPieceOf rows devices part)
 
--- a cluster of which the disk has n bytes: these from a place on, and zeros behind the disk's end
-pub record IsLaid (n at : ℕ) (bytes cluster : List ℕ) : Type 0 where
-  pub whole : length cluster ≡ 65536
+-- a cluster of c bytes of which the disk has n: these from a place on, and zeros behind the disk's end
+pub record IsLaid (c n at : ℕ) (bytes cluster : List ℕ) : Type 0 where
+  pub whole : length cluster ≡ c
   pub inside : (i : ℕ) → i < length bytes → slice_index cluster (at + i) ≡ slice_index bytes i
   pub behind : (i : ℕ) → n ≤ i → slice_index cluster i ≡ 0
 
@@ -70,18 +78,18 @@ abbrev pub HasFound : ℕ → ℕ → List ℕ → List ℕ → List ℕ → Typ
 HasFound n at bytes found cluster = (i : ℕ) → i < n → (i < at) ⊎ (at + length bytes ≤ i)
     → slice_index cluster i ≡ slice_index found i
 
--- A disk of which the bytes of a piece's cluster were found, where the devices tell theirs. A cluster that isn't whole is the
--- disk's last.
+-- A disk of which the bytes of a piece's cluster were found, where the devices tell theirs. Where they are less than a block, they
+-- are the disk's last.
 pub record IsDiskFound (devices : List DeviceSeen) (part : Part) (disk : List ℕ) : Type 0 where
   pub told : AreTold devices
   pub found : found_bytes devices part.source part.whole.start part.whole.len
       ≡ bytes_at disk part.whole.start part.whole.len
-  pub ends : part.whole.len < 65536 → length disk ≡ part.whole.start + part.whole.len
+  pub ends : part.whole.len < block_size → length disk ≡ part.whole.start + part.whole.len
 
--- a call of the image in a row, on the device of a `file` node
+-- a call of the image in a row, on the device of a `file` node; from where on it writes what bytes goes by the image
 pub record CallsRow (file : ℕ) (fits : Known → ℕ → Type 0) (own : Known → Option ℕ)
     (change : ImageChange) (old new : Option Row) (before after : List DeviceSeen)
-    (place : ℕ) (bytes : List ℕ) (outcome : Outcome) : Type 0 where
+    (place : Known → ℕ) (bytes : Known → List ℕ) (outcome : Outcome) : Type 0 where
   pub row : Row
   pub image : Known
   pub now : Known
@@ -89,8 +97,8 @@ pub record CallsRow (file : ℕ) (fits : Known → ℕ → Type 0) (own : Known 
   pub driver : row.driver ≡ Qcow2 image
   pub left : new ≡ Some (record row { driver = Qcow2 now })
   pub opened : IsOpen now
-  pub call : IsImageCallAt file (fits image) (own image) change before after image now place bytes
-      outcome
+  pub call : IsImageCallAt file (fits image) (own image) change before after image now
+      (place image) (bytes image) outcome
 
 -- What the writing of a piece leaves.
 

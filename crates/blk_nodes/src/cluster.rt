@@ -1,5 +1,6 @@
-//! The bytes of a cluster while it is put together.
+//! A block of bytes in which a cluster is put together.
 ghost use Rattle.std.specs.Prelude.{◌≡◌, ℕ, ◌+◌, ◌%◌, ◌-◌, ◌<◌, ◌≤◌, List, ◌++◌, length, take, drop, replicate, vec_len, IfOk};
+ghost use Rattle.blk_base.specs.Pieces.{block_size};
 ghost use Rattle.blk_nodes.specs.Found.{found_bytes, IsReadOfSource};
 ghost use Rattle.blk_nodes.specs.Nodes.{AreTold};
 ghost use Rattle.blk_nodes.specs.Parts.{HasPiece, HasFound, IsLaid, ReadsRest};
@@ -13,7 +14,7 @@ use blk_base::{Device, NoMemory, Outcome};
 use std::alloc::Global;
 use std::marker::Model;
 
-/// The bytes of a cluster while it is put together.
+/// A block of bytes in which a cluster is put together.
 #[derive(Drop)]
 pub(crate) struct Cluster {
     bytes: Vec<u8>,
@@ -21,17 +22,18 @@ pub(crate) struct Cluster {
 
 impl Model for Cluster {
     ghost use Rattle.std.specs.Prelude.{◌≡◌, ℕ, List, length};
+    ghost use Rattle.blk_base.specs.Pieces.{block_size};
 
     ghost Value = { List ℕ };
 
     ghost view = { λ c. c.bytes.items };
 
-    ghost invariant = { λ c. length c.bytes.items ≡ 65536 };
+    ghost invariant = { λ c. length c.bytes.items ≡ block_size };
 }
 
-/// Any bytes of a cluster.
+/// Any bytes of a block.
 fn block(alloc: Global) -> Result<Vec<u8>, NoMemory>
-    ensures { IfOk result (λ bytes. vec_len bytes ≡ 65536) }
+    ensures { IfOk result (λ bytes. vec_len bytes ≡ block_size) }
 {
     Ok(vec![in alloc; 0u8; 65_536]?)
 }
@@ -44,7 +46,7 @@ impl Cluster {
 
     pub(crate) fn bytes(&self) -> &[u8]
         ensures bytes { result.now ≡ self.now }
-        ensures whole { length result.now ≡ 65536 }
+        ensures whole { length result.now ≡ block_size }
     {
         &self.bytes
     }
@@ -62,7 +64,7 @@ impl Cluster {
             → take part.now.whole.len self.new
             ≡ found_bytes devices.old part.now.source part.now.whole.start part.now.whole.len }
         ensures behind { drop part.now.whole.len self.new
-            ≡ replicate (65536 - part.now.whole.len) 0 }
+            ≡ replicate (block_size - part.now.whole.len) 0 }
         ensures outcome { IsReadOfSource part.now.source devices.old devices.new result }
         ensures devices { HaveRisen devices.old devices.new }
     {
@@ -85,7 +87,7 @@ impl Cluster {
             → take part.now.whole.len self.new
             ≡ found_bytes devices.old part.now.source part.now.whole.start part.now.whole.len }
         ensures behind { drop part.now.whole.len self.new
-            ≡ replicate (65536 - part.now.whole.len) 0 }
+            ≡ replicate (block_size - part.now.whole.len) 0 }
         ensures outcome { ReadsRest part.now devices.old devices.new result }
         ensures devices { HaveRisen devices.old devices.new }
     {
@@ -98,10 +100,10 @@ impl Cluster {
 
     /// Puts bytes at a place.
     fn lay(&mut self, at: u64, bytes: &[u8])
-        requires { at + length bytes.now ≤ 65536 }
+        requires { at + length bytes.now ≤ block_size }
         ensures bytes { self.new
             ≡ take at self.old ++ bytes.now ++ drop (at + length bytes.now) self.old }
-        ensures whole { length self.old ≡ 65536 }
+        ensures whole { length self.old ≡ block_size }
     {
         let (_, rest) = self.bytes.split_at_mut(at as usize);
         let (middle, _) = rest.split_at_mut(bytes.len());
@@ -120,9 +122,10 @@ impl Cluster {
         requires piece { HasPiece rows.now devices.old part.now }
         requires whole { length bytes.now ≡ part.now.span.len }
         ensures laid { result ≡ Outcome.Good
-            → IsLaid part.now.whole.len (part.now.span.start % 65536) bytes.now self.new }
+            → IsLaid block_size part.now.whole.len (part.now.span.start % block_size) bytes.now
+            self.new }
         ensures found { AreTold devices.old → result ≡ Outcome.Good
-            → HasFound part.now.whole.len (part.now.span.start % 65536) bytes.now
+            → HasFound part.now.whole.len (part.now.span.start % block_size) bytes.now
             (found_bytes devices.old part.now.source part.now.whole.start part.now.whole.len)
             self.new }
         ensures outcome { ReadsRest part.now devices.old devices.new result }

@@ -91,7 +91,7 @@ impl<D: Device> Held<D> {
     /// Reads a part of one mapped cluster of the image in the file.
     fn read_image(&mut self, image: &Image, span: Span, buffer: &mut [u8]) -> Outcome
         requires some { 0 < span.len }
-        requires block { IsWithinCluster 65536 span }
+        requires cluster { IsWithinCluster (cluster_size_in image.now) span }
         requires inside { span.start < image.now.header.size }
         requires host { IsHost (entry_in image.now (span.start / cluster_size_in image.now)) }
         requires whole { length buffer.old ≡ span.len }
@@ -265,7 +265,7 @@ impl<D: Device> Devices<D> {
     ) -> Outcome
         requires held { IsSome (device_in self.old file) }
         requires some { 0 < span.len }
-        requires block { IsWithinCluster 65536 span }
+        requires cluster { IsWithinCluster (cluster_size_in image.now) span }
         requires inside { span.start < image.now.header.size }
         requires host { IsHost (entry_in image.now (span.start / cluster_size_in image.now)) }
         requires whole { length buffer.old ≡ span.len }

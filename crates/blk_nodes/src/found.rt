@@ -1,5 +1,6 @@
 //! Reading what a walk down a chain found.
 ghost use Rattle.std.specs.Prelude.{◌≡◌, ◌<◌, [], length, replicate};
+ghost use Rattle.blk_base.specs.Pieces.{block_size};
 ghost use Rattle.q2_image.specs.Guest.{guest_bytes};
 ghost use Rattle.q2_image.specs.Reading.{IsWithinCluster};
 ghost use Rattle.blk_nodes.specs.Contents.{bytes_by};
@@ -31,7 +32,7 @@ fn read_mapped<D: Device>(
 ) -> Outcome
     requires rows { length rows.now ≡ 64 }
     requires some { 0 < span.len }
-    requires block { IsWithinCluster 65536 span }
+    requires block { IsWithinCluster block_size span }
     requires mapped { IsPlaceMapped rows.now devices.old node file span.start }
     requires whole { length buffer.old ≡ span.len }
     ensures read { AreTold devices.old → result ≡ Outcome.Good
@@ -45,6 +46,7 @@ fn read_mapped<D: Device>(
     let Driver::Qcow2(image) = &row.driver else {
         unreachable!()
     };
+    let _ = image.cluster_size();
     devices.read_image(file, image, span, buffer)
 }
 
@@ -58,7 +60,7 @@ pub(crate) fn read_found<D: Device>(
 ) -> Outcome
     requires rows { length rows.now ≡ 64 }
     requires some { 0 < span.len }
-    requires block { IsWithinCluster 65536 span }
+    requires block { IsWithinCluster block_size span }
     requires can { CanSourceBeRead rows.now devices.old span.start source }
     requires whole { length buffer.old ≡ span.len }
     ensures read { AreTold devices.old → result ≡ Outcome.Good

@@ -1,6 +1,6 @@
 //! The nodes.
 ghost use Rattle.std.specs.Prelude.{◌≡◌, ◌≢◌, ◌↔◌, ℕ, ◌<◌, ◌≤◌, length, IfOk, IfErr, IsOk, OnOk, OnErr, IsErrAnd, IsTrue, IfSome, Err, Some, None};
-ghost use Rattle.blk_base.specs.Pieces.{end_of};
+ghost use Rattle.blk_base.specs.Pieces.{block_size, end_of};
 ghost use Rattle.blk_graph.specs.Edits.{with_edge};
 ghost use Rattle.blk_graph.specs.Graph.{HasName, HasNode, ids};
 ghost use Rattle.blk_graph.specs.Ids.{IsLowestFree};
@@ -466,7 +466,7 @@ impl<D: Device> Nodes<D> {
     /// Reads a piece of a node's disk, which lies in one block of 65,536 bytes. It is Good, or Io of the device in whose file the
     /// bytes stand, with that device's count of faults; `buffer` then holds any bytes. Takes no memory.
     pub fn peek_piece(&mut self, node: NodeId, span: Span, buffer: &mut [u8]) -> Outcome
-        requires block { IsWithinCluster 65536 span }
+        requires block { IsWithinCluster block_size span }
         requires inside { end_of span ≤ node_size self.old node }
         requires whole { length buffer.old ≡ span.len }
         ensures read { AreTold self.old.devices

@@ -1,6 +1,6 @@
 //! Where a piece of a qcow2 node lies.
 ghost use Rattle.std.specs.Prelude.{◌≡◌, ◌≤◌};
-ghost use Rattle.blk_nodes.specs.Parts.{cluster_around};
+ghost use Rattle.blk_nodes.specs.Parts.{block_around};
 
 use crate::source::Source;
 use blk_base::Span;
@@ -17,11 +17,11 @@ pub(crate) struct Part {
     pub source: Source,
 }
 
-/// The cluster in which a span lies, up to the end of a disk of so many bytes.
-pub(crate) fn cluster_around(size: u64, span: Span) -> Span
+/// The block in which a span lies, up to the end of a disk of so many bytes.
+pub(crate) fn block_around(size: u64, span: Span) -> Span
     requires start { span.start ≤ size }
     requires small { size ≤ 9223372036854775808 }
-    ensures { result ≡ cluster_around size span }
+    ensures { result ≡ block_around size span }
 {
     let start = span.start - span.start % 65_536;
     if size - start < 65_536 {

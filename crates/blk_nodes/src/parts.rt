@@ -1,8 +1,8 @@
 //! Pieces of qcow2 nodes, written to the images in their files. The look for room behind each call tells that the image is open.
-ghost use Rattle.std.specs.Prelude.{◌≡◌, ◌+◌, ◌*◌, ◌/◌, ◌<◌, ◌≤◌, ℕ, length, replicate, IsSome, Some, None};
-ghost use Rattle.q2_image.specs.Image.{clusters_in, entry_in};
+ghost use Rattle.std.specs.Prelude.{◌≡◌, ◌+◌, ◌*◌, ◌<◌, ◌≤◌, ℕ, length, replicate, IsSome, Some, None};
+ghost use Rattle.q2_image.specs.Image.{cluster_size_in, clusters_in, entry_in};
 ghost use Rattle.q2_image.specs.Reading.{IsHost, IsWithinCluster};
-ghost use Rattle.q2_image.specs.Room.{WriteFits, ZerosFit, entry_for, is_whole};
+ghost use Rattle.q2_image.specs.Room.{WriteFits, ZerosFit, cluster_of, entry_for, is_whole};
 ghost use Rattle.q2_image.specs.Writing.{PutFits, ZeroFits, own_end, own_place};
 ghost use Rattle.q2_tables.specs.Entries.{entry_of};
 ghost use Rattle.blk_nodes.specs.Changing.{ChangesAround, ChangesInPlace, ClearsCluster, IsImageWritten, IsZeroed, PutsCluster};
@@ -58,14 +58,13 @@ fn write_row<D: Device>(
     bytes: &[u8],
 ) -> Outcome
     requires held { IsSome (device_in devices.old file) }
-    requires block { IsWithinCluster 65536 span }
     requires whole { length bytes.now ≡ span.len }
-    requires image { OfImage row.old (λ image. (span.start / 65536 < clusters_in image)
-        × (span.start < image.header.size) × IsHost (entry_in image (span.start / 65536))
-        × IsKnownAt file devices.old image) }
+    requires image { OfImage row.old (λ image. IsWithinCluster (cluster_size_in image) span
+        × (cluster_of image span < clusters_in image) × (span.start < image.header.size)
+        × IsHost (entry_for image span) × IsKnownAt file devices.old image) }
     ensures { CallsRow file (λ image capacity. own_end image span ≤ capacity)
         (λ image. Some (own_place image span)) (ChangesInPlace span bytes.now)
-        row.old row.new devices.old devices.new span.start bytes.now result }
+        row.old row.new devices.old devices.new (λ _. span.start) (λ _. bytes.now) result }
 {
     let Some(taken) = row.take() else {
         unreachable!()
@@ -78,8 +77,9 @@ fn write_row<D: Device>(
     let Driver::Qcow2(mut image) = driver else {
         unreachable!()
     };
+    let cluster = span.start / image.cluster_size();
     let outcome = devices.write_image(file, &mut image, span, bytes);
-    let _ = image.zero_fits(span.start / 65_536, 0);
+    let _ = image.zero_fits(cluster, 0);
     *row = Some(Row {
         driver: Driver::Qcow2(image),
         size,
@@ -97,12 +97,13 @@ fn put_row<D: Device>(
     bytes: &[u8],
 ) -> Outcome
     requires held { IsSome (device_in devices.old file) }
-    requires whole { length bytes.now ≡ 65536 }
-    requires image { OfImage row.old (λ image. (cluster < clusters_in image)
-        × IsKnownAt file devices.old image × FitsAt file devices.old (PutFits image cluster)) }
+    requires image { OfImage row.old (λ image. (length bytes.now ≡ cluster_size_in image)
+        × (cluster < clusters_in image) × IsKnownAt file devices.old image
+        × FitsAt file devices.old (PutFits image cluster)) }
     ensures { CallsRow file (λ image. PutFits image cluster) (λ _. None)
         (PutsCluster cluster bytes.now)
-        row.old row.new devices.old devices.new (cluster * 65536) bytes.now result }
+        row.old row.new devices.old devices.new (λ image. cluster * cluster_size_in image)
+        (λ _. bytes.now) result }
 {
     let Some(taken) = row.take() else {
         unreachable!()
@@ -136,7 +137,8 @@ fn zero_row<D: Device>(
     requires image { OfImage row.old (λ image. (cluster < clusters_in image)
         × IsKnownAt file devices.old image) }
     ensures { CallsRow file (λ image. ZeroFits image cluster) (λ _. None) (ClearsCluster cluster)
-        row.old row.new devices.old devices.new (cluster * 65536) (replicate 65536 0) result }
+        row.old row.new devices.old devices.new (λ image. cluster * cluster_size_in image)
+        (λ image. replicate (cluster_size_in image) 0) result }
 {
     let Some(taken) = row.take() else {
         unreachable!()
@@ -171,7 +173,7 @@ fn put_part<D: Device>(
     requires rows { length rows.old ≡ 64 }
     requires piece { HasPiece rows.old devices.old part.now }
     requires whole { length bytes.now ≡ part.now.span.len }
-    ensures { WritesPart (λ image. PutFits image (part.now.span.start / 65536)) (λ _. None)
+    ensures { WritesPart (λ image. PutFits image (cluster_of image part.now.span)) (λ _. None)
         (ChangesAround (IsDiskFound devices.old part.now) part.now.span bytes.now)
         rows.old rows.new devices.old devices.new part.now bytes.now result }
 {
@@ -200,7 +202,7 @@ fn own_part<D: Device>(
     requires piece { HasPiece rows.old devices.old part.now }
     requires whole { length bytes.now ≡ part.now.span.len }
     requires mapped { OfImage (row_in rows.old part.now.node)
-        (λ image. IsHost (entry_in image (part.now.span.start / 65536))) }
+        (λ image. IsHost (entry_for image part.now.span)) }
     ensures { WritesPart (λ image capacity. own_end image part.now.span ≤ capacity)
         (λ image. Some (own_place image part.now.span)) (ChangesInPlace part.now.span bytes.now)
         rows.old rows.new devices.old devices.new part.now bytes.now result }
@@ -214,8 +216,8 @@ fn clear_part<D: Device>(rows: &mut [Option<Row>], devices: &mut Devices<D>, par
     requires rows { length rows.old ≡ 64 }
     requires piece { HasPiece rows.old devices.old part.now }
     requires all { part.now.span.len ≡ part.now.whole.len }
-    ensures { WritesPart (λ image. ZeroFits image (part.now.span.start / 65536)) (λ _. None)
-        (ClearsCluster (part.now.span.start / 65536))
+    ensures { WritesPart (λ image. ZeroFits image (cluster_of image part.now.span)) (λ _. None)
+        (λ image. ClearsCluster (cluster_of image part.now.span) image)
         rows.old rows.new devices.old devices.new part.now
         (replicate part.now.span.len 0) result }
 {

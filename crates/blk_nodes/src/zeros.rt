@@ -1,5 +1,6 @@
 //! The zeros of a block.
 ghost use Rattle.std.specs.Prelude.{◌≡◌, ℕ, ◌≤◌, slice_index, vec_len, replicate, IfOk};
+ghost use Rattle.blk_base.specs.Pieces.{block_size};
 
 use blk_base::NoMemory;
 use std::alloc::Global;
@@ -8,13 +9,13 @@ use std::alloc::Global;
 #[derive(Drop)]
 pub(crate) struct Zeros {
     bytes: Vec<u8>,
-    ghost whole: { vec_len bytes ≡ 65536 },
+    ghost whole: { vec_len bytes ≡ block_size },
     ghost zeros: { (k : ℕ) → slice_index bytes.items k ≡ 0 },
 }
 
 /// Any bytes of a block.
 fn block(alloc: Global) -> Result<Vec<u8>, NoMemory>
-    ensures { IfOk result (λ bytes. vec_len bytes ≡ 65536) }
+    ensures { IfOk result (λ bytes. vec_len bytes ≡ block_size) }
 {
     Ok(vec![in alloc; 0u8; 65_536]?)
 }
@@ -28,7 +29,7 @@ impl Zeros {
 
     /// So many zeros.
     pub(crate) fn first(&self, n: usize) -> &[u8]
-        requires { n ≤ 65536 }
+        requires { n ≤ block_size }
         ensures { result.now ≡ replicate n 0 }
     {
         &self.bytes[..n]

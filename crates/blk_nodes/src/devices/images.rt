@@ -1,7 +1,8 @@
 //! Images that are written on the devices.
-ghost use Rattle.std.specs.Prelude.{◌≡◌, ◌<◌, ◌≤◌, ◌*◌, ◌/◌, ℕ, List, length, replicate, None, Some, IsSome};
-ghost use Rattle.q2_image.specs.Image.{IsImageOf, clusters_in, entry_in};
+ghost use Rattle.std.specs.Prelude.{◌≡◌, ◌<◌, ◌≤◌, ◌*◌, ℕ, List, length, replicate, None, Some, IsSome};
+ghost use Rattle.q2_image.specs.Image.{IsImageOf, cluster_size_in, clusters_in};
 ghost use Rattle.q2_image.specs.Reading.{IsHost, IsWithinCluster};
+ghost use Rattle.q2_image.specs.Room.{entry_for};
 ghost use Rattle.q2_image.specs.Writing.{PutFits, ZeroFits, own_end, own_place};
 ghost use Rattle.blk_nodes.specs.Changing.{ChangesInPlace, ClearsCluster, PutsCluster};
 ghost use Rattle.blk_nodes.specs.Nodes.{device_in};
@@ -30,9 +31,9 @@ impl<D: Device> Held<D> {
 
     /// Writes a part of one mapped cluster of the image in the file, in place.
     fn write_image(&mut self, image: &mut Image, span: Span, bytes: &[u8]) -> Outcome
-        requires block { IsWithinCluster 65536 span }
+        requires cluster { IsWithinCluster (cluster_size_in image.old) span }
         requires inside { span.start < image.old.header.size }
-        requires host { IsHost (entry_in image.old (span.start / 65536)) }
+        requires host { IsHost (entry_for image.old span) }
         requires whole { length bytes.now ≡ span.len }
         requires known { (b : List ℕ) → self.old.content ≡ Some b → IsImageOf b image.old }
         ensures { IsImageCall (own_end image.old span ≤ self.old.capacity)
@@ -50,13 +51,13 @@ impl<D: Device> Held<D> {
     fn put_image(&mut self, image: &mut Image, cluster: u64, bytes: &[u8]) -> Outcome
         requires cluster { cluster < clusters_in image.old }
         requires fits { PutFits image.old cluster self.old.capacity }
-        requires whole { length bytes.now ≡ 65536 }
+        requires whole { length bytes.now ≡ cluster_size_in image.old }
         requires known { (b : List ℕ) → self.old.content ≡ Some b → IsImageOf b image.old }
         ensures { IsImageCall (PutFits image.old cluster self.old.capacity) None
             (PutsCluster cluster bytes.now)
-            self.old self.new image.old image.new (cluster * 65536) bytes.now result }
+            self.old self.new image.old image.new (cluster * cluster_size_in image.old) bytes.now
+            result }
     {
-        let _ = image.cluster_size();
         let written = image.put_cluster(&mut self.device, cluster, bytes);
         self.cluster_outcome(written)
     }
@@ -67,9 +68,9 @@ impl<D: Device> Held<D> {
         requires known { (b : List ℕ) → self.old.content ≡ Some b → IsImageOf b image.old }
         ensures { IsImageCall (ZeroFits image.old cluster self.old.capacity) None
             (ClearsCluster cluster)
-            self.old self.new image.old image.new (cluster * 65536) (replicate 65536 0) result }
+            self.old self.new image.old image.new (cluster * cluster_size_in image.old)
+            (replicate (cluster_size_in image.old) 0) result }
     {
-        let _ = image.cluster_size();
         let written = image.zero_cluster(&mut self.device, cluster);
         self.cluster_outcome(written)
     }
@@ -97,9 +98,9 @@ impl<D: Device> Devices<D> {
         bytes: &[u8],
     ) -> Outcome
         requires held { IsSome (device_in self.old file) }
-        requires block { IsWithinCluster 65536 span }
+        requires cluster { IsWithinCluster (cluster_size_in image.old) span }
         requires inside { span.start < image.old.header.size }
-        requires host { IsHost (entry_in image.old (span.start / 65536)) }
+        requires host { IsHost (entry_for image.old span) }
         requires whole { length bytes.now ≡ span.len }
         requires known { IsKnownAt file self.old image.old }
         ensures { IsImageCallAt file (λ capacity. own_end image.old span ≤ capacity)
@@ -126,11 +127,12 @@ impl<D: Device> Devices<D> {
         requires held { IsSome (device_in self.old file) }
         requires cluster { cluster < clusters_in image.old }
         requires fits { FitsAt file self.old (PutFits image.old cluster) }
-        requires whole { length bytes.now ≡ 65536 }
+        requires whole { length bytes.now ≡ cluster_size_in image.old }
         requires known { IsKnownAt file self.old image.old }
         ensures { IsImageCallAt file (PutFits image.old cluster) None
             (PutsCluster cluster bytes.now)
-            self.old self.new image.old image.new (cluster * 65536) bytes.now result }
+            self.old self.new image.old image.new (cluster * cluster_size_in image.old) bytes.now
+            result }
     {
         match self.place_of(file) {
             Some(at) => {
@@ -147,7 +149,8 @@ impl<D: Device> Devices<D> {
         requires cluster { cluster < clusters_in image.old }
         requires known { IsKnownAt file self.old image.old }
         ensures { IsImageCallAt file (ZeroFits image.old cluster) None (ClearsCluster cluster)
-            self.old self.new image.old image.new (cluster * 65536) (replicate 65536 0) result }
+            self.old self.new image.old image.new (cluster * cluster_size_in image.old)
+            (replicate (cluster_size_in image.old) 0) result }
     {
         match self.place_of(file) {
             Some(at) => {

@@ -1,7 +1,7 @@
 //! Pieces that are read, through copy-on-read too.
 ghost use Rattle.std.specs.Prelude.{◌≡◌, ℕ, ◌<◌, ◌≤◌, true, [], ◌∷◌, length};
 ghost use Rattle.blk_base.specs.Content.{bytes_at};
-ghost use Rattle.blk_base.specs.Pieces.{end_of};
+ghost use Rattle.blk_base.specs.Pieces.{block_size, end_of};
 ghost use Rattle.q2_image.specs.Reading.{IsWithinCluster};
 ghost use Rattle.blk_nodes.specs.Contents.{disk_of};
 ghost use Rattle.blk_nodes.specs.Copying.{AtEach, HasRoomIn, IsBeside, IsMappedAt, IsRoomInEach, LeavesRest, MapsEach, ReadsPiece, images_met, images_met_in, puts_below};
@@ -71,7 +71,7 @@ impl<D: Device> Nodes<D> {
 
     /// Writes a piece that was read to all images that its read maps, the lowest first, down a chain of so many nodes.
     fn map_below(&mut self, turns: u32, node: NodeId, span: Span, bytes: &[u8]) -> Outcome
-        requires block { IsWithinCluster 65536 span }
+        requires block { IsWithinCluster block_size span }
         requires inside { end_of span ≤ node_size self.old node }
         requires some { 0 < span.len }
         requires whole { length bytes.now ≡ span.len }
@@ -114,7 +114,7 @@ impl<D: Device> Nodes<D> {
     /// bytes. Where the devices tell their bytes, the node's disk stays, whatever the outcome. Takes no memory.
     #[tactic(auto, unfolding(crate::specs::Copying::images_met))]
     pub fn read_piece(&mut self, node: NodeId, span: Span, buffer: &mut [u8]) -> Outcome
-        requires block { IsWithinCluster 65536 span }
+        requires block { IsWithinCluster block_size span }
         requires inside { end_of span ≤ node_size self.old node }
         requires whole { length buffer.old ≡ span.len }
         requires may { AtEach (MayWriteThrough self.old) (images_met self.old node span.start) }

@@ -1,7 +1,7 @@
 //! Pieces that are written.
 ghost use Rattle.std.specs.Prelude.{◌≡◌, ◌↔◌, ℕ, ◌≤◌, ◌<◌, length, replicate, IsTrue, Some};
 ghost use Rattle.blk_base.specs.Content.{with_bytes};
-ghost use Rattle.blk_base.specs.Pieces.{end_of};
+ghost use Rattle.blk_base.specs.Pieces.{block_size, end_of};
 ghost use Rattle.q2_image.specs.Reading.{IsWithinCluster};
 ghost use Rattle.blk_nodes.specs.Contents.{disk_of};
 ghost use Rattle.blk_nodes.specs.Joined.{IsJoined};
@@ -11,7 +11,7 @@ ghost use Rattle.blk_nodes.specs.Sources.{source_at};
 ghost use Rattle.blk_nodes.specs.Writing.{MayWriteThrough, WritesPiece, ZerosPiece, LeavesNodes, IsApartFrom, taken_by};
 
 use crate::nodes::Nodes;
-use crate::part::{Part, cluster_around};
+use crate::part::{Part, block_around};
 use crate::parts::{write_part, zero_part};
 use crate::row::Driver;
 use crate::source::Source;
@@ -32,7 +32,7 @@ impl<D: Device> Nodes<D> {
     /// Where a piece of a qcow2 node lies.
     fn part(&self, node: NodeId, span: Span) -> Part
         requires some { 0 < span.len }
-        requires block { IsWithinCluster 65536 span }
+        requires block { IsWithinCluster block_size span }
         requires inside { end_of span ≤ node_size self.now node }
         requires image { IsImage self.now node }
         ensures node { result.node ≡ node }
@@ -44,7 +44,7 @@ impl<D: Device> Nodes<D> {
         let Some(file) = self.graph.child(Parent::Node(node), Role::File) else {
             unreachable!()
         };
-        let whole = cluster_around(self.size(node), span);
+        let whole = block_around(self.size(node), span);
         let source = self.source(node, whole.start);
         Part {
             node,
@@ -78,7 +78,7 @@ impl<D: Device> Nodes<D> {
 
     /// Writes a piece of a qcow2 node.
     pub(super) fn write_in_image(&mut self, node: NodeId, span: Span, bytes: &[u8]) -> Outcome
-        requires block { IsWithinCluster 65536 span }
+        requires block { IsWithinCluster block_size span }
         requires inside { end_of span ≤ node_size self.old node }
         requires some { 0 < span.len }
         requires whole { length bytes.now ≡ span.len }
@@ -109,7 +109,7 @@ impl<D: Device> Nodes<D> {
     /// the whole cluster is written. Of the image's entries only that of the cluster may change, and only where the write is Good.
     /// Takes no memory.
     pub fn write_piece(&mut self, node: NodeId, span: Span, bytes: &[u8]) -> Outcome
-        requires block { IsWithinCluster 65536 span }
+        requires block { IsWithinCluster block_size span }
         requires inside { end_of span ≤ node_size self.old node }
         requires whole { length bytes.now ≡ span.len }
         requires may { MayWriteThrough self.old node }
@@ -133,7 +133,7 @@ impl<D: Device> Nodes<D> {
 
     /// Writes zeros to a piece of a `file` or `raw` node.
     fn zero_in_file(&mut self, node: NodeId, span: Span) -> Outcome
-        requires block { IsWithinCluster 65536 span }
+        requires block { IsWithinCluster block_size span }
         requires inside { end_of span ≤ node_size self.old node }
         requires some { 0 < span.len }
         requires may { MayWriteThrough self.old node }
@@ -158,7 +158,7 @@ impl<D: Device> Nodes<D> {
 
     /// Writes zeros to a piece of a qcow2 node.
     fn zero_in_image(&mut self, node: NodeId, span: Span) -> Outcome
-        requires block { IsWithinCluster 65536 span }
+        requires block { IsWithinCluster block_size span }
         requires inside { end_of span ≤ node_size self.old node }
         requires some { 0 < span.len }
         requires may { MayWriteThrough self.old node }
@@ -186,7 +186,7 @@ impl<D: Device> Nodes<D> {
     /// Writes zeros, with the same answers. A whole cluster of a qcow2 node is made to read as zeros by its entry alone, and a part
     /// of one that reads so is left.
     pub fn zero_piece(&mut self, node: NodeId, span: Span) -> Outcome
-        requires block { IsWithinCluster 65536 span }
+        requires block { IsWithinCluster block_size span }
         requires inside { end_of span ≤ node_size self.old node }
         requires may { MayWriteThrough self.old node }
         ensures none { span.len ≡ 0 → (result ≡ Outcome.Good) × (self.new ≡ self.old) }

@@ -16,9 +16,9 @@ put_row-requires-clause-image g c =
     let row : Option Row = get_or rows c.index-at.result c.index-rows-at-2.result in
     let first_is = get_or_default rows c.index-at.result c.index-rows-at.result first within in
     let row_is = get_or_default rows c.index-at.result c.index-rows-at-2.result row within in
-    rw start (put_asks c.args.rows.now c.args.devices.now c.gather-read.new.devices c.args.part.now c.room_of-room.result c.gather-read.result c.requires.piece
+    rw start (put_asks c.args.rows.now c.args.devices.now c.gather-read.new.devices c.args.part.now c.bytes.result.now c.room_of-room.result c.gather-read.result c.requires.piece
     c.index-at.result first row c.index-at.ensures.value within first_is row_is
-    (rw start at c.room_of-room.ensures) (sym c.is_good.ensures ∙ c.if-not-is_good.false) (sym c.is_good-2.ensures ∙ c.if-not-is_good-2.false) c.gather-read.ensures.outcome)
+    (rw start at c.room_of-room.ensures) (sym c.is_good.ensures ∙ c.if-not-is_good.false) (sym c.is_good-2.ensures ∙ c.if-not-is_good-2.false) c.gather-read.ensures.outcome c.bytes.ensures.whole)
 
 pub returns : goal.returns
 returns g c =

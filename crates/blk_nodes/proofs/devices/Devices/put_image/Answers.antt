@@ -1,4 +1,5 @@
 use Rattle.std.proofs.Common.{◌*◌, ℕ, List, None, get_or, sym, ◌∙◌, ap, subst}
+use Rattle.q2_image.specs.Image.{cluster_size_in}
 use Rattle.q2_image.specs.Writing.{PutFits}
 use Rattle.blk_nodes.specs.Changing.{PutsCluster}
 use Rattle.blk_nodes.specs.Nodes.{DeviceSeen}
@@ -26,8 +27,8 @@ returns g c =
     let place = rw (sym c.self.view_is) at (sym c.in-Some.ensures.place) in
     let fits : ℕ → Type 0 = PutFits c.args.image.now c.args.cluster in
     rw (sym c.self.view_is)
-    (called_over c.args.file items c.in-Some.at x y fits None (PutsCluster c.args.cluster c.args.bytes.now) c.args.image.now c.put_image.new.image (c.args.cluster * 65536) c.args.bytes.now c.put_image.result place
-    (subst (λ (d : DeviceSeen). IsImageCall (fits d.capacity) None (PutsCluster c.args.cluster c.args.bytes.now) d y c.args.image.now c.put_image.new.image (c.args.cluster * 65536) c.args.bytes.now c.put_image.result) c.index_mut-held.ensures.value c.put_image.ensures))
+    (called_over c.args.file items c.in-Some.at x y fits None (PutsCluster c.args.cluster c.args.bytes.now) c.args.image.now c.put_image.new.image (c.args.cluster * cluster_size_in c.args.image.now) c.args.bytes.now c.put_image.result place
+    (subst (λ (d : DeviceSeen). IsImageCall (fits d.capacity) None (PutsCluster c.args.cluster c.args.bytes.now) d y c.args.image.now c.put_image.new.image (c.args.cluster * cluster_size_in c.args.image.now) c.args.bytes.now c.put_image.result) c.index_mut-held.ensures.value c.put_image.ensures))
 
 pub put_image-requires-clause-fits : goal.put_image-requires-clause-fits
 put_image-requires-clause-fits g c =

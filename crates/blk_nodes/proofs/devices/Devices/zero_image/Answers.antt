@@ -1,4 +1,5 @@
 use Rattle.std.proofs.Common.{◌*◌, ℕ, List, None, get_or, replicate, sym, ◌∙◌, ap, subst}
+use Rattle.q2_image.specs.Image.{cluster_size_in}
 use Rattle.q2_image.specs.Writing.{ZeroFits}
 use Rattle.blk_nodes.specs.Changing.{ClearsCluster}
 use Rattle.blk_nodes.specs.Nodes.{DeviceSeen}
@@ -26,5 +27,5 @@ returns g c =
     let place = rw (sym c.self.view_is) at (sym c.in-Some.ensures.place) in
     let fits : ℕ → Type 0 = ZeroFits c.args.image.now c.args.cluster in
     rw (sym c.self.view_is)
-    (called_over c.args.file items c.in-Some.at x y fits None (ClearsCluster c.args.cluster) c.args.image.now c.zero_image.new.image (c.args.cluster * 65536) (replicate 65536 0) c.zero_image.result place
-    (subst (λ (d : DeviceSeen). IsImageCall (fits d.capacity) None (ClearsCluster c.args.cluster) d y c.args.image.now c.zero_image.new.image (c.args.cluster * 65536) (replicate 65536 0) c.zero_image.result) c.index_mut-held.ensures.value c.zero_image.ensures))
+    (called_over c.args.file items c.in-Some.at x y fits None (ClearsCluster c.args.cluster) c.args.image.now c.zero_image.new.image (c.args.cluster * cluster_size_in c.args.image.now) (replicate (cluster_size_in c.args.image.now) 0) c.zero_image.result place
+    (subst (λ (d : DeviceSeen). IsImageCall (fits d.capacity) None (ClearsCluster c.args.cluster) d y c.args.image.now c.zero_image.new.image (c.args.cluster * cluster_size_in c.args.image.now) (replicate (cluster_size_in c.args.image.now) 0) c.zero_image.result) c.index_mut-held.ensures.value c.zero_image.ensures))

@@ -20,7 +20,6 @@ returns g c =
     let written = c.put_cluster-written.result in
     let image = c.args.image.now in
     let left = c.put_cluster-written.new.self in
-    let bits = c.cluster_size.ensures.bits in
     let old : DeviceSeen = record {
       node = c.self.inside.node;
       number = c.self.inside.number;
@@ -42,7 +41,7 @@ returns g c =
       faults = g.D.Device.faults c.put_cluster-written.new.dev;
     } in
     let fits = rw (sym c.self.view_is) at c.requires.fits in
-    let ok = rw bits at e.disk in
+    let place : ℕ = c.args.cluster * cluster_size_in image in
     let bytes : List ℕ = c.args.bytes.now in
     rw (sym c.self.view_is) (record {
       wrote = record {
@@ -55,8 +54,8 @@ returns g c =
         };
         image = e.image;
         disk = λ b now was is.
-            subst (λ (o : Outcome). IsDiskWith b now (c.args.cluster * 65536) (taken_by o bytes)) (sym c.cluster_outcome.ensures)
-            (cluster_disk new written old.content new.content (c.args.cluster * 65536) bytes ok e.kept b now was is);
+            subst (λ (o : Outcome). IsDiskWith b now place (taken_by o bytes)) (sym c.cluster_outcome.ensures)
+            (cluster_disk new written old.content new.content place bytes e.disk e.kept b now was is);
         header = e.header;
         taken = e.taken;
         mapped = cluster_mapped written image left c.args.cluster e.others (on_ok_weaker written (host_mapped (entry_in left c.args.cluster)) e.mapped) e.unmapped;
@@ -66,5 +65,5 @@ returns g c =
           (λ other. fits) (λ is. absurd (e.no_space.0 is fits)));
       changed = subst (PutsCluster c.args.cluster bytes image left old new) (sym c.cluster_outcome.ensures)
           (cluster_change g.D.Device c.self.inside.node c.self.inside.number c.self.inside.device c.put_cluster-written.new.dev image left
-          (put_steps image c.args.cluster bytes) (c.args.cluster * cluster_size_in image) bytes (λ now. IsHost (entry_in now c.args.cluster)) written e.changes e.cleared (λ other. e.stops fits) e.mapped);
+          (put_steps image c.args.cluster bytes) place bytes (λ now. IsHost (entry_in now c.args.cluster)) written e.changes e.cleared (λ other. e.stops fits) e.mapped);
     })

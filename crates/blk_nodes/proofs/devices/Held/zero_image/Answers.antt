@@ -21,7 +21,8 @@ returns g c =
     let written = c.zero_cluster-written.result in
     let image = c.args.image.now in
     let left = c.zero_cluster-written.new.self in
-    let bits = c.cluster_size.ensures.bits in
+    let size : ℕ = cluster_size_in image in
+    let place : ℕ = c.args.cluster * size in
     let old : DeviceSeen = record {
       node = c.self.inside.node;
       number = c.self.inside.number;
@@ -42,8 +43,8 @@ returns g c =
       capacity = g.D.Device.capacity c.zero_cluster-written.new.dev;
       faults = g.D.Device.faults c.zero_cluster-written.new.dev;
     } in
-    let ok = zeros_disk written old.content new.content (c.args.cluster * 65536) (rw bits at e.disk) in
-    let bytes : List ℕ = replicate 65536 0 in
+    let ok = zeros_disk size written old.content new.content place e.disk in
+    let bytes : List ℕ = replicate size 0 in
     rw (sym c.self.view_is) (record {
       wrote = record {
         device = record {
@@ -55,8 +56,8 @@ returns g c =
         };
         image = e.image;
         disk = λ b now was is.
-            subst (λ (o : Outcome). IsDiskWith b now (c.args.cluster * 65536) (taken_by o bytes)) (sym c.cluster_outcome.ensures)
-            (cluster_disk new written old.content new.content (c.args.cluster * 65536) bytes ok e.kept b now was is);
+            subst (λ (o : Outcome). IsDiskWith b now place (taken_by o bytes)) (sym c.cluster_outcome.ensures)
+            (cluster_disk new written old.content new.content place bytes ok e.kept b now was is);
         header = e.header;
         taken = e.taken;
         mapped = cluster_mapped written image left c.args.cluster e.others (on_ok_weaker written (zero_mapped (entry_in left c.args.cluster) (host_of (entry_in image c.args.cluster))) e.mapped) e.unmapped;
@@ -67,9 +68,9 @@ returns g c =
           (λ is. let all = e.untouched is in (e.no_space.0 is, same_state old new refl refl all.1 all.3 all.2 all.4 e.capacity all.5, all.0)));
       changed = subst (ClearsCluster c.args.cluster image left old new) (sym c.cluster_outcome.ensures)
           (cluster_change g.D.Device c.self.inside.node c.self.inside.number c.self.inside.device c.zero_cluster-written.new.dev image left
-          (zero_steps image c.args.cluster) (c.args.cluster * cluster_size_in image) (replicate (cluster_size_in image) 0)
+          (zero_steps image c.args.cluster) place bytes
           (λ now. entry_in now c.args.cluster ≡ Zero (host_of (entry_in image c.args.cluster))) written e.changes e.cleared
           (λ other.
           let fits = stable_zero c.args.image.now c.args.cluster old.capacity (λ none. other (e.no_space.1 none)) in
-          e.stops fits (replicate (cluster_size_in image) 0) (cluster_zeros (cluster_size_in image))) e.mapped);
+          e.stops fits bytes (cluster_zeros size)) e.mapped);
     })

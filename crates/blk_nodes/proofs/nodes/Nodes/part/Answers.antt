@@ -9,10 +9,10 @@ returns-clause-piece g c =
     let nodes : Nodes = record { graph = c.self.inside.graph; rows = c.self.inside.rows.items; devices = c.self.inside.devices } in
     let image = rw (sym c.self.view_is) at c.requires.image in
     let inside = rw (sym c.self.view_is) at c.requires.inside in
-    let start : c.whole.inside.start ≡ c.cluster_around-whole.result.start = ap (λ (s : Extent). s.start) c.whole.view_is in
+    let start : c.whole.inside.start ≡ c.block_around-whole.result.start = ap (λ (s : Extent). s.start) c.whole.view_is in
     let can = rw (sym c.self.view_is) at (rw start at c.source-source.ensures.read) in
     let size = rw (sym c.self.view_is) at c.size.ensures in
-    let around = rw size at c.cluster_around-whole.ensures in
+    let around = rw size at c.block_around-whole.ensures in
     rw (sym c.self.view_is)
-    (piece_of nodes c.self.invariant c.args.node image c.args.span c.cluster_around-whole.result c.in-Some.file c.source-source.result (sym c.child.ensures.child ∙ c.in-Some.is)
+    (piece_of nodes c.self.invariant c.args.node image c.args.span c.block_around-whole.result c.in-Some.file c.source-source.result (sym c.child.ensures.child ∙ c.in-Some.is)
     around c.requires.some c.requires.block inside can)
