@@ -12,6 +12,7 @@ use Rattle.blk_nodes.specs.declared.backing.Backing.TheVariants.{Unsaid}
 use Rattle.blk_nodes.specs.declared.row.Driver.{Driver}
 use Rattle.blk_nodes.specs.declared.row.Driver.TheVariants as drivers
 use Rattle.blk_nodes.specs.declared.row.Row.{Row}
+use Rattle.q2_format.specs.declared.header.TheConstants.{MAX_DISK_SIZE}
 use Rattle.q2_image.specs.Image.{Known}
 use Rattle.qblk_core.specs.declared.words.Format.{Format}
 use Rattle.qblk_core.specs.declared.words.Format.TheVariants.{Raw, Qcow2}
