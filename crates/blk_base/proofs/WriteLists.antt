@@ -1,6 +1,7 @@
 -- Lists of writes one behind the other, and what holds wherever they are stopped.
 use Rattle.std.proofs.Common.{◌≡◌, ◌⊎◌, ℕ, zero, suc, ◌+◌, ◌%◌, ◌<◌, ◌≤◌, max, List, [], ◌∷◌, ◌++◌, length, take, refl, sym, ◌∙◌, ap, subst, arith, inl, inr}
 use Rattle.std.specs.Prelude.{◌&&◌}
+use Rattle.blk_base.specs.Calls.{stopped_at}
 use Rattle.blk_base.specs.Content.{Write, Log, with_bytes, size_with, log_with, after_writes}
 use Rattle.blk_base.specs.Writes.{end_of_writes, size_after_writes, log_after_writes, are_none, first_bytes, IsTorn, IsRefused, IsCutBy, IsPart, AtEachStop}
 use Rattle.blk_base.specs.declared.fault.DevStop.{DevStop}
@@ -47,6 +48,21 @@ part-sooner C [] ws made part = absurd part
 part-sooner C (v ∷ vs) ws [] part = absurd part
 part-sooner C (v ∷ vs) ws (m ∷ made) (inl (same, part)) = inl (same, part-sooner C vs ws made part)
 part-sooner C (v ∷ vs) ws (m ∷ made) (inr cut) = inr cut
+
+-- the write at which such a part stops
+pub stopped_at-later : (C : Write → Write → Type 0) (vs ws made : List Write) → IsPart C ws made → stopped_at (vs ++ ws) (vs ++ made) ≡ stopped_at ws made
+stopped_at-later C [] ws made part = refl
+stopped_at-later C (v ∷ []) [] made part = absurd part
+stopped_at-later C (v ∷ []) (w ∷ ws) [] part = absurd part
+stopped_at-later C (v ∷ []) (w ∷ ws) (m ∷ made) part = refl
+stopped_at-later C (v ∷ u ∷ vs) ws made part = stopped_at-later C (u ∷ vs) ws made part
+
+pub stopped_at-sooner : (C : Write → Write → Type 0) (vs ws made : List Write) → IsPart C vs made → stopped_at (vs ++ ws) made ≡ stopped_at vs made
+stopped_at-sooner C [] ws made part = absurd part
+stopped_at-sooner C (v ∷ vs) ws [] part = absurd part
+stopped_at-sooner C (v ∷ vs) ws (m ∷ []) part = refl
+stopped_at-sooner C (v ∷ vs) ws (m ∷ n ∷ made) (inl (same, part)) = stopped_at-sooner C vs ws (n ∷ made) part
+stopped_at-sooner C (v ∷ vs) ws (m ∷ n ∷ made) (inr (cut, none)) = let bad : ⊥ = cc none in absurd bad
 
 -- and a part of both is one of the sooner, or they are made and then a part of the later
 pub part-split : (C : Write → Write → Type 0) (vs ws made : List Write) → IsPart C (vs ++ ws) made

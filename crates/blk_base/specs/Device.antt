@@ -1,5 +1,6 @@
 -- What a call leaves of a device: nothing changed, or which writes it made, and why it stopped.
 use Rattle.std.specs.Prelude.{◌≡◌, ℕ, ◌<◌, ◌≤◌, true, ◌&&◌, List, Option, Some, None, option_map, Result, Ok, Err}
+use Rattle.blk_base.specs.Calls.{FailsReading, FailsWriting}
 use Rattle.blk_base.specs.Content.{Write, Log, after_writes}
 use Rattle.blk_base.specs.Counts.{Rose}
 use Rattle.blk_base.specs.Writes.{end_of_writes, size_after_writes, log_after_writes, are_none, IsCutBy, IsPart, AtEachStop}
@@ -9,7 +10,7 @@ use Rattle.blk_base.specs.declared.file.Opened.{Opened}
 use Rattle.blk_base.specs.declared.fault.DevStop.{DevStop}
 use Rattle.blk_base.specs.declared.fault.DevStop.TheVariants.{Io, NoSpace}
 
--- all but the count of faults is as before
+-- all but the count of faults, and which call failed last, is as before
 pub record OnlyReads {D : Type 0} (g : Ghosts D) (old new : D) : Type 0 where
   pub content : g.content new ≡ g.content old
   pub flushed : g.is_flushed new ≡ g.is_flushed old
@@ -23,10 +24,11 @@ abbrev pub CountsFault : Option ℕ → ℕ → ℕ → Type 0
 CountsFault None before now = now ≡ before
 CountsFault (Some count) before now = Rose before count × (count ≡ now)
 
--- what a call leaves that only reads, by the fault that it tells
+-- what a call leaves that only reads, by the fault that it tells: that of a read
 pub record Reads {D : Type 0} (g : Ghosts D) (told : Option ℕ) (old new : D) : Type 0 where
   pub reads : OnlyReads g old new
   pub cause : CountsFault told (g.faults old) (g.faults new)
+  pub call : FailsReading told (g.failed_call old) (g.failed_call new)
 
 -- all is as before
 abbrev pub Untouched : {D : Type 0} → Ghosts D → D → D → Type 0
@@ -61,13 +63,14 @@ StopsBy (Some (Io count)) ws capacity before now = Rose before count × (count �
 StopsBy (Some NoSpace) ws capacity before now = (capacity < end_of_writes ws) × (now ≡ before)
 
 -- what a call leaves that makes these writes, by the stop that it tells: all of them are made, or those before the
--- one at which it stops, and of that one a cut
+-- one at which it stops, and of that one a cut; where it tells a fault, it is that one's
 pub record Writes {D : Type 0} (g : Ghosts D) (ws : List Write) (stop : Option DevStop)
     (old new : D) : Type 0 where
   pub made : List Write
   pub part : IsMade stop ws made
   pub wrote : Wrote g made old new
   pub cause : StopsBy stop ws (g.capacity old) (g.faults old) (g.faults new)
+  pub call : FailsWriting stop ws made (g.failed_call old) (g.failed_call new)
 
 -- the stop that an answer tells
 abbrev pub stop_of : {A : Type 0} → Result A DevStop → Option DevStop

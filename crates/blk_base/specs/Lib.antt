@@ -3,8 +3,9 @@ pub mod Written
 pub mod Counts
 pub mod Content
 pub mod Writes
-pub mod Device
 pub mod Files
+pub mod Calls
+pub mod Device
 pub mod Answers
 pub mod Stored
 pub mod Outcomes

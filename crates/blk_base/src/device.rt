@@ -1,7 +1,9 @@
 //! One disk or file that is open: what is asked of it, whatever it lies on.
 ghost use Rattle.std.specs.Prelude.{◌≡◌, ◌↔◌, ◌+◌, ◌<◌, ◌≤◌, ℕ, Bool, true, false, ◌||◌, List, length, Option, Some, option_map, is_some, is_ok, IsTrue, IfErr, OnOk, OnErr, IsErrAnd};
+ghost use Rattle.blk_base.specs.Calls.{IsCallAfter, IsWriteAfter};
 ghost use Rattle.blk_base.specs.Counts.{Rose, taken, IsFailedWrite};
 ghost use Rattle.blk_base.specs.Content.{bytes_at, with_bytes, size_with, Log, after_writes, GoesOn};
+ghost use Rattle.blk_base.specs.declared.device.DeviceCall.{DeviceCall};
 
 /// A read or a flush failed.
 #[derive(Clone, Copy, Debug, PartialEq, Eq)]
@@ -25,6 +27,14 @@ pub struct WriteStop {
     pub why: Stop,
 }
 
+/// A call of a device: a read or a write with its place and how many bytes it asked for, or a flush.
+#[derive(Clone, Copy, Debug, PartialEq, Eq)]
+pub enum DeviceCall {
+    Read { offset: u64, len: u64 },
+    Write { offset: u64, len: u64 },
+    Flush,
+}
+
 /// A disk or file. Offsets and lengths are in bytes. A call that doesn't fail leaves the count of faults.
 pub trait Device {
     /// The bytes, where the device tells them.
@@ -45,12 +55,17 @@ pub trait Device {
     /// How many of its calls have failed.
     ghost faults: { Self → ℕ };
 
+    /// Which of its calls failed last, where the device tells it.
+    ghost failed_call: { Self → Option DeviceCall };
+
     /// Reads `buf.len()` bytes from `off` on, zeros past the end. A failed read leaves `buf` with any bytes.
     fn read_at(&mut self, off: u64, buf: &mut [u8]) -> Result<(), DevFault>
         ensures read { OnOk result
             ((b : List ℕ) → content self.old ≡ Some b → buf.new ≡ bytes_at b off (length buf.old)) }
         ensures failed { OnErr result (Rose (faults self.old) (faults self.new)) }
         ensures quiet { OnOk result (faults self.new ≡ faults self.old) }
+        ensures call { IsCallAfter result (DeviceCall.Read off (length buf.old))
+            (failed_call self.old) (failed_call self.new) }
         ensures faults { faults self.old ≤ faults self.new }
         ensures content { content self.new ≡ content self.old }
         ensures flushed { is_flushed self.new ≡ is_flushed self.old }
@@ -75,6 +90,8 @@ pub trait Device {
             (λ stop. stop.why ≡ Stop.Failed → (off + length bytes.now ≤ capacity self.old)
             × IsFailedWrite off stop.done (length bytes.now) (faults self.old) (faults self.new)) }
         ensures quiet { OnOk result (faults self.new ≡ faults self.old) }
+        ensures call { IsWriteAfter result (DeviceCall.Write off (length bytes.now))
+            (failed_call self.old) (failed_call self.new) }
         ensures faults { faults self.old ≤ faults self.new }
         ensures capacity { capacity self.new ≡ capacity self.old };
 
@@ -84,6 +101,8 @@ pub trait Device {
             ≡ option_map (λ f. is_ok result || f) (is_flushed self.old) }
         ensures failed { OnErr result (Rose (faults self.old) (faults self.new)) }
         ensures quiet { OnOk result (faults self.new ≡ faults self.old) }
+        ensures call { IsCallAfter result DeviceCall.Flush (failed_call self.old)
+            (failed_call self.new) }
         ensures faults { faults self.old ≤ faults self.new }
         ensures content { content self.new ≡ content self.old }
         ensures log { log self.new ≡ log self.old }

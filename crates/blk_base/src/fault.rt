@@ -27,9 +27,9 @@ pub enum Outcome {
     Good,
     /// Its first `done` bytes were written, and neither none nor all.
     Torn { done: u64, dev: DevNo, count: u64 },
-    /// Nothing changed: a call of the device failed.
+    /// No byte of the disk changed: a call of the device failed.
     Io { dev: DevNo, count: u64 },
-    /// Nothing changed: a write would have ended above the device's capacity.
+    /// No byte of the disk changed: a write would have ended above the device's capacity.
     NoSpace { dev: DevNo },
 }
 

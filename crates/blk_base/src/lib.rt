@@ -13,7 +13,7 @@ mod store;
 mod text;
 mod writing;
 
-pub use device::{DevFault, Device, Stop, WriteStop};
+pub use device::{DevFault, Device, DeviceCall, Stop, WriteStop};
 pub use fault::{DevNo, DevStop, Fault, FaultAt, FaultFrom, Outcome};
 pub use file::{File, Opened};
 pub use memory::{NoMemory, Room};

@@ -5,6 +5,7 @@ ghost use Rattle.blk_base.specs.Files.{put_file, is_out, given_back, IfTold};
 ghost use Rattle.blk_base.specs.declared.file.File.{File};
 ghost use Rattle.blk_base.specs.declared.file.Opened.{Opened};
 ghost use Rattle.blk_base.specs.Answers.{OpenAnswers, CreateAnswers, ReadAnswers, StandsUnlessFailed};
+ghost use Rattle.blk_base.specs.Calls.{IsFileAfter};
 ghost use Rattle.blk_base.specs.Stored.{IsDeviceOf, HoldsBytes, LeavesOthers, files_with_returned};
 
 use crate::{Bytes, Device};
@@ -40,6 +41,9 @@ pub trait Store {
     /// How many of its calls have failed.
     ghost faults: { Self → ℕ };
 
+    /// The name of the file of its call that failed last, where the store tells it.
+    ghost failed_file: { Self → Option (List ℕ) };
+
     /// Takes a file out. The n-th opening of a run, counted from 0, is device n. A refusal leaves all as it was.
     fn open_file(&mut self, name: &str) -> Result<Self::Dev, StoreStop>
         ensures device { IfOk result
@@ -52,6 +56,7 @@ pub trait Store {
         ensures cause { OpenAnswers name.now (files self.old) (opened self.old) (faults self.old)
             (faults self.new) result }
         ensures quiet { StandsUnlessFailed (faults self.old) (faults self.new) result }
+        ensures file { IsFileAfter result name.now (failed_file self.old) (failed_file self.new) }
         ensures files { files self.new ≡ files self.old }
         ensures room { room self.new ≡ room self.old }
         ensures faults { faults self.old ≤ faults self.new };
@@ -74,6 +79,7 @@ pub trait Store {
         ensures cause { CreateAnswers name.now len (room self.old) (opened self.old)
             (faults self.old) (faults self.new) result }
         ensures quiet { StandsUnlessFailed (faults self.old) (faults self.new) result }
+        ensures file { IsFileAfter result name.now (failed_file self.old) (failed_file self.new) }
         ensures opened { opened self.new ≡ opened self.old }
         ensures room { room self.new ≡ room self.old }
         ensures faults { faults self.old ≤ faults self.new };
@@ -84,6 +90,7 @@ pub trait Store {
         ensures cause { ReadAnswers name.now limit (files self.old) (opened self.old)
             (faults self.old) (faults self.new) result }
         ensures quiet { StandsUnlessFailed (faults self.old) (faults self.new) result }
+        ensures file { IsFileAfter result name.now (failed_file self.old) (failed_file self.new) }
         ensures files { files self.new ≡ files self.old }
         ensures opened { opened self.new ≡ opened self.old }
         ensures room { room self.new ≡ room self.old }
@@ -98,6 +105,7 @@ pub trait Store {
         ensures opened { opened self.new
             ≡ given_back name.now (Self.Dev.faults dev) (opened self.old) }
         ensures room { room self.new ≡ room self.old }
+        ensures file { failed_file self.new ≡ failed_file self.old }
         ensures faults { faults self.new ≡ faults self.old };
 
     /// The capacity of a file that `create_file` makes. It never changes.

@@ -1,6 +1,7 @@
 -- What an allocation leaves of a device's told bytes, by what it leaves of the device.
-use Rattle.std.proofs.Common.{◌≡◌, ◌⊎◌, inl, inr, ℕ, List, [], ◌∷◌, ◌+◌, ◌*◌, Option, Some, None, Result, Ok, Err, sym, ap, subst, ◌∙◌}
+use Rattle.std.proofs.Common.{◌≡◌, ◌⊎◌, inl, inr, ℕ, List, [], ◌∷◌, ◌++◌, ◌+◌, ◌*◌, Option, Some, None, Result, Ok, Err, sym, ap, subst, ◌∙◌}
 use Rattle.std.specs.Prelude.{IfErr, OnErr}
+use Rattle.blk_base.specs.Calls.{FailsWriting}
 use Rattle.blk_base.specs.Content.{Write, after_writes}
 use Rattle.blk_base.specs.Device.{Wrote, Writes, AtEachStopOf, stop_of}
 use Rattle.blk_base.specs.Writes.{write_of, first_bytes}
@@ -17,6 +18,7 @@ use Rattle.q2_refs.specs.Kept.{KeptRefs}
 use Rattle.q2_refs.specs.declared.allocating.RefStop.{RefStop}
 use Rattle.q2_refs.specs.declared.allocating.RefStop.TheVariants.{Dev}
 use Rattle.q2_refs.proofs.AllocationStops.{CanBeGiven, allocation_done, allocation_unused, allocation_left, allocation_stops, block_for_cut, count_part}
+use Rattle.q2_refs.proofs.FailedCalls.{call_later}
 use Rattle.q2_refs.proofs.Placing.{told_before}
 
 -- the writes of a block, by what they were made of
@@ -47,12 +49,18 @@ module _ {D : Type 0} (g : Ghosts D) where
       → Writes g (count_write mid n ∷ []) (stop_of r) b c → OnErr r (left ≡ mid) → IfErr r (λ stop. StopsAllocating g kept n stop left a c)
   take_left kept mid left n (Ok done) a b c is first count same = tt
   take_left kept mid left n (Err stop) a b c is first count same =
-      let part = count_part mid n stop count.made count.part ∙ ap (λ k. first_bytes 0 (count_write k n) ∷ []) is in
+      let cut = count_part mid n stop count.made count.part in
+      let part = cut ∙ ap (λ k. first_bytes 0 (count_write k n) ∷ []) is in
+      let block : List Write = block_writes_for kept n in
+      let F : List Write → List Write → Type 0 = λ ws ms. FailsWriting (Some stop) (block ++ ws) (block ++ ms) (g.failed_call a) (g.failed_call c) in
+      let K : KeptRefs → Type 0 = λ k. F (count_write k n ∷ []) (first_bytes 0 (count_write k n) ∷ []) in
       inr (
         same ∙ is,
         wrote-then g (block_writes_for kept n) (first_bytes 0 (count_write (with_block_for kept n) n) ∷ []) a b c
             (all_made (block_writes_for kept n) a b first)
             (subst (λ made. Wrote g made b c) part count.wrote),
+        subst K is (subst (F (count_write mid n ∷ [])) cut
+            (call_later block (count_write mid n ∷ []) count.made (Some stop) (g.failed_call a) (g.failed_call b) (g.failed_call c) count.part first.call count.call)),
       )
 
   module _ (kept : KeptRefs) (n : ℕ) (a b : D) (step : (file : List ℕ) → g.content a ≡ Some file → IsInStep file kept) (can : CanBeGiven kept n) where
@@ -73,7 +81,7 @@ module _ {D : Type 0} (g : Ghosts D) where
 
     pub left_step : (stop : DevStop) (left : KeptRefs) → StopsAllocating g kept n stop left a b → (new : List ℕ) → g.content b ≡ Some new → IsInStep new left
     left_step stop left (inl (same, writes)) new told = subst (λ k. IsInStep new k) (sym same) (cut_step stop writes new told)
-    left_step stop left (inr (placed, wrote)) new told =
+    left_step stop left (inr (placed, wrote, call)) new told =
         let was = wrote_before (all_but_count kept n) a b new wrote told in
         subst (λ k. IsInStep new k) (sym placed) (subst (λ z. IsInStep z (with_block_for kept n)) was.2 (allocation_left was.0 kept n (step was.0 was.1) can).step)
 

@@ -1,5 +1,6 @@
 -- Taking a cluster: what is kept afterwards, what the file is, and what of it stays.
 use Rattle.std.specs.Prelude.{◌≡◌, ◌≢◌, ◌⊎◌, ℕ, ◌+◌, ◌-◌, ◌*◌, ◌/◌, ◌%◌, ◌==◌, if◌then◌else◌, List, [], ◌∷◌, ◌++◌, length, replicate, count_by, slice_index, slice_set, Option, Some, None, Result, Ok, Err}
+use Rattle.blk_base.specs.Calls.{FailsWriting}
 use Rattle.blk_base.specs.Content.{Write}
 use Rattle.blk_base.specs.Device.{Writes, Wrote}
 use Rattle.blk_base.specs.Writes.{write_of, first_bytes, end_of_writes}
@@ -118,12 +119,14 @@ all_but_count kept n =
     block_writes_for kept n ++ first_bytes 0 (count_write (with_block_for kept n) n) ∷ []
 
 -- What a stop leaves of an allocation that gives cluster n: its block was not put and isn't kept, or it was and is,
--- and the refcount was not written.
+-- and the refcount was not written, at whose write it stopped.
 abbrev pub StopsAllocating : {D : Type 0} → Ghosts D → KeptRefs → ℕ → DevStop → KeptRefs → D → D
     → Type 0
 StopsAllocating g kept n stop left old new =
     ((left ≡ kept) × Writes g (block_writes_for kept n) (Some stop) old new)
-    ⊎ ((left ≡ with_block_for kept n) × Wrote g (all_but_count kept n) old new)
+    ⊎ ((left ≡ with_block_for kept n) × Wrote g (all_but_count kept n) old new
+    × FailsWriting (Some stop) (allocation_writes kept n) (all_but_count kept n)
+    (g.failed_call old) (g.failed_call new))
 
 -- what is kept after each refusal
 abbrev pub IsLeft : {D : Type 0} → Ghosts D → KeptRefs → KeptRefs → RefStop → D → D → Type 0

@@ -1,6 +1,7 @@
 use Rattle.std.proofs.Common.{[], ◌∷◌, ℕ, List, take, refl, sym, ap, subst, arith, inr}
 use Rattle.blk_base.specs.Counts.{Rose}
 use Rattle.blk_base.specs.Writes.{write_of}
+use Rattle.blk_base.proofs.Calls.{write_failed, write_refused}
 use Rattle.blk_base.proofs.writing.write.Goals as goal
 
 pub returns-in-Failed : goal.returns-in-Failed
@@ -21,6 +22,7 @@ returns-in-Failed g c =
         faults = c.in-Err.ensures.faults;
       };
       cause = (subst (λ n. Rose (g.D.Device.faults c.args.dev.now) n) (sym c.faults.ensures) failed.rose, c.faults.ensures);
+      call = write_failed c.args.at 0 bytes (write_of c.args.at (take done bytes)) c.in-Err.stop.why _ _ c.in-Failed.is c.in-Err.ensures.call;
     }
 
 pub returns-in-NoSpace : goal.returns-in-NoSpace
@@ -41,4 +43,5 @@ returns-in-NoSpace g c =
         faults = c.in-Err.ensures.faults;
       };
       cause = (let beyond = refused.0 in omega (arith, beyond), refused.2);
+      call = write_refused c.args.at bytes (write_of c.args.at (take done bytes)) c.in-Err.stop.why _ _ c.in-NoSpace.is c.in-Err.ensures.call;
     }
