@@ -1,14 +1,18 @@
 -- Which call failed last, behind one call and behind several.
-use Rattle.std.proofs.Common.{◌≡◌, ℕ, List, [], ◌∷◌, length, sym, ap, subst, Option, Some, None}
-use Rattle.blk_base.specs.Calls.{FailedLast, IsWriteAfterStop, IsRead, FailsReading, FailsWriting}
+use Rattle.std.proofs.Common.{◌≡◌, ℕ, List, [], ◌∷◌, ◌++◌, length, sym, ◌∙◌, ap, subst, Option, Some, None}
+use Rattle.std.specs.Option.{option_map}
+use Rattle.blk_base.specs.Calls.{FailedLast, IsWriteAfterStop, IsRead, FailsReading, FailsWriting, call_of_write}
 use Rattle.blk_base.specs.Content.{Write}
+use Rattle.blk_base.specs.Device.{IsMade}
 use Rattle.blk_base.specs.Files.{IfTold}
-use Rattle.blk_base.specs.Writes.{write_of}
+use Rattle.blk_base.specs.Writes.{write_of, IsCutBy}
 use Rattle.blk_base.specs.declared.device.DeviceCall.{DeviceCall}
 use Rattle.blk_base.specs.declared.device.DeviceCall.TheVariants as calls
 use Rattle.blk_base.specs.declared.device.Stop.{Stop}
 use Rattle.blk_base.specs.declared.device.Stop.TheVariants as why
+use Rattle.blk_base.specs.declared.fault.DevStop.{DevStop}
 use Rattle.blk_base.specs.declared.fault.DevStop.TheVariants.{Io, NoSpace}
+use Rattle.blk_base.proofs.WriteLists.{stopped_at-later, stopped_at-sooner}
 
 pub if_told : {A : Type 0} (P Q : A → Type 0) (told : Option A) → ((a : A) → P a → Q a) → IfTold told P → IfTold told Q
 if_told P Q None map is = is
@@ -29,3 +33,18 @@ write_failed at count bytes made reason before now is last =
 pub write_refused : (at : ℕ) (bytes : List ℕ) (made : Write) (reason : Stop) (before now : Option DeviceCall) → reason ≡ why.NoSpace
     → IsWriteAfterStop reason (calls.Write at (length bytes)) before now → FailsWriting (Some NoSpace) (write_of at bytes ∷ []) (made ∷ []) before now
 write_refused at bytes made reason before now is last = subst (λ (r : Stop). IsWriteAfterStop r (calls.Write at (length bytes)) before now) is last
+
+-- writes behind some that were all made
+pub call_later : (vs ws made : List Write) (stop : Option DevStop) (before mid now : Option DeviceCall) → IsMade stop ws made → mid ≡ before
+    → FailsWriting stop ws made mid now → FailsWriting stop (vs ++ ws) (vs ++ made) before now
+call_later vs ws made None before mid now part first later = later ∙ first
+call_later vs ws made (Some (Io count)) before mid now part first later =
+    subst (λ (w : Option Write). IfTold now (λ last. option_map call_of_write w ≡ Some last)) (sym (stopped_at-later (IsCutBy (Io count)) vs ws made part)) later
+call_later vs ws made (Some NoSpace) before mid now part first later = later ∙ first
+
+-- a stop, with others that would have come behind
+pub call_sooner : (vs ws made : List Write) (stop : DevStop) (before now : Option DeviceCall) → IsMade (Some stop) vs made
+    → FailsWriting (Some stop) vs made before now → FailsWriting (Some stop) (vs ++ ws) made before now
+call_sooner vs ws made (Io count) before now part call =
+    subst (λ (w : Option Write). IfTold now (λ last. option_map call_of_write w ≡ Some last)) (sym (stopped_at-sooner (IsCutBy (Io count)) vs ws made part)) call
+call_sooner vs ws made NoSpace before now part call = call

@@ -2,17 +2,17 @@
 use Rattle.std.proofs.Common.{◌≡◌, ℕ, ◌≤◌, Bool, true, false, List, [], ◌++◌, refl, sym, ◌∙◌, ap, subst, arith, Option, Some, None, is_some, ◌∷◌}
 use Rattle.std.specs.Option.{option_map}
 use Rattle.std.specs.Prelude.{◌&&◌}
-use Rattle.blk_base.specs.Calls.{FailsReading, FailsWriting, call_of_write}
+use Rattle.blk_base.specs.Calls.{FailsReading}
 use Rattle.blk_base.specs.Content.{Write, Log, after_writes}
 use Rattle.blk_base.specs.Counts.{Rose}
 use Rattle.blk_base.specs.Device.{OnlyReads, CountsFault, Reads, Untouched, Wrote, IsMade, StopsBy, Writes}
-use Rattle.blk_base.specs.Files.{IfTold}
 use Rattle.blk_base.specs.Writes.{size_after_writes, log_after_writes, are_none, IsCutBy, AtEachStop}
 use Rattle.blk_base.specs.declared.device.Device.{Ghosts}
 use Rattle.blk_base.specs.declared.device.DeviceCall.{DeviceCall}
 use Rattle.blk_base.specs.declared.fault.DevStop.{DevStop}
 use Rattle.blk_base.specs.declared.fault.DevStop.TheVariants.{Io, NoSpace}
-use Rattle.blk_base.proofs.WriteLists.{after_writes-append, size_after_writes-append, log_after_writes-append, end_of_writes-append, are_none-append, size_after_writes-grows, part-later, part-sooner, stopped_at-later, stopped_at-sooner, at_each_stop-refused}
+use Rattle.blk_base.proofs.Calls.{call_later, call_sooner}
+use Rattle.blk_base.proofs.WriteLists.{after_writes-append, size_after_writes-append, log_after_writes-append, end_of_writes-append, are_none-append, size_after_writes-grows, part-later, part-sooner, at_each_stop-refused}
 
 map-map : {A B C : Type 0} (f : A → B) (h : B → C) (x : Option A) → option_map h (option_map f x) ≡ option_map (λ a. h (f a)) x
 map-map f h None = refl
@@ -145,21 +145,6 @@ module _ {D : Type 0} (g : Ghosts D) where
   cause-sooner vs ws (Io count) capacity a b cause = cause
   cause-sooner vs ws NoSpace capacity a b cause = let beyond = cause.0 in (omega (arith, end_of_writes-append vs ws, beyond), cause.1)
 
-  call-later : (vs ws made : List Write) (stop : Option DevStop) (before mid now : Option DeviceCall) → IsMade stop ws made → mid ≡ before
-      → FailsWriting stop ws made mid now → FailsWriting stop (vs ++ ws) (vs ++ made) before now
-  call-later vs ws made None before mid now part first later = later ∙ first
-  call-later vs ws made (Some (Io count)) before mid now part first later =
-      subst (λ (w : Option Write). IfTold now (λ last. option_map call_of_write w ≡ Some last))
-      (sym (stopped_at-later (IsCutBy (Io count)) vs ws made part)) later
-  call-later vs ws made (Some NoSpace) before mid now part first later = later ∙ first
-
-  call-sooner : (vs ws made : List Write) (stop : DevStop) (before now : Option DeviceCall) → IsMade (Some stop) vs made
-      → FailsWriting (Some stop) vs made before now → FailsWriting (Some stop) (vs ++ ws) made before now
-  call-sooner vs ws made (Io count) before now part call =
-      subst (λ (w : Option Write). IfTold now (λ last. option_map call_of_write w ≡ Some last))
-      (sym (stopped_at-sooner (IsCutBy (Io count)) vs ws made part)) call
-  call-sooner vs ws made NoSpace before now part call = call
-
   made-later : (vs ws made : List Write) (stop : Option DevStop) → IsMade stop ws made → IsMade stop (vs ++ ws) (vs ++ made)
   made-later vs ws made None is = ap (λ xs. vs ++ xs) is
   made-later vs ws made (Some stop) part = part-later (IsCutBy stop) vs ws made part
@@ -171,7 +156,7 @@ module _ {D : Type 0} (g : Ghosts D) where
     part = made-later vs ws later.made stop later.part;
     wrote = wrote-then vs later.made a b c (subst (λ xs. Wrote g xs a b) first.part first.wrote) later.wrote;
     cause = cause-later vs ws stop (g.capacity a) (g.capacity b) (g.faults a) (g.faults b) (g.faults c) first.wrote.capacity first.cause later.cause;
-    call = call-later vs ws later.made stop (g.failed_call a) (g.failed_call b) (g.failed_call c) later.part first.call later.call;
+    call = call_later vs ws later.made stop (g.failed_call a) (g.failed_call b) (g.failed_call c) later.part first.call later.call;
   }
 
   -- a stop, with others that would have come behind
@@ -181,7 +166,7 @@ module _ {D : Type 0} (g : Ghosts D) where
     part = part-sooner (IsCutBy stop) vs ws stopped.made stopped.part;
     wrote = stopped.wrote;
     cause = cause-sooner vs ws stop (g.capacity a) (g.faults a) (g.faults b) stopped.cause;
-    call = call-sooner vs ws stopped.made stop (g.failed_call a) (g.failed_call b) stopped.part stopped.call;
+    call = call_sooner vs ws stopped.made stop (g.failed_call a) (g.failed_call b) stopped.part stopped.call;
   }
 
   pub wrote-grows : (ws : List Write) (a b : D) → Wrote g ws a b → g.size a ≤ g.size b

@@ -87,6 +87,7 @@ module _ {D : Type 0} (g : Ghosts D) where
           part = part-later IsTorn (block_writes_for image.refs n) (count_write block n ∷ []) cut part;
           wrote = placed.1;
           cause = writes.cause;
+          call = placed.2;
         };
         known = record {
           before = record { writes = block_writes_for image.refs n; known = record image { refs = block } } ∷ [];

@@ -13,6 +13,7 @@ use Rattle.blk_base.proofs.WriteLists.{part-later, part-sooner}
 use Rattle.q2_format.specs.Created.{IsNewFormat}
 use Rattle.q2_format.specs.Renamed.{format_bytes, format_room}
 use Rattle.q2_format.specs.declared.header.Place.{Place}
+use Rattle.blk_base.proofs.Calls.{call_later, call_sooner}
 use Rattle.q2_image.specs.BackingName.{format_writes, known_at, known_with, text_writes, with_format}
 use Rattle.q2_image.specs.Image.{Known}
 use Rattle.q2_image.specs.Made.{clear_writes}
@@ -123,6 +124,7 @@ module _ {D : Type 0} (g : Ghosts D) where
       part = made_later vs ws later.made stop later.part;
       wrote = wrote-then g vs later.made a b c (subst (λ (xs : List Write). Wrote g xs a b) first.part first.wrote) later.wrote;
       cause = (writes_then g vs ws stop a b c first later).cause;
+      call = call_later vs ws later.made stop (g.failed_call a) (g.failed_call b) (g.failed_call c) later.part first.call later.call;
     },
     refl,
   )
@@ -135,6 +137,7 @@ module _ {D : Type 0} (g : Ghosts D) where
       part = part-sooner (IsCutBy stop) vs ws first.made first.part;
       wrote = first.wrote;
       cause = (writes_sooner g vs ws stop a b first).cause;
+      call = call_sooner vs ws first.made stop (g.failed_call a) (g.failed_call b) first.part first.call;
     },
     refl,
   )

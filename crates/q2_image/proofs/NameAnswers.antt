@@ -241,7 +241,7 @@ module _ {D : Type 0} (g : Ghosts D) where
       → EndsWithFields g (with_format (autocleared image) format).header ws name stop b c → EndsWithFields g image.header ws name stop b c
   same_fields image format name ws stop b c (inl last) = inl (record { between = last.between; whole = last.whole; told = last.told; writes = last.writes })
   same_fields image format name ws stop b c (inr fails) =
-      inr (record { needed = fails.needed; count = fails.count; is = fails.is; wrote = fails.wrote; cause = fails.cause })
+      inr (record { needed = fails.needed; count = fails.count; is = fails.is; wrote = fails.wrote; cause = fails.cause; call = fails.call })
 
   -- What the call leaves of image and device, by where it stops.
   module _ (image : Known) (name format : Option (List ℕ)) (n : ℕ) (a b c : D) (ready : IsOpen image) (new_name : ForSome name IsNewName)
@@ -321,6 +321,7 @@ module _ {D : Type 0} (g : Ghosts D) where
               is = fails.is;
               wrote = subst W (append-nil ws) (wrote-then g ws [] a b c wrote_early fails.wrote);
               cause = subst (λ (x : ℕ). CountsFault (Some fails.count) x (g.faults c)) first.cause.1 fails.cause;
+              call = fails.call;
             },
             is,
           )

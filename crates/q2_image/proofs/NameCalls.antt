@@ -4,9 +4,10 @@ use Rattle.std.proofs.lemmas.Bool.{cases_eq, cases_lt, eq-eqb, ne_eqb, lt-ltb, l
 use Rattle.std.proofs.lemmas.List.{append-nil, ext_get_or, get_or-drop, get_or-replicate, get_or-take, length-replicate, length-take}
 use Rattle.std.proofs.Math.Seq.{take-length}
 use Rattle.std.specs.Option.{ForSome, option_map, option_map_or}
-use Rattle.std.specs.Prelude.{IfErr, IfSome}
+use Rattle.std.specs.Prelude.{IfErr, IfSome, OnErr}
 use Rattle.q2_format.specs.Header.{LiesWithin}
 use Rattle.byteorder.specs.Endian.{big_from}
+use Rattle.blk_base.specs.Calls.{FailedLast, IsWriteAfterStop}
 use Rattle.blk_base.specs.Content.{Write, after_writes, with_bytes}
 use Rattle.blk_base.specs.Content as content
 use Rattle.blk_base.proofs.Contents.{get_or-bytes_at}
@@ -14,10 +15,12 @@ use Rattle.blk_base.specs.Counts.{IsFailedWrite}
 use Rattle.blk_base.specs.Device.{CountsFault, Reads, StopsBy, Untouched, Wrote, Writes, stop_of}
 use Rattle.blk_base.specs.Writes.{write_of, end_of_writes, IsCutBy, IsPart}
 use Rattle.blk_base.specs.declared.device.Device.{Ghosts}
+use Rattle.blk_base.specs.declared.device.DeviceCall.TheVariants as calls
 use Rattle.blk_base.specs.declared.device.Stop.{Stop}
 use Rattle.blk_base.specs.declared.device.Stop.TheVariants as why
 use Rattle.blk_base.specs.declared.fault.DevStop.{DevStop}
 use Rattle.blk_base.specs.declared.fault.DevStop.TheVariants.{Io, NoSpace}
+use Rattle.blk_base.proofs.Calls.{write_failed}
 use Rattle.blk_base.proofs.DeviceLemmas.{only_reads-wrote, untouched-writes, wrote-then, writes_then}
 use Rattle.blk_base.proofs.WriteLists.{cut-sector, end_of_writes-append}
 use Rattle.q2_format.specs.Created.{IsNewName, IsNewFormat}
@@ -89,6 +92,7 @@ module _ {D : Type 0} (g : Ghosts D) where
         is = fails.is;
         wrote = subst W (append-nil early) (wrote-then g early [] a b c wrote fails.wrote);
         cause = subst (λ (n : ℕ). CountsFault (Some fails.count) n (g.faults c)) quiet fails.cause;
+        call = fails.call;
       })
 
   -- Which calls fail, where there is room.
@@ -170,30 +174,33 @@ early_end image name format n ready new =
 
 module _ {D : Type 0} (g : Ghosts D) where
   pub whole_write : (at : ℕ) (bytes : List ℕ) (a b : D) → Wrote g (write_of at bytes ∷ []) a b → at + length bytes ≤ g.capacity a → g.faults b ≡ g.faults a
-      → Writes g (write_of at bytes ∷ []) None a b
-  whole_write at bytes a b wrote fits quiet = record { made = write_of at bytes ∷ []; part = refl; wrote = wrote; cause = (omega (arith, fits), quiet) }
+      → g.failed_call b ≡ g.failed_call a → Writes g (write_of at bytes ∷ []) None a b
+  whole_write at bytes a b wrote fits quiet call = record { made = write_of at bytes ∷ []; part = refl; wrote = wrote; cause = (omega (arith, fits), quiet); call = call }
 
   pub stopped_write : (at done : ℕ) (bytes : List ℕ) (reason : Stop) (a b : D) → Wrote g (write_of at (take done bytes) ∷ []) a b
       → (reason ≡ why.NoSpace → (g.capacity a < at + length bytes) × (done ≡ 0) × (g.faults b ≡ g.faults a))
       → (reason ≡ why.Failed → (at + length bytes ≤ g.capacity a) × IsFailedWrite at done (length bytes) (g.faults a) (g.faults b))
+      → IsWriteAfterStop reason (calls.Write at (length bytes)) (g.failed_call a) (g.failed_call b)
       → (all : Writes g (write_of at bytes ∷ []) (Some (stop_by reason (g.faults b))) a b) × (all.made ≡ write_of at (take done bytes) ∷ [])
-  stopped_write at done bytes why.Failed a b wrote no_space failed =
+  stopped_write at done bytes why.Failed a b wrote no_space failed call =
       let stopped = (failed refl).1 in (
         record {
           made = write_of at (take done bytes) ∷ [];
           part = inr (record { n = done; short = stopped.part; sector = stopped.sector; first = refl }, refl);
           wrote = wrote;
           cause = (stopped.rose, refl);
+          call = write_failed at (g.faults b) bytes (write_of at (take done bytes)) why.Failed (g.failed_call a) (g.failed_call b) refl call;
         },
         refl,
       )
-  stopped_write at done bytes why.NoSpace a b wrote no_space failed =
+  stopped_write at done bytes why.NoSpace a b wrote no_space failed call =
       let refused = no_space refl in (
         record {
           made = write_of at (take done bytes) ∷ [];
           part = inr (ap (λ (n : ℕ). write_of at (take n bytes)) refused.1, refl);
           wrote = wrote;
           cause = (let beyond = refused.0 in omega (arith, beyond), refused.2);
+          call = call;
         },
         refl,
       )
@@ -257,13 +264,13 @@ module _ {D : Type 0} (g : Ghosts D) (image : Known) (format bytes : List ℕ) (
   pub format_stopped : (done : ℕ) (reason : Stop) (r : DevStop) (left : Known) → r ≡ stop_by reason (g.faults b) → Wrote g (write_of (p.at - 4) (take done bytes) ∷ []) a b
       → (reason ≡ why.NoSpace → (g.capacity a < p.at - 4 + length bytes) × (done ≡ 0) × (g.faults b ≡ g.faults a))
       → (reason ≡ why.Failed → (p.at - 4 + length bytes ≤ g.capacity a) × IsFailedWrite (p.at - 4) done (length bytes) (g.faults a) (g.faults b))
-      → IsNewFormat format → left ≡ cond (ltb done 4) image (with_format image (Some format)) → MakesFormat g image (Some format) (Some r) left a b
-  format_stopped done reason r left is wrote no_space failed new known =
+      → IsWriteAfterStop reason (calls.Write (p.at - 4) (length bytes)) (g.failed_call a) (g.failed_call b) → IsNewFormat format → left ≡ cond (ltb done 4) image (with_format image (Some format)) → MakesFormat g image (Some format) (Some r) left a b
+  format_stopped done reason r left is wrote no_space failed call new known =
       let part : List Write = write_of (p.at - 4) (take done bytes) ∷ [] in
       let W : List Write → Type 0 = λ ws. (all : Writes g ws (Some r) a b) × (all.made ≡ part) in
       let B : List ℕ → Type 0 = λ bs. W (write_of (p.at - 4) bs ∷ []) in
       let R : DevStop → Type 0 = λ x. (all : Writes g (write_of (p.at - 4) bytes ∷ []) (Some x) a b) × (all.made ≡ part) in
-      let all : W (format_writes image.header (Some format)) = subst W (sym (format_writes_at image.header format p room)) (subst B same (subst R (sym is) (stopped_write g (p.at - 4) done bytes reason a b wrote no_space failed))) in
+      let all : W (format_writes image.header (Some format)) = subst W (sym (format_writes_at image.header format p room)) (subst B same (subst R (sym is) (stopped_write g (p.at - 4) done bytes reason a b wrote no_space failed call))) in
       record {
         writes = all.0;
         known = known ∙ ap (λ (t : Bool). cond t image (with_format image (Some format))) (sym (few_bytes done new)) ∙ ap (known_with image (Some format)) (sym all.1);
@@ -391,13 +398,14 @@ module _ {D : Type 0} (g : Ghosts D) (image : Known) (name : Option (List ℕ)) 
           bytes_from_places file between 20 (λ k below. ap (λ (b : List ℕ). get_or b k 0) read ∙ get_or-bytes_at file 20 n k (omega (arith, below, whole)))
           ∙ ap (λ (m : ℕ). place_bytes file 20 m) (whole ∙ is)
 
-  pub read_failed : {A : Type 0} (early : List Write) (needed : needs_ending lh ≡ true) (r : Result A DevStop) (stop : DevStop) (a b : D) → r ≡ Err stop → Reads g (count_of r) a b → IfErr r TellsFault
-      → EndsWithFields g lh [] name (Some stop) a b
-  read_failed early needed r (Io count) a b is reads cause =
+  pub read_failed : {A : Type 0} (early : List Write) (needed : needs_ending lh ≡ true) (r : Result A DevStop) (stop : DevStop) (a b : D) → r ≡ Err stop → Reads g (count_of r) a b → OnErr r (FailedLast (calls.Read 20 (next_extension lh - 20)) (g.failed_call b))
+      → IfErr r TellsFault → EndsWithFields g lh [] name (Some stop) a b
+  read_failed {A} early needed r (Io count) a b is reads call cause =
       let R : Option ℕ → Type 0 = λ o. Reads g o a b in
+      let L : Result A DevStop → Type 0 = λ x. OnErr x (FailedLast (calls.Read 20 (next_extension lh - 20)) (g.failed_call b)) in
       let here : Reads g (Some count) a b = subst R (ap count_of is) reads in
-      inr (record { needed = needed; count = count; is = refl; wrote = only_reads-wrote g a b here.reads; cause = here.cause })
-  read_failed {A} early needed r NoSpace a b is reads cause =
+      inr (record { needed = needed; count = count; is = refl; wrote = only_reads-wrote g a b here.reads; cause = here.cause; call = subst L is call })
+  read_failed {A} early needed r NoSpace a b is reads call cause =
       let P : Result A DevStop → Type 0 = λ x. IfErr x TellsFault in
       absurd (subst P is cause)
 

@@ -1,13 +1,21 @@
 -- A write in place, as its device tells it.
-use Rattle.std.proofs.Common.{◌≡◌, ℕ, ◌+◌, ◌*◌, ◌/◌, ◌%◌, ◌<◌, ◌≤◌, inr, List, [], length, Option, Some, Result, Ok, Err, option_map, sym, subst, arith}
+use Rattle.std.proofs.Common.{◌≡◌, ℕ, ◌+◌, ◌*◌, ◌/◌, ◌%◌, ◌<◌, ◌≤◌, inl, inr, List, [], length, take, Option, Some, Result, Ok, Err, option_map, refl, sym, ◌∙◌, subst, arith}
+use Rattle.std.specs.Prelude.{IfErr}
 use Rattle.std.proofs.lemmas.List.{length-take}
+use Rattle.blk_base.specs.Calls.{FailedLast, IsWriteAfter, IsWriteAfterStop}
 use Rattle.blk_base.specs.Content.{with_bytes}
-use Rattle.blk_base.specs.Counts.{taken}
+use Rattle.blk_base.specs.Counts.{IsFailedWrite, taken}
+use Rattle.blk_base.specs.Pieces.{Extent}
+use Rattle.blk_base.specs.declared.device.DeviceCall.{DeviceCall}
+use Rattle.blk_base.specs.declared.device.DeviceCall.TheVariants as calls
+use Rattle.blk_base.specs.declared.device.Stop.{Stop}
+use Rattle.blk_base.specs.declared.device.Stop.TheVariants as why
 use Rattle.blk_base.specs.declared.device.WriteStop.{WriteStop}
 use Rattle.q2_format.specs.declared.entries.L2Entry.TheVariants.{Host}
 use Rattle.q2_refs.proofs.Placing.{told_before}
 use Rattle.q2_image.specs.Image.{Known, IsImageOf, IsOpen, cluster_size_in, entry_in}
-use Rattle.q2_image.specs.Writing.{IsDiskWith, IsSameDisk, autocleared}
+use Rattle.q2_image.specs.Made.{IsOwnCall}
+use Rattle.q2_image.specs.Writing.{IsDiskWith, IsSameDisk, autocleared, own_place}
 use Rattle.q2_image.proofs.HostUses.{host_entry, size_in}
 use Rattle.q2_image.proofs.OwnWrites.{own_image, own_disk}
 use Rattle.q2_image.proofs.Payload.{told_now}
@@ -37,6 +45,25 @@ open_cleared image ready = record {
 pub part_within : {A : Type 0} (result : Result A WriteStop) (bytes : List ℕ) (start : ℕ) → start % 65536 + length bytes ≤ 65536 → start % 65536 + length (taken result bytes) ≤ 65536
 part_within (Ok a) bytes start h = h
 part_within (Err stop) bytes start h = omega (arith, length-take stop.done bytes, h)
+
+-- which call failed last behind the write of a part
+pub own_call : (image : Known) (span : Extent) (place : ℕ) (bytes : List ℕ) (result : Result (Unit {0}) WriteStop) (capacity faults_before faults_now : ℕ) (before mid now : Option DeviceCall)
+    → place ≡ own_place image span → length bytes ≡ span.len → place + length bytes ≤ capacity
+    → IfErr result (λ stop. stop.why ≡ why.NoSpace → (capacity < place + length bytes) × (stop.done ≡ 0) × (faults_now ≡ faults_before))
+    → IfErr result (λ stop. stop.why ≡ why.Failed → (place + length bytes ≤ capacity) × IsFailedWrite place stop.done (length bytes) faults_before faults_now)
+    → mid ≡ before → IsWriteAfter result (calls.Write place (length bytes)) mid now → IsOwnCall image span (length (taken result bytes)) before now
+own_call image span place bytes (Ok done) capacity faults_before faults_now before mid now at whole fits no_space failed first later = inl (whole, later ∙ first)
+own_call image span place bytes (Err stop) capacity faults_before faults_now before mid now at whole fits no_space failed first later = by stop.why refl
+  where
+    by : (reason : Stop) → stop.why ≡ reason → IsOwnCall image span (length (take stop.done bytes)) before now
+    by why.NoSpace is = let beyond = (no_space is).0 in absurd (omega (arith, beyond, fits))
+    by why.Failed is =
+        let few = (failed is).1.part in
+        let cut = length-take stop.done bytes in
+        let call : FailedLast (calls.Write place (length bytes)) now = subst (λ (r : Stop). IsWriteAfterStop r (calls.Write place (length bytes)) mid now) is later in
+        let F : ℕ → Type 0 = λ p. FailedLast (calls.Write p (length bytes)) now in
+        let G : ℕ → Type 0 = λ n. FailedLast (calls.Write (own_place image span) n) now in
+        inr (omega (arith, cut, few, whole), subst G whole (subst F at call))
 
 -- where a mapped part of the disk is
 abbrev pub IsOwnPlace : Known → ℕ → ℕ → Type 0

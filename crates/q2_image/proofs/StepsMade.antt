@@ -2,6 +2,7 @@
 use Rattle.std.proofs.Common.{◌≡◌, List, [], ◌∷◌, ◌++◌, Option, Some, None, Result, Ok, Err, OnOk, OnErr, refl, sym, ap, subst, ◌∙◌, append_assoc}
 use Rattle.std.proofs.lemmas.List.{append-nil}
 use Rattle.std.specs.Prelude.{IfErr}
+use Rattle.blk_base.specs.Calls.{FailsWriting}
 use Rattle.blk_base.specs.Content.{Write}
 use Rattle.blk_base.specs.Device.{CountsFault, IsMade, StopsBy, Untouched, Wrote, Writes, stop_of}
 use Rattle.blk_base.specs.Writes.{IsCutBy, IsPart}
@@ -10,6 +11,7 @@ use Rattle.blk_base.specs.declared.fault.DevStop.{DevStop}
 use Rattle.blk_base.specs.declared.fault.DevStop.TheVariants.{Io, NoSpace}
 use Rattle.blk_base.proofs.DeviceLemmas.{untouched-same, untouched-writes, wrote-then, writes_sooner, writes_then}
 use Rattle.blk_base.proofs.WriteLists.{part-later, part-sooner}
+use Rattle.blk_base.proofs.Calls.{call_later, call_sooner}
 use Rattle.q2_image.specs.Image.{Known}
 use Rattle.q2_image.specs.Made.{WriteStep, writes_of_steps, known_after, IsStoppedIn, IsKnownBy, MakesSteps, ChangesImage}
 use Rattle.q2_image.specs.Writing.{TellsFault, count_of}
@@ -79,6 +81,8 @@ module _ {D : Type 0} (g : Ghosts D) where
           wrote = wrote-then g vs made a b c (subst (λ (xs : List Write). Wrote g xs a b) first.writes.part first.writes.wrote) later.writes.wrote;
           cause = subst (λ (xs : List Write). StopsBy stop xs (g.capacity a) (g.faults a) (g.faults c)) (sym same)
               (writes_then g vs ws stop a b c first.writes later.writes).cause;
+          call = subst (λ (xs : List Write). FailsWriting stop xs (vs ++ made) (g.failed_call a) (g.failed_call c)) (sym same)
+              (call_later vs ws made stop (g.failed_call a) (g.failed_call b) (g.failed_call c) later.writes.part first.writes.call later.writes.call);
         };
         known = known-then stop image mid left ss ts made first.known later.known;
       }
@@ -96,6 +100,8 @@ module _ {D : Type 0} (g : Ghosts D) where
           wrote = stopped.writes.wrote;
           cause = subst (λ (xs : List Write). StopsBy (Some stop) xs (g.capacity a) (g.faults a) (g.faults b)) (sym same)
               (writes_sooner g vs ws stop a b stopped.writes).cause;
+          call = subst (λ (xs : List Write). FailsWriting (Some stop) xs stopped.writes.made (g.failed_call a) (g.failed_call b)) (sym same)
+              (call_sooner vs ws stopped.writes.made stop (g.failed_call a) (g.failed_call b) stopped.writes.part stopped.writes.call);
         };
         known = stopped-sooner (IsCutBy stop) image left ss ts stopped.writes.made stopped.known;
       }
@@ -109,6 +115,7 @@ module _ {D : Type 0} (g : Ghosts D) where
       part = writes.part ∙ sym (append-nil ws);
       wrote = writes.wrote;
       cause = subst (λ (xs : List Write). StopsBy None xs (g.capacity a) (g.faults a) (g.faults b)) (sym (append-nil ws)) writes.cause;
+      call = writes.call;
     };
     known = ok;
   }
@@ -118,6 +125,7 @@ module _ {D : Type 0} (g : Ghosts D) where
       part = subst (λ (xs : List Write). IsPart (IsCutBy stop) xs writes.made) (sym (append-nil ws)) writes.part;
       wrote = writes.wrote;
       cause = subst (λ (xs : List Write). StopsBy (Some stop) xs (g.capacity a) (g.faults a) (g.faults b)) (sym (append-nil ws)) writes.cause;
+      call = subst (λ (xs : List Write). FailsWriting (Some stop) xs writes.made (g.failed_call a) (g.failed_call b)) (sym (append-nil ws)) writes.call;
     };
     known = record {
       before = [];

@@ -1,11 +1,13 @@
 -- Another backing name for an image: which writes it takes, and what they leave.
 use Rattle.std.specs.Prelude.{◌≡◌, ◌⊎◌, ℕ, ◌+◌, ◌-◌, ◌<◌, ◌≤◌, max, Bool, true, is_some, ◌&&◌, nat_lt, if◌then◌else◌, List, [], ◌∷◌, ◌++◌, length, slice_index, take, drop, replicate, Option, Some, None, Result, Ok, Err}
 use Rattle.std.specs.Option.{option_map_or}
+use Rattle.blk_base.specs.Calls.{FailedLast}
 use Rattle.blk_base.specs.Content.{Write, after_writes}
 use Rattle.blk_base.specs.Content as content
 use Rattle.blk_base.specs.Device.{CountsFault, Reads, Untouched, Writes, Wrote}
 use Rattle.blk_base.specs.Writes.{write_of, end_of_writes}
 use Rattle.blk_base.specs.declared.device.Device.{Ghosts}
+use Rattle.blk_base.specs.declared.device.DeviceCall.TheVariants as calls
 use Rattle.blk_base.specs.declared.device.Stop.{Stop}
 use Rattle.blk_base.specs.declared.device.Stop.TheVariants as why
 use Rattle.blk_base.specs.declared.fault.DevStop.{DevStop}
@@ -167,6 +169,7 @@ pub record FailsBefore {D : Type 0} (g : Ghosts D) (h : Header) (early : List Wr
   pub is : stop ≡ Some (Io count)
   pub wrote : Wrote g early before now
   pub cause : CountsFault (Some count) (g.faults before) (g.faults now)
+  pub call : FailedLast (calls.Read 20 (next_extension h - 20)) (g.failed_call now)
 
 abbrev pub EndsWithFields : {D : Type 0} → Ghosts D → Header → List Write → Option (List ℕ)
     → Option DevStop → D → D → Type 0
@@ -213,7 +216,8 @@ RenamesImage g image name format (Ok done) left before now =
     (left ≡ with_name (autocleared image) name format)
     × MakesRenaming g image name format None before now
 RenamesImage g image name format (Err (Io count)) left before now =
-    ((reads_length image.header name ≡ true) × (left ≡ image) × Reads g (Some count) before now)
+    ((reads_length image.header name ≡ true) × (left ≡ image) × Reads g (Some count) before now
+    × FailedLast (calls.Read (image.header.ext_end - 4) 4) (g.failed_call now))
     ⊎ StopsRenaming g image name format count left before now
 RenamesImage g image name format (Err NoSpace) left before now =
     (left ≡ image) × Untouched g before now

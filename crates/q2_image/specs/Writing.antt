@@ -1,9 +1,11 @@
 -- Writing an image: what changes of its disk, and when there is room for it.
 use Rattle.std.specs.Prelude.{◌≡◌, ◌≢◌, ◌⊎◌, ℕ, ◌+◌, ◌*◌, ◌/◌, ◌%◌, ◌<◌, ◌≤◌, max, ◌==◌, Bool, true, not, ◌&&◌, ◌||◌, is_ok, option_map, if◌then◌else◌, List, [], length, slice_index, Option, Some, None, Result, Ok, Err}
+use Rattle.blk_base.specs.Calls.{IsCallAfter}
 use Rattle.blk_base.specs.Counts.{Rose}
 use Rattle.blk_base.specs.Device.{CountsFault}
 use Rattle.blk_base.specs.Pieces.{Extent}
 use Rattle.blk_base.specs.declared.device.Device.{Ghosts}
+use Rattle.blk_base.specs.declared.device.DeviceCall.TheVariants as calls
 use Rattle.blk_base.specs.declared.device.WriteStop.{WriteStop}
 use Rattle.blk_base.specs.declared.device.Stop.TheVariants as why
 use Rattle.blk_base.specs.declared.fault.DevStop.{DevStop}
@@ -193,7 +195,7 @@ TellsFault (Io count) = Unit {0}
 TellsFault NoSpace = ⊥
 
 -- What a flush leaves: behind Ok the device is flushed, where it tells that at all, and all else is as before but the
--- count of faults.
+-- count of faults, and which call failed last.
 pub record Flushes {D : Type 0} (g : Ghosts D) (result : Result (Unit {0}) DevStop) (old new : D)
     : Type 0 where
   pub flushed : g.is_flushed new ≡ option_map (λ f. is_ok result || f) (g.is_flushed old)
@@ -203,6 +205,7 @@ pub record Flushes {D : Type 0} (g : Ghosts D) (result : Result (Unit {0}) DevSt
   pub capacity : g.capacity new ≡ g.capacity old
   pub faults : g.faults old ≤ g.faults new
   pub cause : CountsFault (count_of result) (g.faults old) (g.faults new)
+  pub call : IsCallAfter result calls.Flush (g.failed_call old) (g.failed_call new)
 
 -- one image has the header of another, but for the autoclear field
 abbrev pub HasHeaderOf : Known → Known → Type 0

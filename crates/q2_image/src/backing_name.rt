@@ -4,8 +4,10 @@
 ghost use Rattle.std.specs.Prelude.{◌≡◌, ◌≢◌, ◌↔◌, ◌⊎◌, ◌+◌, ◌-◌, ◌<◌, ◌≤◌, ℕ, Bool, true, ◌&&◌, List, [], ◌∷◌, ◌++◌, length, replicate, Option, Some, None, is_some, IsTrue, Err, IfOk, IfErr, IfSome, OnOk, OnErr, if◌then◌else◌};
 ghost use Rattle.std.specs.Option.{ForSome, option_copied};
 ghost use Rattle.std.specs.Str.{IsUtf8};
+ghost use Rattle.blk_base.specs.Calls.{FailedLast};
 ghost use Rattle.blk_base.specs.Device.{CountsFault, Reads, Untouched, Writes, stop_of, fault_of};
 ghost use Rattle.blk_base.specs.Writes.{AtEachStop, end_of_writes};
+ghost use Rattle.blk_base.specs.declared.device.DeviceCall.{DeviceCall};
 ghost use Rattle.blk_base.specs.declared.fault.DevStop.TheVariants.{NoSpace};
 ghost use Rattle.q2_format.specs.Bytes.{place_bytes};
 ghost use Rattle.q2_format.specs.Created.{IsNewName, IsNewFormat};
@@ -160,6 +162,8 @@ impl Image {
         ensures needed { OnErr result
             (reads_length self.now.header (option_copied name.entry) ≡ true) }
         ensures reads { Reads D.Device (count_of result) dev.old dev.new }
+        ensures call { OnErr result (FailedLast
+            (DeviceCall.Read (self.now.header.ext_end - 4) 4) (D.failed_call dev.new)) }
         ensures cause { IfErr result TellsFault }
     {
         if name.is_none() || !self.header.ended {
@@ -347,6 +351,8 @@ fn read_between<D: Device>(
     ensures whole { length bytes.new ≡ 512 }
     ensures put { OnOk result (IsPutBetween fields.now len (D.content dev.old) bytes.new) }
     ensures reads { Reads D.Device (count_of result) dev.old dev.new }
+    ensures call { OnErr result
+        (FailedLast (DeviceCall.Read 20 len) (D.failed_call dev.new)) }
     ensures cause { IfErr result TellsFault }
 {
     let (front, rest) = bytes.split_at_mut(12);

@@ -170,7 +170,8 @@ impl Image {
             × (D.content dev.new ≡ D.content dev.old)
             × (D.log dev.new ≡ D.log dev.old) × (D.is_flushed dev.new ≡ D.is_flushed dev.old)
             × (D.size dev.new ≡ D.size dev.old)
-            × (D.faults dev.new ≡ D.faults dev.old)) }
+            × (D.faults dev.new ≡ D.faults dev.old)
+            × (D.failed_call dev.new ≡ D.failed_call dev.old)) }
 
         // the device
         ensures wrote { UnlessFull result
@@ -190,7 +191,7 @@ impl Image {
     }
 
     /// Flushes the device. Behind `Ok` it is flushed, where it tells that at all; a failed flush leaves all as it was but
-    /// the count of faults.
+    /// the count of faults, and which call failed last.
     pub fn flush<D: Device>(&mut self, dev: &mut D) -> Result<(), DevStop>
         ensures known { self.new ≡ self.old }
         ensures cause { IfErr result TellsFault }
@@ -294,6 +295,7 @@ impl Image {
         requires header_fits { autoclear_end self.old ≤ D.capacity dev.old }
         requires fits { place + length bytes.now ≤ D.capacity dev.old }
         requires place { place ≡ own_place self.old span }
+        requires whole { length bytes.now ≡ span.len }
         requires image { (file : List ℕ) → D.content dev.old ≡ Some file → IsImageOf file self.old }
         ensures known { (self.new ≡ self.old) ⊎ (self.new ≡ autocleared self.old) }
         ensures cleared { ClearsFirst (D.content dev.old) (D.content dev.new) self.new }

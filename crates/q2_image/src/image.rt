@@ -1,6 +1,6 @@
 //! An image that is open: what each guest cluster is mapped to, and reading what is mapped.
 
-ghost use Rattle.std.specs.Prelude.{◌≡◌, ◌↔◌, ◌+◌, ◌*◌, ◌/◌, ◌<◌, ℕ, List, length, Some, IsTrue, IfErr, OnOk};
+ghost use Rattle.std.specs.Prelude.{◌≡◌, ◌↔◌, ◌+◌, ◌*◌, ◌/◌, ◌<◌, ℕ, List, length, Some, IsTrue, IfErr, OnOk, OnErr};
 ghost use Rattle.q2_format.specs.Entry.{l2_entry};
 ghost use Rattle.q2_tables.specs.Entries.{entry_of};
 
@@ -37,8 +37,10 @@ impl Image {
     ghost use Rattle.q2_image.specs.Image.{IsImageOf, clusters_in, cluster_size_in, entry_in};
     ghost use Rattle.q2_image.specs.Guest.{file_entry, guest_bytes};
     ghost use Rattle.q2_image.specs.Reading.{IsHost, IsWithinCluster};
+    ghost use Rattle.blk_base.specs.Calls.{FailedLast};
     ghost use Rattle.blk_base.specs.Device.{Reads};
-    ghost use Rattle.q2_image.specs.Writing.{TellsFault, count_of};
+    ghost use Rattle.blk_base.specs.declared.device.DeviceCall.{DeviceCall};
+    ghost use Rattle.q2_image.specs.Writing.{TellsFault, count_of, own_place};
 
     /// The bytes of the disk.
     pub fn size(&self) -> u64
@@ -103,6 +105,8 @@ impl Image {
             → buf.new ≡ guest_bytes file backing span.start span.len) }
         ensures cause { IfErr result TellsFault }
         ensures device { Reads D.Device (count_of result) dev.old dev.new }
+        ensures call { OnErr result (FailedLast
+            (DeviceCall.Read (own_place self.now span) span.len) (D.failed_call dev.new)) }
     {
         let cluster_size = cluster_size(&self.header);
         let Mapping::Host { host } = self.tables.lookup(span.start / cluster_size) else {

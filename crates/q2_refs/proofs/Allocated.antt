@@ -18,7 +18,7 @@ use Rattle.q2_refs.specs.Kept.{KeptRefs}
 use Rattle.q2_refs.specs.declared.allocating.RefStop.{RefStop}
 use Rattle.q2_refs.specs.declared.allocating.RefStop.TheVariants.{Dev}
 use Rattle.q2_refs.proofs.AllocationStops.{CanBeGiven, allocation_done, allocation_unused, allocation_left, allocation_stops, block_for_cut, count_part}
-use Rattle.q2_refs.proofs.FailedCalls.{call_later}
+use Rattle.blk_base.proofs.Calls.{call_later}
 use Rattle.q2_refs.proofs.Placing.{told_before}
 
 -- the writes of a block, by what they were made of

@@ -12,6 +12,5 @@ pub mod Ends
 pub mod Made
 pub mod Placing
 pub mod AllocationStops
-pub mod FailedCalls
 pub mod Allocated
 pub mod Loads

@@ -2,6 +2,7 @@
 use Rattle.std.proofs.Common.{ℕ, [], ◌∷◌, inr, refl, sym, subst}
 use Rattle.blk_base.specs.Counts.{Rose}
 use Rattle.blk_base.specs.Writes.{write_of}
+use Rattle.blk_base.proofs.Calls.{write_failed}
 use Rattle.std.proofs.Common.{◌+◌, length, take, arith}
 use Rattle.std.proofs.lemmas.List.{length-take}
 use Rattle.q2_image.proofs.Creations.{held_after, write_changes}
@@ -37,6 +38,7 @@ returns-in-Ok-clause-writes g c =
         faults = c.in-Ok.ensures.faults;
       };
       cause = (omega (arith, fits), c.in-Ok.ensures.quiet);
+      call = c.in-Ok.ensures.call;
     }
 
 pub returns-in-Failed-clause-writes : goal.returns-in-Failed-clause-writes
@@ -56,4 +58,5 @@ returns-in-Failed-clause-writes g c =
         faults = c.in-Err.ensures.faults;
       };
       cause = (subst (λ (n : ℕ). Rose (g.D.Device.faults c.args.dev.now) n) (sym c.faults.ensures) failed.rose, c.faults.ensures);
+      call = write_failed c.args.at 0 c.args.bytes.now (write_of c.args.at (take done c.args.bytes.now)) c.in-Err.stop.why _ _ c.in-Failed.is c.in-Err.ensures.call;
     }

@@ -3,7 +3,7 @@ use Rattle.blk_base.specs.Counts.{Rose}
 use Rattle.q2_image.specs.Image.{Known, IsImageOf}
 use Rattle.q2_image.specs.Writing.{autocleared}
 use Rattle.q2_image.proofs.Autocleared.{told_image, told_disk, nothing_done, untouched}
-use Rattle.q2_image.proofs.ClearWrites.{cleared_all, cleared_part, clear_fits, rose_by_why}
+use Rattle.q2_image.proofs.ClearWrites.{cleared_all, cleared_part, clear_fits, failed_by_why, rose_by_why}
 use Rattle.q2_image.proofs.image.Image.clear_autoclear.Goals as goal
 
 pub returns-in-Ok-clause-image : goal.returns-in-Ok-clause-image
@@ -39,7 +39,7 @@ returns-in-Ok-clause-writes g c =
       flushed = c.in-Ok.ensures.flushed;
       capacity = c.in-Ok.ensures.capacity;
       faults = c.in-Ok.ensures.faults;
-    }) c.in-Ok.ensures.fits c.in-Ok.ensures.quiet
+    }) c.in-Ok.ensures.fits c.in-Ok.ensures.quiet c.in-Ok.ensures.call
 
 pub returns-in-Err-clause-writes : goal.returns-in-Err-clause-writes
 returns-in-Err-clause-writes g c =
@@ -47,8 +47,9 @@ returns-in-Err-clause-writes g c =
     let stop = c.in-Err.field-0 in
     let nothing = nothing_done stop _ _ _ c.in-Err.ensures.no_space c.in-Err.ensures.failed in
     let rose = rose_by_why stop.why stop.done _ _ _ c.in-Err.ensures.no_space c.in-Err.ensures.failed (clear_fits c.args.self.now (g.D.Device.capacity c.args.dev.now) some c.requires.fits) in
+    let failed = failed_by_why stop.why stop.done _ _ _ c.in-Err.ensures.no_space (clear_fits c.args.self.now (g.D.Device.capacity c.args.dev.now) some c.requires.fits) in
     let R : ℕ → Type 0 = λ n. Rose (g.D.Device.faults c.args.dev.now) n in
-    cleared_part g.D.Device c.args.self.now stop.done c.faults.result c.args.dev.now c.write_at.new.self some nothing
+    cleared_part g.D.Device c.args.self.now stop.done c.faults.result stop.why c.args.dev.now c.write_at.new.self some nothing
     (record {
       content = c.in-Err.ensures.written;
       size = c.in-Err.ensures.size;
@@ -57,4 +58,4 @@ returns-in-Err-clause-writes g c =
       flushed = c.in-Err.ensures.flushed;
       capacity = c.in-Err.ensures.capacity;
       faults = c.in-Err.ensures.faults;
-    }) (subst R (sym c.faults.ensures) rose) c.faults.ensures
+    }) (subst R (sym c.faults.ensures) rose) c.faults.ensures failed c.in-Err.ensures.call

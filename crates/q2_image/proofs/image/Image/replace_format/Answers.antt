@@ -28,7 +28,7 @@ returns-then-stop-lt-NUMBER-clause-makes g c =
       flushed = c.in-Err.ensures.flushed;
       capacity = c.in-Err.ensures.capacity;
       faults = c.in-Err.ensures.faults;
-    }) c.in-Err.ensures.no_space c.in-Err.ensures.failed c.requires.format
+    }) c.in-Err.ensures.no_space c.in-Err.ensures.failed c.in-Err.ensures.call c.requires.format
     (known_before g.D.Device c.args.self.now c.args.format.now bytes c.args.place c.requires.room same c.args.dev.now c.write_at.new.self c.in-Err.stop.done c.if-stop-lt-NUMBER.true)
 
 pub returns-then-stop-lt-NUMBER-clause-image : goal.returns-then-stop-lt-NUMBER-clause-image
@@ -52,7 +52,7 @@ returns-else-stop-lt-NUMBER-clause-makes g c =
       flushed = c.in-Err.ensures.flushed;
       capacity = c.in-Err.ensures.capacity;
       faults = c.in-Err.ensures.faults;
-    }) c.in-Err.ensures.no_space c.in-Err.ensures.failed c.requires.format
+    }) c.in-Err.ensures.no_space c.in-Err.ensures.failed c.in-Err.ensures.call c.requires.format
     (known_past g.D.Device c.args.self.now c.args.format.now bytes c.args.place c.requires.room same c.args.dev.now c.write_at.new.self c.in-Err.stop.done c.keep_format-in-Err.new.self c.if-stop-lt-NUMBER.false c.keep_format-in-Err.ensures)
 
 pub returns-else-stop-lt-NUMBER-clause-image : goal.returns-else-stop-lt-NUMBER-clause-image
