@@ -57,7 +57,7 @@ closed-facts left last flush n fault one closed tells =
     let after : f.after ≡ n = head-same f.after n [] (sym r.0 ∙ closed.given) in
     let was : f.before ≡ one.device = r.1 in
     let number : f.before.number ≡ only_device = ap (λ (x : DeviceSeen). x.number) was ∙ one.number in
-    let is : n ≡ record f.before { is_flushed = option_map (λ b. is_good flush || b) f.before.is_flushed; faults = f.after.faults } = sym after ∙ f.flush.is in
+    let is : n ≡ record f.before { is_flushed = option_map (λ b. is_good flush || b) f.before.is_flushed; faults = f.after.faults; failed_call = f.after.failed_call } = sym after ∙ f.flush.is in
     let cause : HasFlushCause f.before n flush = subst (λ (x : DeviceSeen). HasFlushCause f.before x flush) after f.flush.cause in
     let by = flushed-by f.before n flush number cause (ap (λ (x : DeviceSeen). x.is_flushed) is) tells in
     let faults : f.before.faults ≡ device_faults left = ap (λ (x : DeviceSeen). x.faults) was ∙ sym (faults-is left one.device one.only one.node) in

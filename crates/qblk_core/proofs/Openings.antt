@@ -1,6 +1,7 @@
 -- The nodes of a run, made step by step, and what stops them.
 use Rattle.std.proofs.Common.{◌≡◌, ◌≢◌, ℕ, ◌<◌, ◌≤◌, Bool, true, false, List, [], ◌∷◌, length, Option, Some, None, Result, Ok, Err, refl, sym, ◌∙◌, ap, subst, inl, inr, arith}
 use Rattle.std.specs.Prelude.{◌↔◌, Contains, IsSome, IsOk, IfErr, is_some}
+use Rattle.blk_base.specs.Calls.{FailsReading}
 use Rattle.blk_base.specs.Counts.{Rose}
 use Rattle.blk_base.specs.Device.{CountsFault}
 use Rattle.blk_graph.specs.Graph.{HasName, HasNode, ids}
@@ -99,17 +100,17 @@ length-for size (stops.Header headers.Short) short = tt
 length-for size stop short = not-short size (λ less. let is = short less in let no : ⊥ = cc is in no)
 
 named-stop : (d e : DeviceSeen) (stop : ImageStop) → ((bytes : List ℕ) → d.content ≡ Some bytes → Names (image_refusal bytes) stop) → (d.size < MIN_HEADER_LENGTH → stop ≡ stops.Header headers.Short) → CountsFault (fault_in_image stop) d.faults e.faults
-    → StopsAs Qcow2 d e (open_stop stop)
-named-stop d e (stops.Header stop) named short cause = (refused-as d (stops.Header stop) named refl (length-for d.size (stops.Header stop) short), cause)
-named-stop d e (stops.Offset offset) named short cause = (refused-as d (stops.Offset offset) named refl (length-for d.size (stops.Offset offset) short), cause)
-named-stop d e (stops.Reserved table index) named short cause = (refused-as d (stops.Reserved table index) named refl (length-for d.size (stops.Reserved table index) short), cause)
-named-stop d e (stops.Compressed cluster) named short cause = (refused-as d (stops.Compressed cluster) named refl (length-for d.size (stops.Compressed cluster) short), cause)
-named-stop d e (stops.Overlap cluster) named short cause = (refused-as d (stops.Overlap cluster) named refl (length-for d.size (stops.Overlap cluster) short), cause)
-named-stop d e (stops.Refcount cluster) named short cause = (refused-as d (stops.Refcount cluster) named refl (length-for d.size (stops.Refcount cluster) short), cause)
-named-stop d e stops.HeaderFull named short cause = (refused-as d stops.HeaderFull named refl (length-for d.size stops.HeaderFull short), cause)
-named-stop d e (stops.Io count) named short cause =
-    (refl, cause.0, cause.1, not-short d.size (λ less. let is = short less in let no : ⊥ = cc is in no))
-named-stop d e stops.NoMemory named short cause = cause
+    → FailsReading (fault_in_image stop) d.failed_call e.failed_call → StopsAs Qcow2 d e (open_stop stop)
+named-stop d e (stops.Header stop) named short cause call = (refused-as d (stops.Header stop) named refl (length-for d.size (stops.Header stop) short), cause)
+named-stop d e (stops.Offset offset) named short cause call = (refused-as d (stops.Offset offset) named refl (length-for d.size (stops.Offset offset) short), cause)
+named-stop d e (stops.Reserved table index) named short cause call = (refused-as d (stops.Reserved table index) named refl (length-for d.size (stops.Reserved table index) short), cause)
+named-stop d e (stops.Compressed cluster) named short cause call = (refused-as d (stops.Compressed cluster) named refl (length-for d.size (stops.Compressed cluster) short), cause)
+named-stop d e (stops.Overlap cluster) named short cause call = (refused-as d (stops.Overlap cluster) named refl (length-for d.size (stops.Overlap cluster) short), cause)
+named-stop d e (stops.Refcount cluster) named short cause call = (refused-as d (stops.Refcount cluster) named refl (length-for d.size (stops.Refcount cluster) short), cause)
+named-stop d e stops.HeaderFull named short cause call = (refused-as d stops.HeaderFull named refl (length-for d.size stops.HeaderFull short), cause)
+named-stop d e (stops.Io count) named short cause call =
+    (refl, cause.0, cause.1, not-short d.size (λ less. let is = short less in let no : ⊥ = cc is in no), call)
+named-stop d e stops.NoMemory named short cause call = cause
 
 pub unopened : (d : DeviceSeen) (old new : Nodes) (file : ℕ) (stop : ImageStop) → IsFileOver d old → IsUnopened old.devices new.devices file stop → HaveRisen old.devices new.devices
     → StopsImageNode Qcow2 old new (open_stop stop)
@@ -130,7 +131,8 @@ unopened d old new file stop over is risen =
       };
       cause = named-stop d r.0 stop (λ bytes told. is.on.named bytes (ap (λ (x : DeviceSeen). x.content) before ∙ told))
           (subst (λ (x : DeviceSeen). x.size < MIN_HEADER_LENGTH → stop ≡ stops.Header headers.Short) before is.on.short)
-          (subst (λ (x : DeviceSeen). CountsFault (fault_in_image stop) d.faults x.faults) after (subst (λ (x : DeviceSeen). CountsFault (fault_in_image stop) x.faults is.after.faults) before is.on.cause));
+          (subst (λ (x : DeviceSeen). CountsFault (fault_in_image stop) d.faults x.faults) after (subst (λ (x : DeviceSeen). CountsFault (fault_in_image stop) x.faults is.after.faults) before is.on.cause))
+          (subst (λ (x : DeviceSeen). FailsReading (fault_in_image stop) d.failed_call x.failed_call) after (subst (λ (x : DeviceSeen). FailsReading (fault_in_image stop) x.failed_call is.after.failed_call) before is.on.call));
       kept = r.2;
     }
 

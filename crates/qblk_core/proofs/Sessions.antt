@@ -103,7 +103,7 @@ image-stops format image trace read d n (Refused why) NoMemory stopped is = let 
 image-stops format image trace read d n (Io count) (Fault from named) stopped is =
     let cause = stopped.cause in
     let rose : Rose d.faults named = subst (Rose d.faults) (sym is.1) cause.1 in
-    (cause.0, is.0, rose, is.1 ∙ cause.2, cause.3)
+    (cause.0, is.0, rose, is.1 ∙ cause.2, cause.3, cause.4)
 image-stops format image trace read d n NoRoom NoMemory stopped is = stopped.cause
 image-stops format image trace read d n stop status stopped is = absurd is
 

@@ -22,6 +22,7 @@ use Rattle.blk_history.specs.Small.{IsSmall}
 use Rattle.blk_history.specs.Transcript.{transcript}
 use Rattle.blk_history.specs.declared.event.Event.{Event}
 use Rattle.trace_codec.specs.declared.stop.TraceStop.TheVariants as line_stops
+use Rattle.qblk_inputs.specs.Reading.{IsShortFile, OnFile, FailsOn}
 use Rattle.qblk_inputs.specs.declared.stop.InputFlaw.TheVariants as flaws
 use Rattle.qblk_core.proofs.Numbered.{names-line}
 use Rattle.qblk_core.proofs.Quiet.{quiet}
@@ -39,8 +40,9 @@ use Rattle.qblk_core.proofs.Closed.{IsFlushed, HasClosed, closed-facts}
 use Rattle.qblk_core.proofs.Made.{made-one, made-kind, made-devices, image-as, told-as-disk}
 use Rattle.qblk_core.proofs.OneDevice.{head-same, faults-is, capacity-is}
 use Rattle.qblk_core.proofs.OneImage.{told-is}
-use Rattle.qblk_core.specs.Run.{Outside, machine_of, guest_names, closed_opening, IsRunOn, IsOverFile, TellsDisk, IsImageCause, IsTraceCause, IsBackQuietly, IsOpenedQuietlyFor, SpeaksOfInput, HasImage, HasTrace, IsFlawInTrace, IsBadBytes, IsBadImage, IsTraceFileRefused, IsImageOrTraceRefused, WasIoRun, StoreStands, SinkStands, FailsToOpen, FailsToFlushIo, IsFaultyIo, AnswersIo}
-use Rattle.qblk_core.specs.Session.{IsTraceRead, IsStoreStop, IsOpenStop, AreRequestsMade, IsGoodDevice, IsRefusedRead, IsRefusedImage, IsRunStop, EndsIoAs}
+use Rattle.qblk_core.specs.Run.{Outside, OnOpened, machine_of, guest_names, closed_opening, IsRunOn, IsOverFile, TellsDisk, IsImageCause, IsTraceCause, IsBackQuietly, IsOpenedQuietlyFor, SpeaksOfInput, HasImage, HasTrace, IsFlawInTrace, IsBadBytes, IsBadImage, IsTraceFileRefused, IsImageOrTraceRefused, WasIoRun, StoreStands, SinkStands, FailsToOpen, FailsToFlushIo, IsFaultyIo, AnswersIo}
+use Rattle.qblk_core.specs.Session.{IsTraceRead, IsStoreStop, NamesStoreOn, IsOpenStop, AreRequestsMade, IsGoodDevice, IsRefusedRead, IsRefusedImage, IsRunStop, EndsIoAs}
+use Rattle.qblk_core.specs.Inputs.{IsRefusal}
 use Rattle.qblk_core.specs.declared.input.TraceRead.{TraceRead}
 use Rattle.qblk_core.specs.declared.input.TraceRead.TheVariants as reads
 use Rattle.qblk_core.specs.declared.status.InputWhy.{InputWhy}
@@ -443,6 +445,7 @@ stops format image trace read d n old new (Fault from count) number sized none d
       opened = closed-is image d n.faults old.opened new.opened none opened;
       stopped = record { named = sym number; rose = stop.2; now = stop.3 };
       kept = same;
+      call = stop.5;
       long = stop.4;
       told = over-file old.files device;
       sink = sink;
@@ -457,20 +460,42 @@ stops format image trace read d n old new (Fault from count) number sized none d
         (f.0, f.1.file, record { content = f.1.content; is_flushed = f.1.flushed; size = f.1.size; capacity = f.1.capacity })
 stops format image trace read d n old new status number sized none device read-is stop same files opened sent sink = absurd stop
 
+-- a store that failed on a file
+pub read-on : (told : Option (List File)) (name : List ℕ) (last : Option (List ℕ)) → IfTold told (IsShortFile name) → IfTold last (λ failed. failed ≡ name) → FailsOn (OnFile told name) last
+read-on told name last short on = (name, (refl, short), on)
+
+pub opened-on : (told : Option (List File)) (name : List ℕ) (last : Option (List ℕ)) → IfTold told (HasFile name (λ _. Unit {0})) → IfTold last (λ failed. failed ≡ name) → FailsOn (OnOpened told name) last
+opened-on told name last there on = (name, (refl, there), on)
+
+pub trace-failed : (told : Option (List File)) (name : List ℕ) (count : ℕ) (last : Option (List ℕ)) (status : Status) → status ≡ Fault Store count → IfTold told (IsShortFile name)
+    → IfTold last (λ failed. failed ≡ name) → NamesStoreOn (OnFile told name) last status
+trace-failed told name count last status is short on = subst (NamesStoreOn (OnFile told name) last) (sym is) (read-on told name last short on)
+
+pub image-failed : (told : Option (List File)) (name : List ℕ) (count : ℕ) (last : Option (List ℕ)) (status : Status) → status ≡ Fault Store count → IfTold told (HasFile name (λ _. Unit {0}))
+    → IfTold last (λ failed. failed ≡ name) → NamesStoreOn (OnOpened told name) last status
+image-failed told name count last status is there on = subst (NamesStoreOn (OnOpened told name) last) (sym is) (opened-on told name last there on)
+
+-- a refusal doesn't name the store
+pub names-no-store : (P : List ℕ → Type 0) (last : Option (List ℕ)) (name : List ℕ) (line : ℕ) (cause : InputWhy) (status : Status) → IsRefusal name line cause status → NamesStoreOn P last status
+names-no-store P last name line cause (Input n l w) is = tt
+names-no-store P last name line cause NoMemory is = tt
+names-no-store P last name line cause status is = absurd is
+
 -- a store whose call failed, or want of memory
 pub store-stops : (format : Format) (image trace : List ℕ) (old new : Outside) (status : Status) → IsStoreStop old.store_faults new.store_faults status
-    → new.files ≡ old.files → new.opened ≡ old.opened → new.sent ≡ old.sent → AnswersIo format image trace old new status
-store-stops format image trace old new NoMemory stop files opened sent = (record { files = files; sent = sent }, inl opened)
-store-stops format image trace old new (Fault Store count) stop files opened sent = (record { files = files; sent = sent }, opened, stop.0, stop.1)
-store-stops format image trace old new status stop files opened sent = absurd stop
+    → NamesStoreOn (OnFile old.files trace) new.failed_file status → new.files ≡ old.files → new.opened ≡ old.opened → new.sent ≡ old.sent → AnswersIo format image trace old new status
+store-stops format image trace old new NoMemory stop on files opened sent = (record { files = files; sent = sent }, inl opened)
+store-stops format image trace old new (Fault Store count) stop on files opened sent =
+    (record { files = files; sent = sent }, opened, stop.0, stop.1, (on.0, inl on.1, on.2))
+store-stops format image trace old new status stop on files opened sent = absurd stop
 
 -- an image that isn't opened
 pub open-stops : (format : Format) (image trace : List ℕ) (old new : Outside) (before : ℕ) (status : Status) → IsOpenStop image old.files before new.store_faults status
-    → before ≡ old.store_faults → new.files ≡ old.files → new.opened ≡ old.opened → new.sent ≡ old.sent → AnswersIo format image trace old new status
-open-stops format image trace old new before NoMemory stop same files opened sent = (record { files = files; sent = sent }, inl opened)
-open-stops format image trace old new before (Fault Store count) stop same files opened sent =
-    (record { files = files; sent = sent }, opened, subst (λ (n : ℕ). Rose n count) same stop.0, stop.1)
-open-stops format image trace old new before (Input name line cause) stop same files opened sent =
+    → NamesStoreOn (OnOpened old.files image) new.failed_file status → before ≡ old.store_faults → new.files ≡ old.files → new.opened ≡ old.opened → new.sent ≡ old.sent → AnswersIo format image trace old new status
+open-stops format image trace old new before NoMemory stop on same files opened sent = (record { files = files; sent = sent }, inl opened)
+open-stops format image trace old new before (Fault Store count) stop on same files opened sent =
+    (record { files = files; sent = sent }, opened, subst (λ (n : ℕ). Rose n count) same stop.0, stop.1, (on.0, inr on.1, on.2))
+open-stops format image trace old new before (Input name line cause) stop on same files opened sent =
     (record { files = files; sent = sent }, inl (stop.0, stop.1, absent-cause format cause stop.2, not-opened), absent old.files stop.3)
   where
     absent-cause : (f : Format) (c : InputWhy) → c ≡ why.Absent → IsImageCause f c
@@ -483,4 +508,4 @@ open-stops format image trace old new before (Input name line cause) stop same f
     absent : (fs : Option (List File)) → IfTold fs (LacksFile image) → IfTold fs (IsImageOrTraceRefused format image trace name.bytes line cause)
     absent None lacks = tt
     absent (Some told) lacks = let P : InputWhy → Type 0 = λ c. IsBadImage format c image told in inl (stop.0, stop.1, subst P (sym stop.2) lacks)
-open-stops format image trace old new before status stop same files opened sent = absurd stop
+open-stops format image trace old new before status stop on same files opened sent = absurd stop

@@ -1,5 +1,6 @@
 -- The nodes of a run that are made, and why they aren't.
 use Rattle.std.specs.Prelude.{◌≡◌, ℕ, ◌≤◌, List, [], ◌∷◌, length, Option, Some}
+use Rattle.blk_base.specs.Calls.{FailsReading}
 use Rattle.blk_base.specs.Counts.{Rose}
 use Rattle.blk_base.specs.declared.fault.FaultFrom.TheVariants.{Dev}
 use Rattle.blk_nodes.specs.Contents.{Unfolds}
@@ -41,9 +42,10 @@ StopsAs format before now (Refused why) =
 StopsAs format before now (Io count) =
     (format ≡ Qcow2) × Rose before.faults count × (count ≡ now.faults)
     × (MIN_HEADER_LENGTH ≤ before.size)
+    × FailsReading (Some count) before.failed_call now.failed_call
 StopsAs format before now NoMemory = now.faults ≡ before.faults
 
--- the image's node isn't added: of the nodes at most the count of their device has changed
+-- the image's node isn't added: of their device at most the count has changed, and which call failed last
 pub record StopsImageNode (format : Format) (old new : Nodes) (stop : OpenStop) : Type 0 where
   pub before : DeviceSeen
   pub now : DeviceSeen

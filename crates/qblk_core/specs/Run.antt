@@ -1,5 +1,6 @@
 -- What a run of a trace on one image is, seen from outside.
 use Rattle.std.specs.Prelude.{◌≡◌, ◌⊎◌, ℕ, ◌<◌, ◌≤◌, Bool, true, false, ⊤, List, [], ◌∷◌, ◌++◌, length, take, All, IsUtf8, IsSome, Option, Some, option_map, Ok, Err}
+use Rattle.blk_base.specs.Calls.{FailsReading}
 use Rattle.blk_base.specs.Counts.{Rose}
 use Rattle.blk_base.specs.Files.{file_at, put_file, IfTold}
 use Rattle.blk_base.specs.Answers.{HasFile, LacksFile}
@@ -33,6 +34,7 @@ use Rattle.blk_base.specs.Outcomes.{is_good}
 use Rattle.blk_nodes.specs.Nodes.{Nodes, DeviceSeen}
 use Rattle.blk_nodes.specs.Reading.{HasRisen, StoppedBy}
 use Rattle.qblk_inputs.specs.Inputs.{IsTraceFlaw, most_text}
+use Rattle.qblk_inputs.specs.Reading.{OnFile, FailsOn}
 use Rattle.qblk_inputs.specs.declared.stop.InputFlaw.{InputFlaw}
 use Rattle.qblk_inputs.specs.declared.stop.InputFlaw.TheVariants as flaws
 use Rattle.qblk_core.specs.Along.{CountsOutcome, HaveNodes, GoesInTurn}
@@ -49,6 +51,7 @@ pub record Outside : Type 0 where
   pub files : Option (List File)
   pub opened : List Opened
   pub store_faults : ℕ
+  pub failed_file : Option (List ℕ)
   pub sent : Option (List ℕ)
   pub sink_faults : ℕ
 
@@ -280,6 +283,7 @@ pub record FailsToOpen (format : Format) (image : List ℕ) (old new : Outside) 
     pub opened : new.opened ≡ old.opened ++ closed_opening image device behind.faults ∷ []
     pub stopped : StoppedBy device behind only_device count
     pub kept : HasRisen device behind
+    pub call : FailsReading (Some count) device.failed_call behind.failed_call
     pub long : MIN_HEADER_LENGTH ≤ device.size
     pub told : IfTold old.files (λ files. HasFile image (IsOverFile device) files)
     pub sink : new.sink_faults ≡ old.sink_faults
@@ -293,11 +297,20 @@ FailsToFlushIo format image trace old new count =
     × (((n ≡ length (transcript guest_names h)) × (new.sink_faults ≡ old.sink_faults))
     ⊎ Rose old.sink_faults new.sink_faults)
 
+-- a call of the store failed on this file, which it was to open, and which is there
+abbrev pub OnOpened : Option (List File) → List ℕ → List ℕ → Type 0
+OnOpened told name failed = (failed ≡ name) × IfTold told (HasFile name (λ _. Unit {0}))
+
+-- it failed on the trace's, which is read first, and is there and not too long; or on the image's
+abbrev pub OnImageOrTrace : Option (List File) → List ℕ → List ℕ → List ℕ → Type 0
+OnImageOrTrace told image trace failed = OnFile told trace failed ⊎ OnOpened told image failed
+
 -- the first fault: while the inputs were read, while the image was opened, in the last flush, or while the transcript went out
 abbrev pub IsFaultyIo : Format → List ℕ → List ℕ → Outside → Outside → FaultFrom → ℕ → Type 0
 IsFaultyIo format image trace old new Store count =
     NothingWrittenIo old new × (new.opened ≡ old.opened) × Rose old.store_faults count
     × (count ≡ new.store_faults)
+    × FailsOn (OnImageOrTrace old.files image trace) new.failed_file
 IsFaultyIo format image trace old new (Dev dev) count =
     (dev.0 ≡ 0) × (FailsToOpen format image old new count
     ⊎ FailsToFlushIo format image trace old new count)

@@ -13,11 +13,9 @@ use crate::requests::room_for;
 use crate::status::{InputWhy, Status};
 use blk_base::{Bytes, Names1, NoMemory, Text};
 use blk_history::{History, Rows};
+use qblk_inputs::MAX_TEXT;
 use std::alloc::Global;
 use trace_codec::{Op, TraceStop, read_trace};
-
-/// How many bytes a trace may have.
-pub(crate) const MAX_TRACE: u64 = 64 * 1024 * 1024;
 
 /// Room for the line of any entry of the guest `disk`.
 const LINE: usize = 256 + 4 + 5 * BLOCK;
@@ -111,7 +109,7 @@ pub(crate) fn judge(alloc: Global, trace: &str, read: TraceRead) -> Result<Prepa
         TraceRead::Absent => return Err(refused(alloc, trace, 0, InputWhy::Absent)),
         TraceRead::TooLong => return Err(refused(alloc, trace, 0, InputWhy::TooLong)),
     };
-    if bytes.len() as u64 > MAX_TRACE {
+    if bytes.len() as u64 > MAX_TEXT {
         return Err(refused(alloc, trace, 0, InputWhy::TooLong));
     }
     match requests_in(alloc, bytes.as_slice()) {

@@ -29,6 +29,7 @@ pub fn run_io<S: Store, K: Sink>(
           files = S.files store;
           opened = S.opened store;
           store_faults = S.faults store;
+          failed_file = S.failed_file store;
           sent = K.sent out.old;
           sink_faults = K.faults out.old;
         })
@@ -36,6 +37,7 @@ pub fn run_io<S: Store, K: Sink>(
           files = S.files result.1;
           opened = S.opened result.1;
           store_faults = S.faults result.1;
+          failed_file = S.failed_file result.1;
           sent = K.sent out.new;
           sink_faults = K.faults out.new;
         })
@@ -46,6 +48,7 @@ pub fn run_io<S: Store, K: Sink>(
           files = S.files store;
           opened = S.opened store;
           store_faults = S.faults store;
+          failed_file = S.failed_file store;
           sent = K.sent out.old;
           sink_faults = K.faults out.old;
         })
@@ -53,6 +56,7 @@ pub fn run_io<S: Store, K: Sink>(
           files = S.files result.1;
           opened = S.opened result.1;
           store_faults = S.faults result.1;
+          failed_file = S.failed_file result.1;
           sent = K.sent out.new;
           sink_faults = K.faults out.new;
         })
@@ -79,6 +83,7 @@ pub fn qblk<S: Store, K: Sink>(alloc: Global, words: &[Text], store: S, out: &mu
           files = S.files store;
           opened = S.opened store;
           store_faults = S.faults store;
+          failed_file = S.failed_file store;
           sent = K.sent out.old;
           sink_faults = K.faults out.old;
         })
@@ -86,6 +91,7 @@ pub fn qblk<S: Store, K: Sink>(alloc: Global, words: &[Text], store: S, out: &mu
           files = S.files result.1;
           opened = S.opened result.1;
           store_faults = S.faults result.1;
+          failed_file = S.failed_file result.1;
           sent = K.sent out.new;
           sink_faults = K.faults out.new;
         })
@@ -102,6 +108,7 @@ pub fn qblk<S: Store, K: Sink>(alloc: Global, words: &[Text], store: S, out: &mu
           files = S.files store;
           opened = S.opened store;
           store_faults = S.faults store;
+          failed_file = S.failed_file store;
           sent = K.sent out.old;
           sink_faults = K.faults out.old;
         })
@@ -109,6 +116,7 @@ pub fn qblk<S: Store, K: Sink>(alloc: Global, words: &[Text], store: S, out: &mu
           files = S.files result.1;
           opened = S.opened result.1;
           store_faults = S.faults result.1;
+          failed_file = S.failed_file result.1;
           sent = K.sent out.new;
           sink_faults = K.faults out.new;
         })

@@ -3,19 +3,19 @@ ghost use Rattle.std.specs.Prelude.{◌≡◌, ◌≤◌, List, ℕ, MatchResult
 ghost use Rattle.blk_base.specs.Device.{opened_now};
 ghost use Rattle.blk_base.specs.Files.{IfTold};
 ghost use Rattle.blk_base.specs.Stored.{IsDeviceOf};
-ghost use Rattle.qblk_inputs.specs.Reading.{NoneOut};
-ghost use Rattle.qblk_core.specs.Session.{IsTraceRead, IsStoreStop, IsOpenStop, AreRequestsMade, IsRunStop, EndsIoAs, io_ended_as, failed_as};
+ghost use Rattle.qblk_inputs.specs.Reading.{NoneOut, OnFile};
+ghost use Rattle.qblk_core.specs.Session.{IsTraceRead, IsStoreStop, NamesStoreOn, IsOpenStop, AreRequestsMade, IsRunStop, EndsIoAs, io_ended_as, failed_as};
 ghost use Rattle.blk_nodes.specs.Reading.{HasRisen};
 ghost use Rattle.qblk_core.specs.Opened.{IsImageStatus};
 ghost use Rattle.blk_history.specs.Transcript.{transcript};
 ghost use Rattle.qblk_core.specs.Comes.{HaveLines};
 ghost use Rattle.qblk_core.specs.Face.{SessionSeen};
 ghost use Rattle.qblk_core.specs.ImageNodes.{seen_device};
-ghost use Rattle.qblk_core.specs.Run.{guest_names, AnswersIo, StoreStands, TellsFaults};
+ghost use Rattle.qblk_core.specs.Run.{guest_names, OnOpened, AnswersIo, StoreStands, TellsFaults};
 
 use crate::closing::device_of;
 use crate::engine::Engine;
-use crate::input::{MAX_TRACE, Prepared, TraceRead, judge, refused};
+use crate::input::{Prepared, TraceRead, judge, refused};
 use crate::opening::{DEVICE, OpenStop, open_nodes};
 use crate::output::send_transcript;
 use crate::requests::run_requests;
@@ -23,6 +23,7 @@ use crate::status::{InputWhy, Status};
 use crate::words::Format;
 use blk_base::{Device, FaultAt, FaultFrom, Sink, Store, StoreStop, Text};
 use blk_history::{History, Rows};
+use qblk_inputs::MAX_TEXT;
 use std::alloc::Global;
 
 /// The history of a run, what its transcript is written with, and the fault of the last flush.
@@ -48,13 +49,15 @@ fn read_trace_file<S: Store>(store: &mut S, name: &str) -> Result<TraceRead, Sta
     requires { NoneOut (S.opened store.old) }
     ensures read { IfOk result (λ read. IfTold (S.files store.old) (IsTraceRead name.now read)) }
     ensures stop { IfErr result (IsStoreStop (S.faults store.old) (S.faults store.new)) }
+    ensures file { IfErr result
+        (NamesStoreOn (OnFile (S.files store.old) name.now) (S.failed_file store.new)) }
     ensures files { S.files store.new ≡ S.files store.old }
     ensures opened { S.opened store.new ≡ S.opened store.old }
     ensures quiet { OnOk result (S.faults store.new ≡ S.faults store.old) }
     ensures stands { IfErr result
         (λ status. StoreStands status (S.faults store.old) (S.faults store.new)) }
 {
-    match store.read_all(name, MAX_TRACE) {
+    match store.read_all(name, MAX_TEXT) {
         Ok(bytes) => Ok(TraceRead::Whole(bytes)),
         Err(StoreStop::Absent) => Ok(TraceRead::Absent),
         Err(StoreStop::TooLong) => Ok(TraceRead::TooLong),
@@ -76,6 +79,8 @@ fn open_image<S: Store>(alloc: Global, store: &mut S, name: &str) -> Result<S::D
         (λ _. S.opened store.new ≡ S.opened store.old) }
     ensures stop { IfErr result
         (IsOpenStop name.now (S.files store.old) (S.faults store.old) (S.faults store.new)) }
+    ensures file { IfErr result
+        (NamesStoreOn (OnOpened (S.files store.old) name.now) (S.failed_file store.new)) }
     ensures files { S.files store.new ≡ S.files store.old }
     ensures quiet { OnOk result (S.faults store.new ≡ S.faults store.old) }
     ensures stands { IfErr result
@@ -210,6 +215,7 @@ pub(crate) fn run_on<S: Store, K: Sink>(
           files = S.files store.old;
           opened = S.opened store.old;
           store_faults = S.faults store.old;
+          failed_file = S.failed_file store.old;
           sent = K.sent out.old;
           sink_faults = K.faults out.old;
         })
@@ -217,6 +223,7 @@ pub(crate) fn run_on<S: Store, K: Sink>(
           files = S.files store.new;
           opened = S.opened store.new;
           store_faults = S.faults store.new;
+          failed_file = S.failed_file store.new;
           sent = K.sent out.new;
           sink_faults = K.faults out.new;
         })
@@ -226,6 +233,7 @@ pub(crate) fn run_on<S: Store, K: Sink>(
           files = S.files store.old;
           opened = S.opened store.old;
           store_faults = S.faults store.old;
+          failed_file = S.failed_file store.old;
           sent = K.sent out.old;
           sink_faults = K.faults out.old;
         })
@@ -233,6 +241,7 @@ pub(crate) fn run_on<S: Store, K: Sink>(
           files = S.files store.new;
           opened = S.opened store.new;
           store_faults = S.faults store.new;
+          failed_file = S.failed_file store.new;
           sent = K.sent out.new;
           sink_faults = K.faults out.new;
         })

@@ -11,7 +11,7 @@ use Rattle.qblk_inputs.specs.declared.stop.InputFlaw.{InputFlaw}
 use Rattle.trace_codec.specs.Script.{Order}
 use Rattle.qblk_inputs.specs.Words.{Player, Cast, guests_of}
 use Rattle.qblk_inputs.specs.Inputs.{IsScript, ReadsAsTrace, HasTraces, HasWork, IsRefusedScript, IsRefusedTrace, IsFirstRefused, IsRefusedInput, IsScriptFlaw, IsTraceFlaw}
-use Rattle.qblk_inputs.specs.Reading.{OfFile, OfTraces, OfInputs}
+use Rattle.qblk_inputs.specs.Reading.{OfFile, OfTraces, OfInputs, FailsOnTrace, OnFile, OnTraces, OnInputs}
 
 abbrev traces_of : List Player → List (List ℕ)
 traces_of players = map (λ p. p.trace) players
@@ -20,10 +20,11 @@ traces_of players = map (λ p. p.trace) players
 pub record IsAhead (told : Option (List File)) (players : List Player) (asked : Amounts) (rest : List Player) (done : List (List Wish)) : Type 0 where
   pub good : (more : List (List Wish)) → IfTold told (HasTraces asked rest more) → IfTold told (HasTraces nothing players (done ++ more))
   pub bad : (name : List ℕ) (why : InputFlaw) (line : ℕ) → IfTold told (IsFirstRefused asked rest name line why) → IfTold told (IsFirstRefused nothing players name line why)
+  pub fails : (name : List ℕ) → IfTold told (FailsOnTrace asked rest name) → IfTold told (FailsOnTrace nothing players name)
   pub names : (name : List ℕ) → Contains (traces_of rest) name → Contains (traces_of players) name
 
 pub ahead-first : (told : Option (List File)) (players : List Player) → IsAhead told players nothing players []
-ahead-first told players = record { good = λ more h. h; bad = λ name why line h. h; names = λ name h. h }
+ahead-first told players = record { good = λ more h. h; bad = λ name why line h. h; fails = λ name h. h; names = λ name h. h }
 
 more-traces : (told : Option (List File)) (before asked : Amounts) (p : Player) (rest : List Player) (wishes : List Wish) (more : List (List Wish))
     → IfTold told (HasFile p.trace (λ f. ReadsAsTrace before wishes asked f.bytes)) → IfTold told (HasTraces asked rest more) → IfTold told (HasTraces before (p ∷ rest) (wishes ∷ more))
@@ -35,11 +36,17 @@ more-refused : (told : Option (List File)) (before asked : Amounts) (p : Player)
 more-refused None before asked p rest wishes name why line here h = tt
 more-refused (Some files) before asked p rest wishes name why line here h = inr (wishes, asked, here, h)
 
+more-fails : (told : Option (List File)) (before asked : Amounts) (p : Player) (rest : List Player) (wishes : List Wish) (name : List ℕ)
+    → IfTold told (HasFile p.trace (λ f. ReadsAsTrace before wishes asked f.bytes)) → IfTold told (FailsOnTrace asked rest name) → IfTold told (FailsOnTrace before (p ∷ rest) name)
+more-fails None before asked p rest wishes name here h = tt
+more-fails (Some files) before asked p rest wishes name here h = inr (wishes, asked, here, h)
+
 pub ahead-next : (told : Option (List File)) (players : List Player) (before asked : Amounts) (p : Player) (rest : List Player) (done : List (List Wish)) (wishes : List Wish)
     → IfTold told (HasFile p.trace (λ f. ReadsAsTrace before wishes asked f.bytes)) → IsAhead told players before (p ∷ rest) done → IsAhead told players asked rest (done ++ wishes ∷ [])
 ahead-next told players before asked p rest done wishes here a = record {
   good = λ more h. subst (λ ts. IfTold told (HasTraces nothing players ts)) (sym (append_assoc done (wishes ∷ []) more)) (a.good (wishes ∷ more) (more-traces told before asked p rest wishes more here h));
   bad = λ name why line h. a.bad name why line (more-refused told before asked p rest wishes name why line here h);
+  fails = λ name h. a.fails name (more-fails told before asked p rest wishes name here h);
   names = λ name h. a.names name (Contains-append_right (p.trace ∷ []) (traces_of rest) name h);
 }
 
@@ -62,6 +69,14 @@ pub ahead-stops : (told : Option (List File)) (players : List Player) (asked : A
     → IsAhead told players asked (p ∷ rest) done → OfFile told p.trace IsTraceFlaw (IsRefusedTrace asked) name why line → OfTraces told players name why line
 ahead-stops told players asked p rest done name why line a h =
     ((a.names name (first-trace p rest name h.0), h.1), a.bad name why line (first-refused told asked p rest name why line h))
+
+first-fails : (told : Option (List File)) (asked : Amounts) (p : Player) (rest : List Player) (name : List ℕ) → OnFile told p.trace name → IfTold told (FailsOnTrace asked (p ∷ rest) name)
+first-fails None asked p rest name h = tt
+first-fails (Some files) asked p rest name h = inl h
+
+pub ahead-fails : (told : Option (List File)) (players : List Player) (asked : Amounts) (p : Player) (rest : List Player) (done : List (List Wish)) (name : List ℕ)
+    → IsAhead told players asked (p ∷ rest) done → OnFile told p.trace name → OnTraces told players name
+ahead-fails told players asked p rest done name a h = (a.names name (first-trace p rest name h.0), a.fails name (first-fails told asked p rest name h))
 
 -- ---- the script before the traces
 
@@ -89,3 +104,12 @@ script_refused told cast name why line h = (inl (h.0, h.1), told-script told cas
 pub trace_refused : (told : Option (List File)) (cast : Cast) (orders : List Order) (name : List ℕ) (why : InputFlaw) (line : ℕ)
     → IfTold told (HasFile cast.script (λ f. IsScript (guests_of cast) orders f.bytes)) → OfTraces told cast.players name why line → OfInputs told cast name why line
 trace_refused told cast orders name why line s t = (inr t.0, told-traces told cast orders name why line s t.1)
+
+pub script_fails : (told : Option (List File)) (cast : Cast) (name : List ℕ) → OnFile told cast.script name → OnInputs told cast name
+script_fails None cast name h = (inl h.0, tt)
+script_fails (Some files) cast name h = (inl h.0, inl h)
+
+pub trace_fails : (told : Option (List File)) (cast : Cast) (orders : List Order) (name : List ℕ)
+    → IfTold told (HasFile cast.script (λ f. IsScript (guests_of cast) orders f.bytes)) → OnTraces told cast.players name → OnInputs told cast name
+trace_fails None cast orders name s t = (inr t.0, tt)
+trace_fails (Some files) cast orders name s t = (inr t.0, inr (orders, s, t.1))

@@ -1,13 +1,15 @@
 -- How inputs are read.
-use Rattle.std.specs.Prelude.{◌≡◌, ℕ, ◌<◌, ◌≤◌, true, List, length, Option}
+use Rattle.std.specs.Prelude.{◌≡◌, ◌⊎◌, ℕ, ◌<◌, ◌≤◌, true, List, [], ◌∷◌, length, map, Contains, Option}
 use Rattle.blk_base.specs.Answers.{HasFile, LacksFile}
 use Rattle.blk_base.specs.Counts.{Rose}
 use Rattle.blk_base.specs.Files.{IfTold, is_out}
 use Rattle.blk_base.specs.declared.file.File.{File}
 use Rattle.blk_base.specs.declared.file.Opened.{Opened}
-use Rattle.trace_codec.specs.Amounts.{nothing}
-use Rattle.qblk_inputs.specs.Inputs.{IsFirstRefused, IsRefusedInput, SpeaksOfTrace, SpeaksOfCast, most_text}
-use Rattle.qblk_inputs.specs.Words.{Player, Cast}
+use Rattle.trace_codec.specs.Amounts.{Amounts, nothing}
+use Rattle.trace_codec.specs.Script.{Order}
+use Rattle.trace_codec.specs.declared.wish.Wish.{Wish}
+use Rattle.qblk_inputs.specs.Inputs.{IsScript, ReadsAsTrace, IsFirstRefused, IsRefusedInput, SpeaksOfTrace, SpeaksOfCast, most_text}
+use Rattle.qblk_inputs.specs.Words.{Player, Cast, guests_of}
 use Rattle.qblk_inputs.specs.declared.stop.InputFlaw.{InputFlaw}
 use Rattle.qblk_inputs.specs.declared.stop.InputFlaw.TheVariants.{Absent, TooLong}
 use Rattle.qblk_inputs.specs.declared.stop.InputStop.{InputStop}
@@ -61,3 +63,52 @@ OfTraces told players name why line =
 abbrev pub OfInputs : Option (List File) → Cast → List ℕ → InputFlaw → ℕ → Type 0
 OfInputs told cast name why line =
     SpeaksOfCast cast name line why × IfTold told (IsRefusedInput cast name line why)
+
+-- ---- which input a call of the store failed on
+
+-- a file that is there, and not too long
+abbrev pub IsShortFile : List ℕ → List File → Type 0
+IsShortFile name files = HasFile name (λ f. length f.bytes ≤ most_text) files
+
+-- one of the traces, which is there and not too long: those before it are read
+abbrev pub FailsOnTrace : Amounts → List Player → List ℕ → List File → Type 0
+FailsOnTrace before [] name files = ⊥
+FailsOnTrace before (p ∷ players) name files =
+    ((name ≡ p.trace) × IsShortFile p.trace files)
+    ⊎ ((wishes : List Wish) × (asked : Amounts)
+    × HasFile p.trace (λ f. ReadsAsTrace before wishes asked f.bytes) files
+    × FailsOnTrace asked players name files)
+
+-- the script before the traces
+abbrev pub FailsOnInput : Cast → List ℕ → List File → Type 0
+FailsOnInput cast name files =
+    ((name ≡ cast.script) × IsShortFile cast.script files)
+    ⊎ ((orders : List Order)
+    × HasFile cast.script (λ f. IsScript (guests_of cast) orders f.bytes) files
+    × FailsOnTrace nothing cast.players name files)
+
+-- it was this file
+abbrev pub OnFile : Option (List File) → List ℕ → List ℕ → Type 0
+OnFile told name failed = (failed ≡ name) × IfTold told (IsShortFile name)
+
+-- one of the traces, and where files are told one behind those that are read
+abbrev pub OnTraces : Option (List File) → List Player → List ℕ → Type 0
+OnTraces told players failed =
+    Contains (map (λ p. p.trace) players) failed
+    × IfTold told (FailsOnTrace nothing players failed)
+
+-- one of the inputs, and where files are told one behind those that are read
+abbrev pub OnInputs : Option (List File) → Cast → List ℕ → Type 0
+OnInputs told cast failed =
+    ((failed ≡ cast.script) ⊎ Contains (map (λ p. p.trace) cast.players) failed)
+    × IfTold told (FailsOnInput cast failed)
+
+-- a call failed on a file of which that holds, by which failed last, where it is told
+abbrev pub FailsOn : (List ℕ → Type 0) → Option (List ℕ) → Type 0
+FailsOn P last = (failed : List ℕ) × P failed × IfTold last (λ name. name ≡ failed)
+
+-- so it is behind a call that failed, and which failed last stays behind every other stop
+abbrev pub StopsOn : (List ℕ → Type 0) → Option (List ℕ) → Option (List ℕ) → InputStop → Type 0
+StopsOn P before now (Refused name line why) = now ≡ before
+StopsOn P before now (Failed count) = FailsOn P now
+StopsOn P before now NoMemory = now ≡ before

@@ -46,3 +46,14 @@ pub record IsRoomFor (lines : ℕ) (traces : List (List Wish)) (room : Room) : T
   pub entries : room.entries ≡ (lines + 1) + entries_for_all traces
   pub bytes : room.bytes ≡ bytes_for_all traces
   pub numbers : AllCanCount traces
+
+-- it has the numbers of a room
+pub record CanHaveRoom (lines : ℕ) (traces : List (List Wish)) : Type 0 where
+  pub entries : (lines + 1) + entries_for_all traces < 2 ^ 64
+  pub bytes : bytes_for_all traces < 2 ^ 64
+  pub numbers : AllCanCount traces
+
+-- of a room that grows: so many entries and bytes more have numbers too
+pub record HoldsMore (room : Room) (entries bytes : ℕ) : Type 0 where
+  pub entries_end : room.entries + entries < 2 ^ 64
+  pub bytes_end : room.bytes + bytes < 2 ^ 64

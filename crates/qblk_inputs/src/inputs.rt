@@ -6,7 +6,7 @@ ghost use Rattle.trace_codec.specs.Amounts.{nothing};
 ghost use Rattle.trace_codec.specs.Script.{seen_order};
 ghost use Rattle.qblk_inputs.specs.Words.{texts_in, player_of, player_names, guests_of, cast_of};
 ghost use Rattle.qblk_inputs.specs.Inputs.{IsScript, ReadsAsTrace, HasTraces, IsRefusedScript, IsRefusedTrace, HasWork, IsScriptFlaw, IsTraceFlaw};
-ghost use Rattle.qblk_inputs.specs.Reading.{NoneOut, IsReadOfFile, IsUnread, IsUnreadFlaw, IsInputRefusal, StopsFor, OfFile, OfTraces, OfInputs};
+ghost use Rattle.qblk_inputs.specs.Reading.{NoneOut, IsReadOfFile, IsUnread, IsUnreadFlaw, IsInputRefusal, StopsFor, OfFile, OfTraces, OfInputs, StopsOn, OnFile, OnTraces, OnInputs};
 
 use crate::stop::{InputFlaw, InputStop};
 use crate::words::player_of;
@@ -29,7 +29,7 @@ pub struct Inputs {
 }
 
 /// How many bytes a script or a trace may have.
-const MAX_TEXT: u64 = 64 * 1024 * 1024;
+pub const MAX_TEXT: u64 = 64 * 1024 * 1024;
 
 /// The refusal of an input.
 fn refused(alloc: Global, name: &str, line: u32, why: InputFlaw) -> InputStop
@@ -48,6 +48,9 @@ fn read_file<S: Store>(alloc: Global, store: &mut S, name: &str) -> Result<Bytes
     ensures stop { IfErr result (StopsFor
         (OfFile (S.files store.old) name.now IsUnreadFlaw IsUnread)
         (S.faults store.old) (S.faults store.new)) }
+    ensures file { IfErr result (StopsOn (OnFile (S.files store.old) name.now)
+        (S.failed_file store.old) (S.failed_file store.new)) }
+    ensures last { OnOk result (S.failed_file store.new ≡ S.failed_file store.old) }
     ensures files { S.files store.new ≡ S.files store.old }
     ensures opened { S.opened store.new ≡ S.opened store.old }
     ensures room { S.room store.new ≡ S.room store.old }
@@ -79,6 +82,9 @@ fn read_orders<S: Store>(
     ensures stop { IfErr result (StopsFor
         (OfFile (S.files store.old) name.now IsScriptFlaw IsRefusedScript)
         (S.faults store.old) (S.faults store.new)) }
+    ensures file { IfErr result (StopsOn (OnFile (S.files store.old) name.now)
+        (S.failed_file store.old) (S.failed_file store.new)) }
+    ensures last { OnOk result (S.failed_file store.new ≡ S.failed_file store.old) }
     ensures files { S.files store.new ≡ S.files store.old }
     ensures opened { S.opened store.new ≡ S.opened store.old }
     ensures room { S.room store.new ≡ S.room store.old }
@@ -111,6 +117,9 @@ fn read_trace<S: Store>(
     ensures stop { IfErr result (StopsFor
         (OfFile (S.files store.old) name.now IsTraceFlaw (IsRefusedTrace asked.old))
         (S.faults store.old) (S.faults store.new)) }
+    ensures file { IfErr result (StopsOn (OnFile (S.files store.old) name.now)
+        (S.failed_file store.old) (S.failed_file store.new)) }
+    ensures last { OnOk result (S.failed_file store.new ≡ S.failed_file store.old) }
     ensures files { S.files store.new ≡ S.files store.old }
     ensures opened { S.opened store.new ≡ S.opened store.old }
     ensures room { S.room store.new ≡ S.room store.old }
@@ -144,6 +153,10 @@ fn read_traces<S: Store>(
     ensures stop { IfErr result (StopsFor
         (OfTraces (S.files store.old) (map player_of (texts_in players.now)))
         (S.faults store.old) (S.faults store.new)) }
+    ensures file { IfErr result (StopsOn
+        (OnTraces (S.files store.old) (map player_of (texts_in players.now)))
+        (S.failed_file store.old) (S.failed_file store.new)) }
+    ensures last { OnOk result (S.failed_file store.new ≡ S.failed_file store.old) }
     ensures files { S.files store.new ≡ S.files store.old }
     ensures opened { S.opened store.new ≡ S.opened store.old }
     ensures room { S.room store.new ≡ S.room store.old }
@@ -197,6 +210,10 @@ pub fn read_inputs<S: Store>(
     ensures stop { IfErr result (StopsFor
         (OfInputs (S.files store.old) (cast_of script.now (texts_in players.now)))
         (S.faults store.old) (S.faults store.new)) }
+    ensures file { IfErr result (StopsOn
+        (OnInputs (S.files store.old) (cast_of script.now (texts_in players.now)))
+        (S.failed_file store.old) (S.failed_file store.new)) }
+    ensures last { OnOk result (S.failed_file store.new ≡ S.failed_file store.old) }
     ensures files { S.files store.new ≡ S.files store.old }
     ensures opened { S.opened store.new ≡ S.opened store.old }
     ensures room { S.room store.new ≡ S.room store.old }

@@ -6,7 +6,7 @@ mod room;
 mod stop;
 mod words;
 
-pub use inputs::{Inputs, read_inputs};
+pub use inputs::{Inputs, MAX_TEXT, read_inputs};
 pub use room::room_for;
 pub use stop::{InputFlaw, InputStop};
 pub use words::{RunWords, names_file, run_words};

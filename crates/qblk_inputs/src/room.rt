@@ -1,6 +1,6 @@
 //! The room that a run needs of its history.
-ghost use Rattle.std.specs.Prelude.{◌≡◌, ◌+◌, ◌<◌, ◌^◌, ◌∷◌, [], length, IfSome, map};
-ghost use Rattle.qblk_inputs.specs.Room.{entries_for, bytes_for, HaveNumbers, CanCount, IsRoomFor};
+ghost use Rattle.std.specs.Prelude.{◌≡◌, ◌+◌, ◌<◌, ◌^◌, ◌∷◌, [], length, IfSome, IfNone, map};
+ghost use Rattle.qblk_inputs.specs.Room.{entries_for, bytes_for, HaveNumbers, CanCount, IsRoomFor, HoldsMore, CanHaveRoom};
 
 use blk_base::Room;
 use trace_codec::Wish;
@@ -11,6 +11,9 @@ fn with_wish(room: Room, wish: &Wish) -> Option<Room>
         r.entries ≡ room.entries + entries_for (wish.now ∷ [])) }
     ensures bytes { IfSome result (λ r. r.bytes ≡ room.bytes + bytes_for (wish.now ∷ [])) }
     ensures pieces { IfSome result (λ r. HaveNumbers (wish.now ∷ [])) }
+    ensures none { IfNone result
+        (HoldsMore room (entries_for (wish.now ∷ [])) (bytes_for (wish.now ∷ []))
+        → HaveNumbers (wish.now ∷ []) → ⊥) }
 {
     match wish {
         Wish::Ask(op) => {
@@ -30,6 +33,9 @@ fn with_trace(room: Room, wishes: &[Wish]) -> Option<Room>
         r.entries ≡ room.entries + (entries_for wishes.now + 1)) }
     ensures bytes { IfSome result (λ r. r.bytes ≡ room.bytes + bytes_for wishes.now) }
     ensures numbers { IfSome result (λ r. CanCount wishes.now) }
+    ensures none { IfNone result
+        (HoldsMore room (entries_for wishes.now + 1) (bytes_for wishes.now)
+        → CanCount wishes.now → ⊥) }
 {
     if wishes.len() >= u32::MAX as usize {
         return None;
@@ -48,7 +54,8 @@ fn with_trace(room: Room, wishes: &[Wish]) -> Option<Room>
 /// end, and for each request two and one a piece; and bytes for what the requests read. `None` where that can't be
 /// counted: a trace has 2^32 - 1 wishes or more, a request 2^32 pieces or more, or a sum would pass 2^64 - 1.
 pub fn room_for(lines: u32, traces: &[Vec<Wish>]) -> Option<Room>
-    ensures { IfSome result (IsRoomFor lines (map (λ t. t.items) traces.now)) }
+    ensures room { IfSome result (IsRoomFor lines (map (λ t. t.items) traces.now)) }
+    ensures none { IfNone result (CanHaveRoom lines (map (λ t. t.items) traces.now) → ⊥) }
 {
     let mut room = Room {
         entries: u64::from(lines) + 1,

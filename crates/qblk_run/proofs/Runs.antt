@@ -24,7 +24,7 @@ use Rattle.qblk_core.specs.declared.status.Status.TheVariants.{NoMemory}
 use Rattle.qblk_core.specs.declared.words.Format.{Format}
 use Rattle.qblk_core.specs.Words.{IsIo}
 use Rattle.qblk_inputs.specs.Inputs.{Work, HasWork}
-use Rattle.qblk_inputs.specs.Reading.{StopsFor, OfInputs}
+use Rattle.qblk_inputs.specs.Reading.{StopsFor, OfInputs, StopsOn, OnInputs}
 use Rattle.qblk_inputs.specs.Room.{IsRoomFor, entries_for_all}
 use Rattle.qblk_inputs.specs.Words.{Cast, IsRunOf, Player, guests_of, player_of}
 use Rattle.qblk_inputs.specs.declared.stop.InputStop.{InputStop}
@@ -130,12 +130,13 @@ same-store a b files opened room faults =
 
 pub refused-answers : (cast : Cast) (old new : Setting) (stop : InputStop)
     → new.store.files ≡ old.store.files → new.store.opened ≡ old.store.opened → new.store.room ≡ old.store.room → new.sent ≡ old.sent → new.sink_faults ≡ old.sink_faults
-    → StopsFor (OfInputs old.store.files cast) old.store.faults new.store.faults stop → Answers cast old new (status_of stop)
-refused-answers cast old new (stops.Refused name line why) files opened room sent sink stop =
+    → StopsFor (OfInputs old.store.files cast) old.store.faults new.store.faults stop → StopsOn (OnInputs old.store.files cast) old.failed_file new.failed_file stop
+    → Answers cast old new (status_of stop)
+refused-answers cast old new (stops.Refused name line why) files opened room sent sink stop on =
     (record { files = files; opened = opened; room = room; sent = sent; sink = sink }, stop.1, (why, refl, stop.0.0, stop.0.1))
-refused-answers cast old new (stops.Failed count) files opened room sent sink stop =
-    (record { files = files; opened = opened; room = room; sent = sent; sink = sink }, stop.0, stop.1)
-refused-answers cast old new stops.NoMemory files opened room sent sink stop = (sent, sink, inl (same-store new.store old.store files opened room stop))
+refused-answers cast old new (stops.Failed count) files opened room sent sink stop on =
+    (record { files = files; opened = opened; room = room; sent = sent; sink = sink }, stop.0, stop.1, on)
+refused-answers cast old new stops.NoMemory files opened room sent sink stop on = (sent, sink, inl (same-store new.store old.store files opened room stop))
 
 -- ---- what was read
 

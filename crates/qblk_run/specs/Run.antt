@@ -33,6 +33,7 @@ use Rattle.world_parts.specs.Face.{WorldSeen, counts_now}
 use Rattle.world_parts.specs.Steps.{StoreSeen, IsOpeningOf, new_world, seen_store}
 use Rattle.world_commands.specs.Tabling.{IsTableAfter}
 use Rattle.qblk_inputs.specs.Inputs.{Work, HasWork, IsRefusedInput, SpeaksOfCast}
+use Rattle.qblk_inputs.specs.Reading.{FailsOn, OnInputs}
 use Rattle.qblk_inputs.specs.Room.{bytes_for_all, entries_for_all}
 use Rattle.qblk_inputs.specs.Words.{Cast, guests_of}
 use Rattle.qblk_inputs.specs.declared.stop.InputFlaw.{InputFlaw}
@@ -48,20 +49,29 @@ use Rattle.qblk_core.specs.declared.status.Status.TheVariants.{Done, Usage, Inpu
 -- what is seen of a store and a sink
 pub record Setting : Type 0 where
   pub store : StoreSeen
+  pub failed_file : Option (List ℕ)
   pub sent : Option (List ℕ)
   pub sink_faults : ℕ
 
-abbrev pub setting : Option (List File) → List Opened → ℕ → ℕ → Option (List ℕ) → ℕ → Setting
-setting files opened room faults sent sink_faults =
-    record { store = seen_store files opened room faults; sent = sent; sink_faults = sink_faults }
+abbrev pub setting : Option (List File) → List Opened → ℕ → ℕ → Option (List ℕ) → Option (List ℕ)
+    → ℕ → Setting
+setting files opened room faults failed sent sink_faults =
+    record {
+      store = seen_store files opened room faults;
+      failed_file = failed;
+      sent = sent;
+      sink_faults = sink_faults;
+    }
 
 -- as `io` sees it
-abbrev pub outside : Option (List File) → List Opened → ℕ → Option (List ℕ) → ℕ → Outside
-outside files opened faults sent sink_faults =
+abbrev pub outside : Option (List File) → List Opened → ℕ → Option (List ℕ) → Option (List ℕ) → ℕ
+    → Outside
+outside files opened faults failed sent sink_faults =
     record {
       files = files;
       opened = opened;
       store_faults = faults;
+      failed_file = failed;
       sent = sent;
       sink_faults = sink_faults;
     }
@@ -245,10 +255,11 @@ GoesOut old new a n =
     ((n ≡ length (whole_transcript a)) × (new.sink_faults ≡ old.sink_faults))
     ⊎ Rose old.sink_faults new.sink_faults
 
--- the first fault: while the inputs were read, in the last flush, or while the transcript went out
+-- the first fault: while an input was read, behind those that are good; in the last flush; or while the transcript went out
 abbrev pub IsFaulty : Cast → Setting → Setting → FaultFrom → ℕ → Type 0
 IsFaulty cast old new Store count =
     NothingWritten old new × Rose old.store.faults count × (count ≡ new.store.faults)
+    × FailsOn (OnInputs old.store.files cast) new.failed_file
 IsFaulty cast old new (Dev dev) count = (work : Work) × (a : Account) × (n : ℕ)
     × WasStopped cast work (Some (fault_at (Dev dev) count)) old new a n × GoesOut old new a n
 IsFaulty cast old new Sink count = (work : Work) × (a : Account) × (n : ℕ)

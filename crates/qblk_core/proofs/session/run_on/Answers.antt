@@ -27,8 +27,8 @@ returns-in-Ok-made-clause-ended g c =
     let back = c.make_run-made.result.1 in
     let d : DeviceSeen = seen_device D dev in
     let n : DeviceSeen = seen_device D back in
-    let old : Outside = record { files = S.files c.args.store.now; opened = S.opened c.args.store.now; store_faults = S.faults c.args.store.now; sent = K.sent c.args.out.now; sink_faults = K.faults c.args.out.now } in
-    let new : Outside = record { files = S.files c.give_back.new.self; opened = S.opened c.give_back.new.self; store_faults = S.faults c.give_back.new.self; sent = K.sent c.write_out.new.out; sink_faults = K.faults c.write_out.new.out } in
+    let old : Outside = record { files = S.files c.args.store.now; opened = S.opened c.args.store.now; store_faults = S.faults c.args.store.now; failed_file = S.failed_file c.args.store.now; sent = K.sent c.args.out.now; sink_faults = K.faults c.args.out.now } in
+    let new : Outside = record { files = S.files c.give_back.new.self; opened = S.opened c.give_back.new.self; store_faults = S.faults c.give_back.new.self; failed_file = S.failed_file c.give_back.new.self; sent = K.sent c.write_out.new.out; sink_faults = K.faults c.write_out.new.out } in
     let sized : (b : List ℕ) → d.content ≡ Some b → d.size ≡ length b = λ b is. g.met.S.Dev.Device.told_size dev b is in
     let none : is_out c.args.image.now old.opened ≡ true → ⊥ = c.requires c.args.image.now in
     let files1 : S.files c.read_trace_file.new.store ≡ old.files = c.in-Ok.ensures.files in
@@ -54,8 +54,8 @@ returns-in-Err-made-clause-ended g c =
     let back = c.make_run-made.result.1 in
     let d : DeviceSeen = seen_device D dev in
     let n : DeviceSeen = seen_device D back in
-    let old : Outside = record { files = S.files c.args.store.now; opened = S.opened c.args.store.now; store_faults = S.faults c.args.store.now; sent = K.sent c.args.out.now; sink_faults = K.faults c.args.out.now } in
-    let new : Outside = record { files = S.files c.give_back.new.self; opened = S.opened c.give_back.new.self; store_faults = S.faults c.give_back.new.self; sent = K.sent c.args.out.now; sink_faults = K.faults c.args.out.now } in
+    let old : Outside = record { files = S.files c.args.store.now; opened = S.opened c.args.store.now; store_faults = S.faults c.args.store.now; failed_file = S.failed_file c.args.store.now; sent = K.sent c.args.out.now; sink_faults = K.faults c.args.out.now } in
+    let new : Outside = record { files = S.files c.give_back.new.self; opened = S.opened c.give_back.new.self; store_faults = S.faults c.give_back.new.self; failed_file = S.failed_file c.give_back.new.self; sent = K.sent c.args.out.now; sink_faults = K.faults c.args.out.now } in
     let sized : (b : List ℕ) → d.content ≡ Some b → d.size ≡ length b = λ b is. g.met.S.Dev.Device.told_size dev b is in
     let none : is_out c.args.image.now old.opened ≡ true → ⊥ = c.requires c.args.image.now in
     let files1 : S.files c.read_trace_file.new.store ≡ old.files = c.in-Ok.ensures.files in

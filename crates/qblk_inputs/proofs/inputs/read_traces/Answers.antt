@@ -4,10 +4,10 @@ use Rattle.std.proofs.lemmas.List.{map-append}
 use Rattle.trace_codec.specs.declared.wish.Wish.{Wish}
 use Rattle.qblk_inputs.specs.Words.{Player, texts_in, player_of}
 use Rattle.qblk_inputs.specs.Inputs.{IsRefusedTrace, IsTraceFlaw}
-use Rattle.qblk_inputs.specs.Reading.{OfFile, OfTraces}
-use Rattle.qblk_inputs.proofs.Stops.{stops_more}
+use Rattle.qblk_inputs.specs.Reading.{OfFile, OfTraces, OnFile, OnTraces}
+use Rattle.qblk_inputs.proofs.Stops.{stops_more, stops_on_more}
 use Rattle.qblk_inputs.proofs.PlayerWords.{players_from, players_none}
-use Rattle.qblk_inputs.proofs.TraceLists.{IsAhead, ahead-next, ahead-end, ahead-stops}
+use Rattle.qblk_inputs.proofs.TraceLists.{IsAhead, ahead-next, ahead-end, ahead-stops, ahead-fails}
 use Rattle.qblk_inputs.proofs.inputs.read_traces.Goals as goal
 
 pub loop-word-preserved : goal.loop-word-preserved
@@ -31,6 +31,7 @@ loop-word-preserved g c =
       files = c.in-Ok.ensures.files ∙ invariant.files;
       opened = c.in-Ok.ensures.opened ∙ invariant.opened;
       room = c.in-Ok.ensures.room ∙ invariant.room;
+      last = c.in-Ok.ensures.last ∙ invariant.last;
       quiet = c.in-Ok.ensures.quiet ∙ invariant.quiet;
     }
 
@@ -56,3 +57,18 @@ returns-in-Err-clause-stop g c =
     stops_more (OfFile files (player_of w.bytes).trace IsTraceFlaw (IsRefusedTrace c.loop-word.asked)) (OfTraces files players) (g.S.Store.faults c.args.store.now)
     (g.S.Store.faults c.read_trace.new.store) c.in-Err.stop
     (λ name why line bad. ahead-stops files players c.loop-word.asked (player_of w.bytes) rest (map (λ t. t.items) c.loop-word.traces.items) name why line ahead bad) here
+
+pub returns-in-Err-clause-file : goal.returns-in-Err-clause-file
+returns-in-Err-clause-file g c =
+    let files = g.S.Store.files c.args.store.now in
+    let players = map player_of (texts_in c.args.players.now) in
+    let w = c.word-item.result in
+    let invariant = c.loop-word.invariant in
+    let rest = map player_of (texts_in (drop (c.loop-word.word-index + 1) c.args.players.now)) in
+    let P : List Player → Type 0 = λ left. IsAhead files players c.loop-word.asked left (map (λ t. t.items) c.loop-word.traces.items) in
+    let ahead = subst P (players_from c.args.players.now c.loop-word.word-index w (omega arith) c.word-item.is) invariant.ahead in
+    let trace : c.player_of.result.1.now ≡ (player_of w.bytes).trace = c.player_of.ensures.trace ∙ ap (λ (bs : List ℕ). (player_of bs).trace) c.as_str.ensures in
+    let here = rw (trace, invariant.files, invariant.last) at c.in-Err.ensures.file in
+    stops_on_more (OnFile files (player_of w.bytes).trace) (OnTraces files players) (g.S.Store.failed_file c.args.store.now)
+    (g.S.Store.failed_file c.read_trace.new.store) c.in-Err.stop
+    (λ name bad. ahead-fails files players c.loop-word.asked (player_of w.bytes) rest (map (λ t. t.items) c.loop-word.traces.items) name ahead bad) here

@@ -3,7 +3,7 @@ use Rattle.std.specs.Prelude.{map}
 use Rattle.std.proofs.lemmas.List.{map-append}
 use Rattle.trace_codec.specs.declared.wish.Wish.{Wish}
 use Rattle.qblk_inputs.specs.Room.{IsRoomFor}
-use Rattle.qblk_inputs.proofs.Rooms.{take_next, room_next}
+use Rattle.qblk_inputs.proofs.Rooms.{take_next, room_next, room_none}
 use Rattle.qblk_inputs.proofs.room.room_for.Goals as goal
 
 pub loop-wishes-preserved : goal.loop-wishes-preserved
@@ -18,3 +18,9 @@ loop-wishes-preserved c =
     subst P (sym more)
     (room_next c.args.lines c.loop-wishes.room c.in_ok-room.room done t.items c.loop-wishes.invariant (rw c.as_slice.ensures.value at c.in_ok-room.ensures.entries)
     (rw c.as_slice.ensures.value at c.in_ok-room.ensures.bytes) (rw c.as_slice.ensures.value at c.in_ok-room.ensures.numbers))
+
+pub returns-in_err-room-clause-none : goal.returns-in_err-room-clause-none
+returns-in_err-room-clause-none c =
+    rw c.from_residual.ensures (λ can.
+    room_none (λ t. t.items) c.args.lines c.loop-wishes.room c.args.traces.now c.loop-wishes.wishes-index c.wishes-item.result (omega arith) c.wishes-item.is
+    c.loop-wishes.invariant (rw c.as_slice.ensures.value at c.in_err-room.ensures.none) can)
