@@ -3,8 +3,10 @@ use Rattle.std.proofs.Common.{◌≡◌, ◌⊎◌, ℕ, ◌==◌, Bool, true, f
 use Rattle.std.specs.Prelude.{IfSome}
 use Rattle.std.proofs.lemmas.Bool.{eqb-true}
 use Rattle.std.proofs.lemmas.Option.{same_Some, slice_get_within}
+use Rattle.blk_base.specs.Calls.{FailsReading}
 use Rattle.blk_base.specs.Device.{CountsFault}
 use Rattle.blk_base.specs.Files.{is_out}
+use Rattle.blk_base.specs.declared.device.DeviceCall.{DeviceCall}
 use Rattle.blk_base.specs.declared.fault.DevNo.{DevNo}
 use Rattle.blk_base.specs.declared.fault.FaultAt.{FaultAt}
 use Rattle.blk_base.specs.declared.fault.FaultFrom.{FaultFrom}
@@ -60,17 +62,18 @@ use Rattle.blk_world.proofs.PieceFits.{same_in}
 
 -- ---- stops of images
 
--- a read failed, or the count stands
-caused-or : (before now : ℕ) (cause : ImageStop) → CountsFault (fault_in_image cause) before now → ((n : ℕ) × (cause ≡ stop.Io n)) ⊎ (now ≡ before)
-caused-or before now (stop.Io n) caused = inl (n, refl)
-caused-or before now (stop.Header why) caused = inr caused
-caused-or before now (stop.Offset offset) caused = inr caused
-caused-or before now (stop.Reserved table index) caused = inr caused
-caused-or before now (stop.Compressed cluster) caused = inr caused
-caused-or before now (stop.Overlap cluster) caused = inr caused
-caused-or before now (stop.Refcount cluster) caused = inr caused
-caused-or before now stop.HeaderFull caused = inr caused
-caused-or before now stop.NoMemory caused = inr caused
+-- a read failed, or the count stands, and so does which call failed last
+caused-or : (before now : ℕ) (last last_now : Option DeviceCall) (cause : ImageStop) → CountsFault (fault_in_image cause) before now
+    → FailsReading (fault_in_image cause) last last_now → ((n : ℕ) × (cause ≡ stop.Io n)) ⊎ ((now ≡ before) × (last_now ≡ last))
+caused-or before now last last_now (stop.Io n) caused call = inl (n, refl)
+caused-or before now last last_now (stop.Header why) caused call = inr (caused, call)
+caused-or before now last last_now (stop.Offset offset) caused call = inr (caused, call)
+caused-or before now last last_now (stop.Reserved table index) caused call = inr (caused, call)
+caused-or before now last last_now (stop.Compressed cluster) caused call = inr (caused, call)
+caused-or before now last last_now (stop.Overlap cluster) caused call = inr (caused, call)
+caused-or before now last last_now (stop.Refcount cluster) caused call = inr (caused, call)
+caused-or before now last last_now stop.HeaderFull caused call = inr (caused, call)
+caused-or before now last last_now stop.NoMemory caused call = inr (caused, call)
 
 kept-or : (old new : List DeviceSeen) (cause : ImageStop) → KeptBy cause old new → ((n : ℕ) × (cause ≡ stop.Io n)) ⊎ (new ≡ old)
 kept-or old new (stop.Io n) kept = inl (n, refl)
@@ -206,17 +209,20 @@ module _ (w : WorldSeen) (whole : IsWholeWorld w) (joined : IsJoined w.nodes) (c
                 (ap (λ (d : DevNo). d.0) taken.number);
           })
 
-      refused-calmly : device.faults ≡ first.faults → (is_io_refusal (unopened first.number refused.on.cause) ≡ false) → IsLookedOver w c told now out
+      refused-calmly : (device.faults ≡ first.faults) × (device.failed_call ≡ first.failed_call) → (is_io_refusal (unopened first.number refused.on.cause) ≡ false) → IsLookedOver w c told now out
       refused-calmly same quiet =
           let same_device : device ≡ first =
-          refused.on.kept ∙ ap (λ (n : ℕ). let x : Taken = record first { faults = n } in x) same in
+          refused.on.kept ∙ ap (λ (n : ℕ). let x : Taken = record first { faults = n; failed_call = device.failed_call } in x) same.0
+          ∙ ap (λ (c : Option DeviceCall). let x : Taken = record first { failed_call = c } in x) same.1 in
           calm-as (Some (record { look = look.Image; refusal = refused.why })) stops-image (ap is_io_refusal refused.on.is ∙ quiet)
           (out-as first (is ∙ ap (λ (d : Taken). Some d) same_device) taken free)
 
       refused-over : IsLookedOver w c told now out
-      refused-over = by_stop (caused-or first.faults device.faults refused.on.cause refused.on.on.cause) (unopened-of first.number refused.on.cause)
+      refused-over = by_stop
+          (caused-or first.faults device.faults first.failed_call device.failed_call refused.on.cause refused.on.on.cause refused.on.on.call)
+          (unopened-of first.number refused.on.cause)
         where
-          by_stop : ((n : ℕ) × (refused.on.cause ≡ stop.Io n)) ⊎ (device.faults ≡ first.faults)
+          by_stop : ((n : ℕ) × (refused.on.cause ≡ stop.Io n)) ⊎ ((device.faults ≡ first.faults) × (device.failed_call ≡ first.failed_call))
               → ((n : ℕ) × (refused.on.cause ≡ stop.Io n) × (unopened first.number refused.on.cause ≡ refusal.Io (Dev first.number) n))
               ⊎ (is_io_refusal (unopened first.number refused.on.cause) ≡ false) → IsLookedOver w c told now out
           by_stop (inl io) quiet = io-failed io.0 io.1

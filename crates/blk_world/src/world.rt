@@ -138,9 +138,11 @@ impl<S: Store> World<S> {
     }
 
     /// A world over a store of which no device is out, with guests that have asked for nothing yet and room for what a run
-    /// adds to its history. The store is given back where memory isn't had.
+    /// adds to its history. The store is given back where memory isn't had. Beside 16 guests that run a trace there are numbers
+    /// for 64 devices of other ids; of more, some would never have a device.
     pub fn new(alloc: Global, store: S, guests: Names1, room: Room) -> Result<Self, (NoMemory, S)>
         requires none_out { (name : List ℕ) → is_out name (S.opened store) ≡ false }
+        requires few { length guests ≤ 16 }
         ensures ok { IfOk result (λ world. world ≡ new_world
             (seen_store (S.files store) (S.opened store) (S.room store) (S.faults store)) guests
             room) }

@@ -88,7 +88,7 @@ returned-same name content limit flushed files its =
     (ap Some (put-same name its.0 files its.1))))
 
 module _ (old between : StoreInRun) (name : List ℕ) (first now : Taken) (out : IsTakenOut old between name first)
-    (same : now ≡ record first { faults = now.faults }) (inside : is_out name old.opened ≡ false) where
+    (same : now ≡ record first { faults = now.faults; failed_call = now.failed_call }) (inside : is_out name old.opened ≡ false) where
   files-back : (files : Option (List File)) → IsDeviceOf files name first.content first.capacity first.is_flushed
       → files_with_returned name first.content first.capacity first.is_flushed files ≡ files
   files-back None its = returned-untold name first.content first.capacity first.is_flushed

@@ -5,6 +5,7 @@ use Rattle.blk_base.specs.Content.{Log}
 use Rattle.blk_base.specs.Counts.{Rose}
 use Rattle.blk_base.specs.Files.{IfTold, given_back, is_out}
 use Rattle.blk_base.specs.Stored.{IsDeviceOf, files_with_returned}
+use Rattle.blk_base.specs.declared.device.DeviceCall.{DeviceCall}
 use Rattle.blk_base.specs.declared.fault.DevNo.{DevNo}
 use Rattle.blk_base.specs.declared.fault.FaultFrom.TheVariants.{Store, Dev}
 use Rattle.blk_base.specs.declared.file.Opened.{Opened}
@@ -49,6 +50,7 @@ pub record Taken : Type 0 where
   pub size : ℕ
   pub capacity : ℕ
   pub faults : ℕ
+  pub failed_call : Option DeviceCall
 
 -- the same as that of a node
 abbrev pub of_node : ℕ → Taken → DeviceSeen
@@ -61,6 +63,7 @@ of_node node device = record {
   size = device.size;
   capacity = device.capacity;
   faults = device.faults;
+  failed_call = device.failed_call;
 }
 
 -- the nodes with a `file` node over it
@@ -134,7 +137,7 @@ pub record IsNotOpenOn (old new : Taken) (why : Refusal) : Type 0 where
   pub fits : CountFits cause
   pub numbered : old.number.0 < 2 ^ 32
   pub on : IsUnopenedOn (of_node 0 old) (of_node 0 new) cause
-  pub kept : new ≡ record old { faults = new.faults }
+  pub kept : new ≡ record old { faults = new.faults; failed_call = new.failed_call }
   pub faults : old.faults ≤ new.faults
 
 -- ---- what is told of a file that was opened

@@ -50,9 +50,9 @@ AreIn t opened = (name : List ℕ) → is_unopened t name ≡ false → is_out n
 
 -- ---- what is called
 
--- a device but for its count
+-- a device but for its count, and which call failed last
 pub record IsSameButFaults (old new : Taken) : Type 0 where
-  pub same : new ≡ record old { faults = new.faults }
+  pub same : new ≡ record old { faults = new.faults; failed_call = new.failed_call }
   pub faults : old.faults ≤ new.faults
 
 -- nodes but for counts of devices

@@ -30,6 +30,7 @@ impl<D: Device> Model for Out<D> {
       size = D.size o.device;
       capacity = D.capacity o.device;
       faults = D.faults o.device;
+      failed_call = D.failed_call o.device;
     } };
 }
 

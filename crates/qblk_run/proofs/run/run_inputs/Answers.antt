@@ -7,6 +7,9 @@ use Rattle.qblk_run.specs.Run.{Setting, setting}
 use Rattle.qblk_run.proofs.Runs.{play-can, play-drains, traces-count, played-here, given-here, if-some}
 use Rattle.qblk_run.proofs.run.run_inputs.Goals as goal
 
+pub new-requires-clause-few : goal.new-requires-clause-few
+new-requires-clause-few g c = rw c.in-Ok.ensures.guests_are c.requires.few
+
 pub play-made-requires : goal.play-made-requires
 play-made-requires g c = record {
   can = play-can (seen_store (g.S.Store.files c.args.store) (g.S.Store.opened c.args.store) (g.S.Store.room c.args.store) (g.S.Store.faults c.args.store))
