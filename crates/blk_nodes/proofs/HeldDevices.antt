@@ -8,7 +8,9 @@ use Rattle.std.proofs.lemmas.List.Sums.{fails_before_first}
 use Rattle.std.proofs.lemmas.Bool.{eqb-true, ne_eqb}
 use Rattle.std.proofs.lemmas.Bool.Decides.{nat_tests}
 use Rattle.blk_graph.proofs.Members.{find-Some}
+use Rattle.blk_base.specs.Calls.{FailsReading}
 use Rattle.blk_base.specs.Device.{CountsFault}
+use Rattle.blk_base.specs.declared.device.DeviceCall.{DeviceCall}
 use Rattle.blk_base.specs.declared.fault.DevNo.{DevNo}
 use Rattle.blk_base.specs.declared.fault.Outcome.{Outcome}
 use Rattle.blk_base.specs.declared.fault.Outcome.TheVariants.{Good, Torn, Io, NoSpace}
@@ -192,22 +194,24 @@ only_at file devices at d y place same =
       others = λ other apart. others_by file devices at d y other is same apart;
     }
 
--- a read of one of the devices
-pub read_over : (file : ℕ) (devices : List DeviceSeen) (at : ℕ) (d y : DeviceSeen) (outcome : Outcome) → position (is_device_of file) devices ≡ Some at
-    → HasRisen (get_or devices at d) y → IsReadOf (get_or devices at d) y outcome → IsReadAt file devices (set devices at y) outcome
-read_over file devices at d y Good place risen is = ap (set devices at) is ∙ set-get_or devices at d
-read_over file devices at d y (Torn done dev count) place risen is = is
-read_over file devices at d y (Io dev count) place risen is =
-    let same : y.node ≡ (get_or devices at d).node = ap (λ (x : DeviceSeen). x.node) risen.same in
-    record {
-      before = get_or devices at d;
-      after = y;
-      held = at_place file devices at d place;
-      left = put_held file devices at d y place same;
-      stopped = is;
-      only = only_at file devices at d y place same;
-    }
-read_over file devices at d y (NoSpace dev) place risen is = is
+-- a call of one of the devices that reads
+pub read_over : (file : ℕ) (call : DeviceCall) (devices : List DeviceSeen) (at : ℕ) (d y : DeviceSeen) (outcome : Outcome) → position (is_device_of file) devices ≡ Some at
+    → HasRisen (get_or devices at d) y → IsReadOf call (get_or devices at d) y outcome → IsReadAt file call devices (set devices at y) outcome
+read_over file call devices at d y Good place risen is = ap (set devices at) is ∙ set-get_or devices at d
+read_over file call devices at d y (Torn done dev count) place risen is = is
+read_over file call devices at d y (Io dev count) place risen is =
+    let same : y.node ≡ (get_or devices at d).node = ap (λ (x : DeviceSeen). x.node) risen.same in (
+      record {
+        before = get_or devices at d;
+        after = y;
+        held = at_place file devices at d place;
+        left = put_held file devices at d y place same;
+        stopped = is.0;
+        only = only_at file devices at d y place same;
+      },
+      is.1,
+    )
+read_over file call devices at d y (NoSpace dev) place risen is = is
 
 -- a write of one of the devices
 pub written_over : (file : ℕ) (devices : List DeviceSeen) (at : ℕ) (d y : DeviceSeen) (start : ℕ) (bytes : List ℕ) (outcome : Outcome) → position (is_device_of file) devices ≡ Some at
@@ -243,11 +247,13 @@ opened_over file devices at d (Err stop) place is = tt
 
 -- a call that no failed read stopped has changed nothing
 kept_over : (devices : List DeviceSeen) (at : ℕ) (d y : DeviceSeen) (stop : ImageStop) → HasRisen (get_or devices at d) y
-    → CountsFault (fault_in_image stop) (get_or devices at d).faults y.faults → KeptBy stop devices (set devices at y)
-kept_over devices at d y (images.Io count) risen cause = tt
-kept_over devices at d y _ risen cause =
-    let same : y ≡ get_or devices at d =
-    risen.same ∙ ap (λ (n : ℕ). let x : DeviceSeen = record (get_or devices at d) { faults = n } in x) cause in
+    → CountsFault (fault_in_image stop) (get_or devices at d).faults y.faults
+    → FailsReading (fault_in_image stop) (get_or devices at d).failed_call y.failed_call → KeptBy stop devices (set devices at y)
+kept_over devices at d y (images.Io count) risen cause call = tt
+kept_over devices at d y _ risen cause call =
+    let x : DeviceSeen = get_or devices at d in
+    let counted : ℕ → Option DeviceCall → DeviceSeen = λ n last. record x { faults = n; failed_call = last } in
+    let same : y ≡ x = risen.same ∙ ap (λ (n : ℕ). counted n y.failed_call) cause ∙ ap (λ (last : Option DeviceCall). counted x.faults last) call in
     ap (set devices at) same ∙ set-get_or devices at d
 
 pub quiet_over : {A E : Type 0} (devices : List DeviceSeen) (at : ℕ) (d y : DeviceSeen) (result : Result A E)
@@ -265,7 +271,7 @@ unopened_over file devices at d y (Err stop) place risen is = record {
   left = put_held file devices at d y place (ap (λ (x : DeviceSeen). x.node) risen.same);
   on = is;
   only = only_at file devices at d y place (ap (λ (x : DeviceSeen). x.node) risen.same);
-  kept = kept_over devices at d y stop risen is.cause;
+  kept = kept_over devices at d y stop risen is.cause is.call;
 }
 
 -- a call of the image on one of the devices
@@ -297,7 +303,7 @@ room_over file devices at d fits outcome is room device held =
     let same : get_or devices at d ≡ device = cc (sym (at_place file devices at d is) ∙ held) in
     subst (λ (x : DeviceSeen). HasRoomBy (fits x.capacity) x outcome) same room
 
--- a device of which only the count has risen
+-- a device of which only the count has risen, and which call failed last
 pub device_risen : (old new : DeviceSeen) → HasRisen old new → IsDeviceAfter old new
 device_risen old new is = record {
   node = ap (λ (d : DeviceSeen). d.node) is.same;

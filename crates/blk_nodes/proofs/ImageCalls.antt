@@ -9,6 +9,7 @@ use Rattle.blk_base.specs.declared.fault.DevNo.{DevNo}
 use Rattle.blk_base.specs.Device.{AtEachStopOf, Untouched, Wrote}
 use Rattle.blk_base.specs.Writes.{write_of}
 use Rattle.blk_base.specs.declared.device.Device.{Ghosts}
+use Rattle.blk_base.specs.declared.device.DeviceCall.{DeviceCall}
 use Rattle.blk_base.specs.declared.device.Stop.{Stop}
 use Rattle.blk_base.specs.declared.device.Stop.TheVariants as why
 use Rattle.blk_base.specs.declared.device.WriteStop.{WriteStop}
@@ -162,18 +163,19 @@ cluster_mapped r old new cluster others made kept other mapped none = elim (case
 
 -- a device of which all that is seen stays
 pub same_state : (a b : DeviceSeen) → b.node ≡ a.node → b.number ≡ a.number → b.content ≡ a.content → b.is_flushed ≡ a.is_flushed → b.log ≡ a.log → b.size ≡ a.size
-    → b.capacity ≡ a.capacity → b.faults ≡ a.faults → b ≡ a
-same_state a b node number content flushed log size capacity faults =
-    let made : ℕ → DevNo → Option (List ℕ) → Option Bool → Option Log → ℕ → ℕ → ℕ → DeviceSeen
-    = λ n d c f l s k q. record { node = n; number = d; content = c; is_flushed = f; log = l; size = s; capacity = k; faults = q } in
-    ap (λ (n : ℕ). made n b.number b.content b.is_flushed b.log b.size b.capacity b.faults) node
-    ∙ ap (λ (d : DevNo). made a.node d b.content b.is_flushed b.log b.size b.capacity b.faults) number
-    ∙ ap (λ (c : Option (List ℕ)). made a.node a.number c b.is_flushed b.log b.size b.capacity b.faults) content
-    ∙ ap (λ (f : Option Bool). made a.node a.number a.content f b.log b.size b.capacity b.faults) flushed
-    ∙ ap (λ (l : Option Log). made a.node a.number a.content a.is_flushed l b.size b.capacity b.faults) log
-    ∙ ap (λ (s : ℕ). made a.node a.number a.content a.is_flushed a.log s b.capacity b.faults) size
-    ∙ ap (λ (k : ℕ). made a.node a.number a.content a.is_flushed a.log a.size k b.faults) capacity
-    ∙ ap (λ (q : ℕ). made a.node a.number a.content a.is_flushed a.log a.size a.capacity q) faults
+    → b.capacity ≡ a.capacity → b.faults ≡ a.faults → b.failed_call ≡ a.failed_call → b ≡ a
+same_state a b node number content flushed log size capacity faults call =
+    let made : ℕ → DevNo → Option (List ℕ) → Option Bool → Option Log → ℕ → ℕ → ℕ → Option DeviceCall → DeviceSeen
+    = λ n d c f l s k q w. record { node = n; number = d; content = c; is_flushed = f; log = l; size = s; capacity = k; faults = q; failed_call = w } in
+    ap (λ (n : ℕ). made n b.number b.content b.is_flushed b.log b.size b.capacity b.faults b.failed_call) node
+    ∙ ap (λ (d : DevNo). made a.node d b.content b.is_flushed b.log b.size b.capacity b.faults b.failed_call) number
+    ∙ ap (λ (c : Option (List ℕ)). made a.node a.number c b.is_flushed b.log b.size b.capacity b.faults b.failed_call) content
+    ∙ ap (λ (f : Option Bool). made a.node a.number a.content f b.log b.size b.capacity b.faults b.failed_call) flushed
+    ∙ ap (λ (l : Option Log). made a.node a.number a.content a.is_flushed l b.size b.capacity b.faults b.failed_call) log
+    ∙ ap (λ (s : ℕ). made a.node a.number a.content a.is_flushed a.log s b.capacity b.faults b.failed_call) size
+    ∙ ap (λ (k : ℕ). made a.node a.number a.content a.is_flushed a.log a.size k b.faults b.failed_call) capacity
+    ∙ ap (λ (q : ℕ). made a.node a.number a.content a.is_flushed a.log a.size a.capacity q b.failed_call) faults
+    ∙ ap (λ (w : Option DeviceCall). made a.node a.number a.content a.is_flushed a.log a.size a.capacity a.faults w) call
 
 -- A device in its place, as it is seen.
 abbrev pub state_of : {D : Type 0} → Ghosts D → ℕ → DevNo → D → DeviceSeen
@@ -186,6 +188,7 @@ state_of g node number device = record {
   size = g.size device;
   capacity = g.capacity device;
   faults = g.faults device;
+  failed_call = g.failed_call device;
 }
 
 module _ {D : Type 0} (g : Ghosts D) (node : ℕ) (number : DevNo) (before now : D) where
@@ -214,13 +217,14 @@ module _ {D : Type 0} (g : Ghosts D) (node : ℕ) (number : DevNo) (before now :
       part = is.writes.part;
       wrote = wrote_seen is.writes.made is.writes.wrote;
       cause = is.writes.cause;
+      call = is.writes.call;
     };
     known = is.known;
   }
 
-  untouched_seen : Untouched g before now → last_state ≡ first_state
+  pub untouched_seen : Untouched g before now → last_state ≡ first_state
   untouched_seen is =
-      same_state first_state last_state refl refl is.reads.content is.reads.flushed is.reads.log is.reads.size is.reads.capacity is.cause
+      same_state first_state last_state refl refl is.reads.content is.reads.flushed is.reads.log is.reads.size is.reads.capacity is.cause is.call
 
   -- a call of a whole cluster
   pub cluster_change : (image left : Known) (steps : List WriteStep) (place : ℕ) (bytes : List ℕ) (IsMade : Known → Type 0) (r : Result (Unit {0}) DevStop)
@@ -235,8 +239,8 @@ module _ {D : Type 0} (g : Ghosts D) (node : ℕ) (number : DevNo) (before now :
 
   own_seen : (image left : Known) (span : Extent) (bytes : List ℕ) → WroteOwn g image left span bytes before now
       → WroteOwn seen image left span bytes first_state last_state
-  own_seen image left span bytes (inl is) = inl (is.0, wrote_seen (own_writes image span bytes) is.1)
-  own_seen image left span bytes (inr is) = inr (is.0, is.1, is.2, wrote_seen (write_of 88 [] ∷ []) is.3)
+  own_seen image left span bytes (inl is) = inl (is.0, wrote_seen (own_writes image span bytes) is.1, is.2)
+  own_seen image left span bytes (inr is) = inr (is.0, is.1, is.2, wrote_seen (write_of 88 [] ∷ []) is.3, is.4)
 
   -- and one in place, that was made
   pub own_made : (image left : Known) (span : Extent) (bytes : List ℕ) → WroteOwn g image left span bytes before now

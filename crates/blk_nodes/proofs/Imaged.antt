@@ -151,15 +151,16 @@ module _ (nodes : Nodes) (joined : IsJoined nodes) (part : Part) (may : MayWrite
     read_is : new ≡ read
     read_is = let with_rows : List (Option Row) → Nodes = λ rs. record nodes { rows = rs; devices = devices } in ap with_rows s.rows_same
 
-    at_place : IsReadOfSource (source_at nodes node part.whole.start) nodes.devices devices (Io s.dev s.count)
+    at_place : IsReadOfSource nodes.rows (source_at nodes node part.whole.start) part.whole nodes.devices devices (Io s.dev s.count)
     at_place =
-        let at_source : IsReadOfSource part.source nodes.devices devices (Io s.dev s.count) = subst (IsReadOfSource part.source nodes.devices devices) s.is s.read in
-        subst (λ (source : Source). IsReadOfSource source nodes.devices devices (Io s.dev s.count)) (sym source_is) at_source
+        let at_source : IsReadOfSource nodes.rows part.source part.whole nodes.devices devices (Io s.dev s.count)
+        = subst (IsReadOfSource nodes.rows part.source part.whole nodes.devices devices) s.is s.read in
+        subst (λ (source : Source). IsReadOfSource nodes.rows source part.whole nodes.devices devices (Io s.dev s.count)) (sym source_is) at_source
 
     -- the image's own file isn't read
     own_stays : device_in devices part.file ≡ device_in nodes.devices part.file
     own_stays =
-        read_beside part.file nodes.devices devices s.dev s.count (source_at nodes node part.whole.start)
+        read_beside part.file nodes.rows nodes.devices devices s.dev s.count (source_at nodes node part.whole.start) part.whole
         (rest_beside nodes node part.whole.start w.row w.image w.there w.driver (bare s.nowhere s.less) part.file (λ over is. over_apart over part.file is edge)) at_place
 
     stopped_row : Changed w.image
@@ -183,7 +184,7 @@ module _ (nodes : Nodes) (joined : IsJoined nodes) (part : Part) (may : MayWrite
         let same_device : was.0 ≡ s.device = cc (sym was.1 ∙ s.held) in
         let begins : rest ≡ Some part.whole.start = rest_begins nodes.rows nodes.devices part w.image is_piece s.less (own w.image) s.nowhere in
         let is_read : IsRestRead rest nodes new node (Io s.dev s.count)
-        = subst (λ (r : Option ℕ). IsRestRead r nodes new node (Io s.dev s.count)) (sym begins) at_place in
+        = subst (λ (r : Option ℕ). IsRestRead r nodes new node (Io s.dev s.count)) (sym begins) (part.whole, refl, at_place) in
         record {
           file = part.file;
           edge = edge;

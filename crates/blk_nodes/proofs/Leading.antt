@@ -1,11 +1,15 @@
 -- Where the edges lead down a chain.
 use Rattle.std.proofs.Common.{◌≡◌, ℕ, zero, suc, List, Option, Some, None, refl, sym, ap, subst, inl, inr}
+use Rattle.blk_base.specs.Pieces.{Extent}
+use Rattle.blk_base.specs.declared.device.DeviceCall.{DeviceCall}
+use Rattle.blk_base.specs.declared.device.DeviceCall.TheVariants.{Read}
 use Rattle.blk_base.specs.declared.fault.DevNo.{DevNo}
 use Rattle.blk_base.specs.declared.fault.Outcome.{Outcome}
 use Rattle.blk_base.specs.declared.fault.Outcome.TheVariants.{Good, Torn, Io, NoSpace}
 use Rattle.q2_format.specs.declared.entries.L2Entry.{L2Entry}
 use Rattle.q2_format.specs.declared.entries.L2Entry.TheVariants as entries
 use Rattle.q2_image.specs.Image.{entry_in}
+use Rattle.q2_image.specs.Writing.{own_place}
 use Rattle.blk_graph.specs.Edits.{child_of}
 use Rattle.blk_graph.specs.Paths.{Reaches}
 use Rattle.blk_graph.specs.declared.edge.Edge.{Edge}
@@ -69,26 +73,21 @@ step_leads edges node place (Qcow2 image) = entry_leads edges node (entry_in ima
 step_leads edges node place CopyOnRead = below_leads edges node FileRole (child_of (Node node) FileRole edges) refl
 
 -- a read of what a node leads to
-module _ (old : Nodes) (devices : List DeviceSeen) (node file : ℕ) (leads : LeadsTo old.graph.edges node file) where
-  pub read_at_below : (outcome : Outcome) → IsReadAt file old.devices devices outcome → IsReadBelow old (record old { devices = devices }) node outcome
+module _ (old : Nodes) (devices : List DeviceSeen) (node file : ℕ) (call : DeviceCall) (leads : LeadsTo old.graph.edges node file) where
+  pub read_at_below : (outcome : Outcome) → IsReadAt file call old.devices devices outcome → IsReadBelow old (record old { devices = devices }) node outcome
   read_at_below Good is = ap (λ (ds : List DeviceSeen). let now : Nodes = record old { devices = ds } in now) is
   read_at_below (Torn done dev count) is = is
-  read_at_below (Io dev count) is = record { file = file; leads = leads; stopped = is }
+  read_at_below (Io dev count) is = record { file = file; leads = leads; stopped = is.0 }
   read_at_below (NoSpace dev) is = is
 
-pub read_below : (old : Nodes) (devices : List DeviceSeen) (node : ℕ) (source : Source) (outcome : Outcome) → LeadsToSource old.graph.edges node source
-    → IsReadOfSource source old.devices devices outcome → IsReadBelow old (record old { devices = devices }) node outcome
-read_below old devices node sources.Zeros outcome leads is =
+pub read_below : (old : Nodes) (devices : List DeviceSeen) (node : ℕ) (source : Source) (span : Extent) (outcome : Outcome) → LeadsToSource old.graph.edges node source
+    → IsReadOfSource old.rows source span old.devices devices outcome → IsReadBelow old (record old { devices = devices }) node outcome
+read_below old devices node sources.Zeros span outcome leads is =
     let same : record old { devices = devices } ≡ old = ap (λ (ds : List DeviceSeen). let now : Nodes = record old { devices = ds } in now) is.1 in
     subst (IsReadBelow old (record old { devices = devices }) node) (sym is.0) same
-read_below old devices node (sources.File file start) outcome leads is = read_at_below old devices node file leads outcome is
-read_below old devices node (sources.Image at file) outcome leads is = read_at_below old devices node file leads outcome is
-
--- a read of nothing
-pub unread : (source : Source) (devices : List DeviceSeen) → IsReadOfSource source devices devices Good
-unread sources.Zeros devices = (refl, refl)
-unread (sources.File file start) devices = refl
-unread (sources.Image at file) devices = refl
+read_below old devices node (sources.File file start) span outcome leads is = read_at_below old devices node file (Read start span.len) leads outcome is
+read_below old devices node (sources.Image at file) span outcome leads is =
+    read_at_below old devices node file (Read (own_place is.image span) span.len) leads outcome is.read
 
 -- ---- where the bytes of a node stand
 
@@ -119,15 +118,15 @@ source_leads nodes node place = source_in_leads nodes 64 node place
 -- ---- a piece of an image that was stopped before its first byte
 
 module _ (old new : Nodes) (node : ℕ) (dev : DevNo) (count : ℕ) where
-  stopped_source : (source : Source) → LeadsToSource old.graph.edges node source → IsReadOfSource source old.devices new.devices (Io dev count)
+  stopped_source : (source : Source) (span : Extent) → LeadsToSource old.graph.edges node source → IsReadOfSource old.rows source span old.devices new.devices (Io dev count)
       → StoppedBelow old new node dev count
-  stopped_source sources.Zeros leads is = absurd (let bad : ⊥ = cc is.0 in bad)
-  stopped_source (sources.File file start) leads is = record { file = file; leads = leads; stopped = is }
-  stopped_source (sources.Image at file) leads is = record { file = file; leads = leads; stopped = is }
+  stopped_source sources.Zeros span leads is = absurd (let bad : ⊥ = cc is.0 in bad)
+  stopped_source (sources.File file start) span leads is = record { file = file; leads = leads; stopped = is.0 }
+  stopped_source (sources.Image at file) span leads is = record { file = file; leads = leads; stopped = is.read.0 }
 
   stopped_rest : (rest : Option ℕ) → IsRestRead rest old new node (Io dev count) → StoppedBelow old new node dev count
   stopped_rest None is = absurd is
-  stopped_rest (Some start) is = stopped_source (source_at old node start) (source_leads old node start) is
+  stopped_rest (Some start) is = stopped_source (source_at old node start) is.0 (source_leads old node start) is.2
 
   -- a device that the node leads to stopped it
   pub stopped_piece : (fits : ℕ → Type 0) (own rest : Option ℕ) (n : ℕ) (outcome : Outcome) (wrote : WritesImage fits own rest old new node n outcome)

@@ -289,7 +289,7 @@ module _ (old : Nodes) (images : List ℕ) (node : ℕ) (span : Extent) (room : 
   room_for_all good = subst (IsRoomInEach images old span) good has
 
 pub read_stopped_unread : (old new : Nodes) (node : ℕ) (span : Extent) (outcome : Outcome) → (outcome ≡ Good → ⊥) → IsReadBelow old new node outcome
-    → IsReadOfSource (source_at old node span.start) old.devices new.devices outcome → new ≡ record old { devices = new.devices } → HaveRisen old.devices new.devices
+    → IsReadOfSource old.rows (source_at old node span.start) span old.devices new.devices outcome → new ≡ record old { devices = new.devices } → HaveRisen old.devices new.devices
     → StopsUnread old new node span outcome
 read_stopped_unread old new node span outcome bad read source kept risen = by outcome refl read
   where

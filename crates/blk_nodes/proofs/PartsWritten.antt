@@ -5,6 +5,7 @@ use Rattle.std.proofs.lemmas.List.{get_or-drop, get_or-replicate, get_or-take, g
 use Rattle.blk_base.proofs.Contents.{bytes_at-by_place, get_or-bytes_at, get_or-with_bytes_inside, get_or-with_bytes_outside, length-overwritten, overwritten-within}
 use Rattle.blk_base.specs.Content.{bytes_at, with_bytes}
 use Rattle.blk_base.specs.Pieces.{Extent, block_size}
+use Rattle.blk_base.specs.declared.device.DeviceCall.TheVariants.{Read}
 use Rattle.blk_base.specs.declared.fault.DevNo.{DevNo}
 use Rattle.blk_base.specs.declared.fault.Outcome.{Outcome}
 use Rattle.blk_base.specs.declared.fault.Outcome.TheVariants.{Good, Torn, Io, NoSpace}
@@ -619,14 +620,15 @@ good_is (Torn done dev count) is = absurd (cc is)
 good_is (Io dev count) is = absurd (cc is)
 good_is (NoSpace dev) is = absurd (cc is)
 
-pub source_good : (source : Source) (old new : List DeviceSeen) (o : Outcome) → o ≡ Good → IsReadOfSource source old new o → new ≡ old
-source_good sources.Zeros old new o good read = read.1
-source_good (sources.File file start) old new o good read = subst (IsReadAt file old new) good read
-source_good (sources.Image node file) old new o good read = subst (IsReadAt file old new) good read
+pub source_good : (rows : List (Option Row)) (source : Source) (span : Extent) (old new : List DeviceSeen) (o : Outcome) → o ≡ Good → IsReadOfSource rows source span old new o → new ≡ old
+source_good rows sources.Zeros span old new o good read = read.1
+source_good rows (sources.File file start) span old new o good read = subst (IsReadAt file (Read start span.len) old new) good read
+source_good rows (sources.Image node file) span old new o good read =
+    subst (IsReadAt file (Read (own_place read.image span) span.len) old new) good read.read
 
-good_read : (part : Part) (old new : List DeviceSeen) (o : Outcome) → o ≡ Good → ReadsRest part old new o → new ≡ old
-good_read part old new o good (inl read) = source_good part.source old new o good read.1
-good_read part old new o good (inr both) = both.1
+good_read : (rows : List (Option Row)) (part : Part) (old new : List DeviceSeen) (o : Outcome) → o ≡ Good → ReadsRest rows part old new o → new ≡ old
+good_read rows part old new o good (inl read) = source_good rows part.source part.whole old new o good read.1
+good_read rows part old new o good (inr both) = both.1
 
 fits_by : (file : ℕ) (devices : List DeviceSeen) (fits : ℕ → Type 0) (room : Outcome) → room ≡ Good → HasRoomAt file devices fits room → FitsAt file devices fits
 fits_by file devices fits room good has device held = subst (HasRoomBy (fits device.capacity) device) good (has device held)
@@ -634,12 +636,12 @@ fits_by file devices fits room good has device held = subst (HasRoomBy (fits dev
 pub put_asks : (rows : List (Option Row)) (old mid : List DeviceSeen) (part : Part) (cluster : List ℕ) (room read : Outcome) → HasPiece rows old part → (index : ℕ) (first found : Option Row)
     → index ≡ part.node → index < length rows → first ≡ get_or rows index first → found ≡ get_or rows index found
     → OfImage first (λ image. HasRoomAt part.file old (PutFits image (part.span.start / 65536)) room) → is_good room ≡ true → is_good read ≡ true
-    → ReadsRest part old mid read
+    → ReadsRest rows part old mid read
     → length cluster ≡ 65536
     → OfImage found (λ image. (length cluster ≡ cluster_size_in image) × (part.span.start / 65536 < clusters_in image) × IsKnownAt part.file mid image
     × FitsAt part.file mid (PutFits image (part.span.start / 65536)))
 put_asks rows old mid part cluster room read has index first found same below is_first is fits room_good read_good outcome whole =
-    let stays : mid ≡ old = good_read part old mid read (good_is read read_good) outcome in
+    let stays : mid ≡ old = good_read rows part old mid read (good_is read read_good) outcome in
     let Q : Known → Type 0 = λ image. (length cluster ≡ cluster_size_in image) × (part.span.start / 65536 < clusters_in image) × IsKnownAt part.file old image × FitsAt part.file old (PutFits image (part.span.start / 65536)) in
     let R : List DeviceSeen → Type 0
     = λ devices. OfImage found (λ image. (length cluster ≡ cluster_size_in image) × (part.span.start / 65536 < clusters_in image) × IsKnownAt part.file devices image
@@ -658,20 +660,21 @@ put_asks rows old mid part cluster room read has index first found same below is
     ))
 
 -- where the read of the rest of the cluster was stopped
-no_torn : (source : Source) (old new : List DeviceSeen) (done : ℕ) (dev : DevNo) (count : ℕ) → IsReadOfSource source old new (Torn done dev count) → ⊥
-no_torn sources.Zeros old new done dev count is = cc is.0
-no_torn (sources.File file start) old new done dev count is = is
-no_torn (sources.Image node file) old new done dev count is = is
+no_torn : (rows : List (Option Row)) (source : Source) (span : Extent) (old new : List DeviceSeen) (done : ℕ) (dev : DevNo) (count : ℕ)
+    → IsReadOfSource rows source span old new (Torn done dev count) → ⊥
+no_torn rows sources.Zeros span old new done dev count is = cc is.0
+no_torn rows (sources.File file start) span old new done dev count is = is
+no_torn rows (sources.Image node file) span old new done dev count is = is.read
 
-no_space : (source : Source) (old new : List DeviceSeen) (dev : DevNo) → IsReadOfSource source old new (NoSpace dev) → ⊥
-no_space sources.Zeros old new dev is = cc is.0
-no_space (sources.File file start) old new dev is = is
-no_space (sources.Image node file) old new dev is = is
+no_space : (rows : List (Option Row)) (source : Source) (span : Extent) (old new : List DeviceSeen) (dev : DevNo) → IsReadOfSource rows source span old new (NoSpace dev) → ⊥
+no_space rows sources.Zeros span old new dev is = cc is.0
+no_space rows (sources.File file start) span old new dev is = is
+no_space rows (sources.Image node file) span old new dev is = is.read
 
 pub read_stopped : (rows : List (Option Row)) (old mid : List DeviceSeen) (part : Part) (bytes : List ℕ) (room read : Outcome) → HasPiece rows old part → (index : ℕ) (first : Option Row)
     → index ≡ part.node → index < length rows → first ≡ get_or rows index first
     → OfImage first (λ image. HasRoomAt part.file old (PutFits image (part.span.start / 65536)) room) → is_good room ≡ true → is_good read ≡ false
-    → ReadsRest part old mid read → HaveRisen old mid
+    → ReadsRest rows part old mid read → HaveRisen old mid
     → WritesPart (λ image. PutFits image (cluster_of image part.span)) (λ _. None) (ChangesAround (IsDiskFound old part) part.span bytes) rows rows old mid part bytes read
 read_stopped rows old mid part bytes room read has index first same below is_first fits room_good read_bad outcome risen = by read refl read_bad outcome
   where
@@ -687,12 +690,12 @@ read_stopped rows old mid part bytes room read has index first same below is_fir
     device : (device : DeviceSeen) × (device_in old part.file ≡ Some device)
     device = some_device (device_in old part.file) row.4.held
 
-    by : (o : Outcome) → read ≡ o → is_good o ≡ false → ReadsRest part old mid o
+    by : (o : Outcome) → read ≡ o → is_good o ≡ false → ReadsRest rows part old mid o
         → WritesPart (λ image. PutFits image (cluster_of image part.span)) (λ _. None) (ChangesAround (IsDiskFound old part) part.span bytes) rows rows old mid part bytes read
     by Good is bad outcome = absurd (cc bad)
-    by (Torn done dev count) is bad (inl at) = absurd (no_torn part.source old mid done dev count at.1)
+    by (Torn done dev count) is bad (inl at) = absurd (no_torn rows part.source part.whole old mid done dev count at.1)
     by (Torn done dev count) is bad (inr good) = absurd (cc good.0)
-    by (NoSpace dev) is bad (inl at) = absurd (no_space part.source old mid dev at.1)
+    by (NoSpace dev) is bad (inl at) = absurd (no_space rows part.source part.whole old mid dev at.1)
     by (NoSpace dev) is bad (inr good) = absurd (cc good.0)
     by (Io dev count) is bad (inr good) = absurd (cc good.0)
     by (Io dev count) is bad (inl at) = record {
@@ -710,7 +713,7 @@ read_stopped rows old mid part bytes room read has index first same below is_fir
             (fits_by part.file old (PutFits row.1 (part.span.start / 65536)) room (good_is room room_good) room_of device.0 device.1);
         nowhere = refl;
         less = at.0;
-        read = subst (IsReadOfSource part.source old mid) (sym is) at.1;
+        read = subst (IsReadOfSource rows part.source part.whole old mid) (sym is) at.1;
         risen = risen;
         rows_same = refl;
         changed = subst (λ (o : Outcome). ChangesAround (IsDiskFound old part) part.span bytes row.1 row.1 device.0 device.0 o) (sym is) (inr (refl, refl));
@@ -721,13 +724,13 @@ pub put_at : (rows : List (Option Row)) (old mid new : List DeviceSeen) (part : 
     → (index : ℕ) (found : Option Row) → index ≡ part.node → index < length rows → found ≡ get_or rows index found
     → CallsRow part.file (λ image. PutFits image (part.span.start / 65536)) (λ _. None) (PutsCluster (part.span.start / 65536) cluster) found slot mid new
     (λ image. part.span.start / 65536 * cluster_size_in image) (λ _. cluster) outcome
-    → length bytes ≡ part.span.len → cluster ≡ gathered_in → is_good read ≡ true → ReadsRest part old mid read
+    → length bytes ≡ part.span.len → cluster ≡ gathered_in → is_good read ≡ true → ReadsRest rows part old mid read
     → (AreTold old → read ≡ Good → HasFound part.whole.len (part.span.start % 65536) bytes (found_bytes old part.source part.whole.start part.whole.len) gathered_in)
     → (read ≡ Good → IsLaid 65536 part.whole.len (part.span.start % 65536) bytes gathered_in)
     → WritesPart (λ image. PutFits image (cluster_of image part.span)) (λ _. None) (ChangesAround (IsDiskFound old part) part.span bytes) rows (set rows index slot) old new part bytes outcome
 put_at rows old mid new part bytes cluster gathered_in read outcome slot has index found same below is call len is_cluster read_good read_is gathered holds =
     let good : read ≡ Good = good_is read read_good in
-    let stays : mid ≡ old = good_read part old mid read good read_is in
+    let stays : mid ≡ old = good_read rows part old mid read good read_is in
     let found_is : row_in rows part.node ≡ found = row_found rows index part.node found same below is in
     let number : ℕ = part.span.start / 65536 in
     let P : Option Row → Type 0 = λ f. CallsRow part.file (λ image. PutFits image number) (λ _. None) (PutsCluster number cluster) f slot mid new

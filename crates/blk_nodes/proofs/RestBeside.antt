@@ -1,5 +1,6 @@
 -- The rest of a cluster that isn't mapped is read through the backing node, and so never from the image's own file.
 use Rattle.std.proofs.Common.{◌≡◌, ◌≢◌, ℕ, zero, suc, ◌/◌, List, Option, Some, None, refl, sym, ◌∙◌, ap, subst}
+use Rattle.blk_base.specs.Pieces.{Extent}
 use Rattle.blk_base.specs.declared.fault.DevNo.{DevNo}
 use Rattle.blk_base.specs.declared.fault.Outcome.TheVariants.{Io}
 use Rattle.q2_format.specs.declared.entries.L2Entry.{L2Entry}
@@ -27,11 +28,11 @@ IsBeside file (sources.File other start) = other ≢ file
 IsBeside file (sources.Image node other) = other ≢ file
 
 -- their read leaves its device
-pub read_beside : (file : ℕ) (old new : List DeviceSeen) (dev : DevNo) (count : ℕ) (source : Source) → IsBeside file source → IsReadOfSource source old new (Io dev count)
-    → device_in new file ≡ device_in old file
-read_beside file old new dev count sources.Zeros beside is = absurd (let bad : ⊥ = cc is.0 in bad)
-read_beside file old new dev count (sources.File other start) beside is = is.only.others file (λ same. beside (sym same))
-read_beside file old new dev count (sources.Image node other) beside is = is.only.others file (λ same. beside (sym same))
+pub read_beside : (file : ℕ) (rows : List (Option Row)) (old new : List DeviceSeen) (dev : DevNo) (count : ℕ) (source : Source) (span : Extent) → IsBeside file source
+    → IsReadOfSource rows source span old new (Io dev count) → device_in new file ≡ device_in old file
+read_beside file rows old new dev count sources.Zeros span beside is = absurd (let bad : ⊥ = cc is.0 in bad)
+read_beside file rows old new dev count (sources.File other start) span beside is = is.0.only.others file (λ same. beside (sym same))
+read_beside file rows old new dev count (sources.Image node other) span beside is = is.read.0.only.others file (λ same. beside (sym same))
 
 led_beside : (edges : List Edge) (over file : ℕ) (source : Source) → LeadsToSource edges over source → (LeadsTo edges over file → ⊥) → IsBeside file source
 led_beside edges over file sources.Zeros leads none = tt

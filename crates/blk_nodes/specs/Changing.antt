@@ -31,6 +31,7 @@ seen = record {
   size = λ device. device.size;
   capacity = λ device. device.capacity;
   faults = λ device. device.faults;
+  failed_call = λ device. device.failed_call;
 }
 
 -- how an image and its device change: what is known of the one, before and after, what is seen of the other, and how it went

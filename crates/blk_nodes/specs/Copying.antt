@@ -144,7 +144,8 @@ pub record StopsUnread (old new : Nodes) (node : ℕ) (span : Extent) (outcome :
   pub count : ℕ
   pub is : outcome ≡ Io dev count
   pub stopped : StoppedBelow old new node dev count
-  pub source : IsReadOfSource (source_at old node span.start) old.devices new.devices outcome
+  pub source : IsReadOfSource old.rows (source_at old node span.start) span old.devices
+      new.devices outcome
   pub kept : new ≡ record old { devices = new.devices }
   pub devices : HaveRisen old.devices new.devices
 

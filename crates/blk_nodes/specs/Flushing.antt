@@ -1,6 +1,9 @@
 -- What a flush of a node leaves and answers.
-use Rattle.std.specs.Prelude.{◌≡◌, ℕ, ◌≤◌, zero, suc, ◌||◌, List, Some, None, option_map}
+use Rattle.std.specs.Prelude.{◌≡◌, ℕ, ◌≤◌, zero, suc, ◌||◌, List, Option, Some, None, option_map}
+use Rattle.blk_base.specs.Calls.{FailedLast}
 use Rattle.blk_base.specs.Outcomes.{is_good}
+use Rattle.blk_base.specs.declared.device.DeviceCall.{DeviceCall}
+use Rattle.blk_base.specs.declared.device.DeviceCall.TheVariants.{Flush}
 use Rattle.blk_base.specs.declared.fault.Outcome.{Outcome}
 use Rattle.blk_base.specs.declared.fault.Outcome.TheVariants.{Good, Torn, Io, NoSpace}
 use Rattle.blk_nodes.specs.Nodes.{Nodes, DeviceSeen, device_in, file_of}
@@ -25,14 +28,23 @@ HasFlushCause old new (Torn done dev count) = ⊥
 HasFlushCause old new (Io dev count) = StoppedBy old new dev count
 HasFlushCause old new (NoSpace dev) = ⊥
 
+-- which call failed last, behind a flush that went so
+abbrev pub FailsFlushing : Outcome → Option DeviceCall → Option DeviceCall → Type 0
+FailsFlushing Good before now = now ≡ before
+FailsFlushing (Torn done dev count) before now = ⊥
+FailsFlushing (Io dev count) before now = FailedLast Flush now
+FailsFlushing (NoSpace dev) before now = ⊥
+
 -- a device after a flush
 pub record IsFlushOf (old new : DeviceSeen) (outcome : Outcome) : Type 0 where
   pub is : new ≡ record old {
     is_flushed = option_map (λ f. is_good outcome || f) old.is_flushed;
     faults = new.faults;
+    failed_call = new.failed_call;
   }
   pub faults : old.faults ≤ new.faults
   pub cause : HasFlushCause old new outcome
+  pub call : FailsFlushing outcome old.failed_call new.failed_call
 
 -- the device of a `file` node after it, and all others as before
 pub record IsFlushAt (file : ℕ) (old new : List DeviceSeen) (outcome : Outcome) : Type 0 where

@@ -1,12 +1,18 @@
 -- What is read where a walk down a chain ended.
-use Rattle.std.specs.Prelude.{◌≡◌, ℕ, List, [], replicate}
+use Rattle.std.specs.Prelude.{◌≡◌, ℕ, List, [], replicate, slice_index_or, Option, Some, None}
 use Rattle.blk_base.specs.Content.{bytes_at}
+use Rattle.blk_base.specs.Pieces.{Extent}
+use Rattle.blk_base.specs.declared.device.DeviceCall.TheVariants.{Read}
 use Rattle.blk_base.specs.declared.fault.Outcome.{Outcome}
 use Rattle.blk_base.specs.declared.fault.Outcome.TheVariants.{Good}
 use Rattle.q2_image.specs.Guest.{guest_bytes}
+use Rattle.q2_image.specs.Image.{Known}
+use Rattle.q2_image.specs.Writing.{own_place}
 use Rattle.blk_nodes.specs.Contents.{bytes_by}
 use Rattle.blk_nodes.specs.Nodes.{DeviceSeen, device_in}
 use Rattle.blk_nodes.specs.Reading.{IsReadAt}
+use Rattle.blk_nodes.specs.declared.row.Driver.TheVariants.{Qcow2}
+use Rattle.blk_nodes.specs.declared.row.Row.{Row}
 use Rattle.blk_nodes.specs.declared.source.Source.{Source}
 use Rattle.blk_nodes.specs.declared.source.Source.TheVariants.{Zeros, File, Image}
 
@@ -17,8 +23,20 @@ found_bytes devices (File file start) place n = bytes_at (bytes_by (device_in de
 found_bytes devices (Image node file) place n =
     guest_bytes (bytes_by (device_in devices file)) [] place n
 
--- how their read went
-abbrev pub IsReadOfSource : Source → List DeviceSeen → List DeviceSeen → Outcome → Type 0
-IsReadOfSource Zeros old new outcome = (outcome ≡ Good) × (new ≡ old)
-IsReadOfSource (File file start) old new outcome = IsReadAt file old new outcome
-IsReadOfSource (Image node file) old new outcome = IsReadAt file old new outcome
+-- how the read of a span in a cluster of an image's own went: it is one call, at the span's place in the file
+pub record IsReadOfImage (rows : List (Option Row)) (node file : ℕ) (span : Extent)
+    (old new : List DeviceSeen) (outcome : Outcome) : Type 0 where
+  pub row : Row
+  pub image : Known
+  pub there : slice_index_or rows node None ≡ Some row
+  pub driver : row.driver ≡ Qcow2 image
+  pub read : IsReadAt file (Read (own_place image span) span.len) old new outcome
+
+-- how the read of a span of a disk went whose bytes stand there: it is one call, or none
+abbrev pub IsReadOfSource : List (Option Row) → Source → Extent → List DeviceSeen
+    → List DeviceSeen → Outcome → Type 0
+IsReadOfSource rows Zeros span old new outcome = (outcome ≡ Good) × (new ≡ old)
+IsReadOfSource rows (File file start) span old new outcome =
+    IsReadAt file (Read start span.len) old new outcome
+IsReadOfSource rows (Image node file) span old new outcome =
+    IsReadOfImage rows node file span old new outcome

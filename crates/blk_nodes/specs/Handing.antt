@@ -15,4 +15,5 @@ device_state g node number device = record {
   size = g.size device;
   capacity = g.capacity device;
   faults = g.faults device;
+  failed_call = g.failed_call device;
 }

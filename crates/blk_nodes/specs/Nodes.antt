@@ -1,6 +1,7 @@
 -- What a contract sees of the nodes: their graph, what each of them is, and the devices that they hold.
 use Rattle.std.specs.Prelude.{◌≡◌, ℕ, Bool, List, [], ◌==◌, slice_index_or, replicate, find, Option, Some, None, is_some, true, not, Contains}
 use Rattle.blk_base.specs.Content.{Log}
+use Rattle.blk_base.specs.declared.device.DeviceCall.{DeviceCall}
 use Rattle.blk_base.specs.declared.fault.DevNo.{DevNo}
 use Rattle.blk_graph.specs.Graph.{Graph, no_graph}
 use Rattle.blk_graph.specs.Edits.{child_of}
@@ -23,6 +24,7 @@ pub record DeviceSeen : Type 0 where
   pub size : ℕ
   pub capacity : ℕ
   pub faults : ℕ
+  pub failed_call : Option DeviceCall
 
 -- what a node is, as far as the permissions of its edges go
 abbrev pub driver_kind : Driver → Kind

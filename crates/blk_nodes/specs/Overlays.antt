@@ -1,5 +1,6 @@
 -- What the addition of a qcow2 node makes of the nodes, and why one is refused.
 use Rattle.std.specs.Prelude.{◌≡◌, ◌≢◌, ℕ, ◌<◌, ◌≤◌, ◌==◌, Bool, if◌then◌else◌, is_some, List, length, Option, Some, None}
+use Rattle.blk_base.specs.Calls.{FailsReading}
 use Rattle.blk_base.specs.Device.{CountsFault}
 use Rattle.blk_graph.specs.Edits.{with_edge}
 use Rattle.blk_graph.specs.Graph.{HasName, ids}
@@ -95,6 +96,7 @@ pub record IsUnopenedOn (old new : DeviceSeen) (stop : ImageStop) : Type 0 where
   pub named : (bytes : List ℕ) → old.content ≡ Some bytes → Names (image_refusal bytes) stop
   pub short : old.size < MIN_HEADER_LENGTH → stop ≡ images.Header Short
   pub cause : CountsFault (fault_in_image stop) old.faults new.faults
+  pub call : FailsReading (fault_in_image stop) old.failed_call new.failed_call
 
 -- Only a failed read raises a count: behind any other stop all devices are as before.
 abbrev pub KeptBy : ImageStop → List DeviceSeen → List DeviceSeen → Type 0

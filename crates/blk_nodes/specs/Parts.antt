@@ -126,15 +126,17 @@ pub record StopsReading (part : Part) (fits : ℕ → Type 0) (own : Option ℕ)
   pub device : DeviceSeen
   pub held : device_in old part.file ≡ Some device
   pub fit : fits device.capacity
-  pub read : IsReadOfSource part.source old new outcome
+  pub read : IsReadOfSource rows part.source part.whole old new outcome
   pub risen : HaveRisen old new
   pub rows_same : left ≡ rows
   pub changed : change image image device device outcome
 
 -- it is read only where the piece isn't all that the disk has of the cluster
-abbrev pub ReadsRest : Part → List DeviceSeen → List DeviceSeen → Outcome → Type 0
-ReadsRest part old new outcome =
-    ((part.span.len < part.whole.len) × IsReadOfSource part.source old new outcome)
+abbrev pub ReadsRest : List (Option Row) → Part → List DeviceSeen → List DeviceSeen → Outcome
+    → Type 0
+ReadsRest rows part old new outcome =
+    ((part.span.len < part.whole.len)
+    × IsReadOfSource rows part.source part.whole old new outcome)
     ⊎ ((outcome ≡ Good) × (new ≡ old))
 
 -- the image's disk has the piece's bytes, over each backing disk from which the rest of the cluster was found

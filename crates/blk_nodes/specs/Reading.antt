@@ -1,8 +1,10 @@
 -- What a read of a piece leaves and answers.
 use Rattle.std.specs.Prelude.{◌≡◌, ◌≢◌, ◌⊎◌, ℕ, ◌≤◌, List, [], ◌∷◌, map, Some}
+use Rattle.blk_base.specs.Calls.{FailedLast}
 use Rattle.blk_base.specs.Content.{bytes_at}
 use Rattle.blk_base.specs.Counts.{Rose}
 use Rattle.blk_base.specs.Pieces.{Extent}
+use Rattle.blk_base.specs.declared.device.DeviceCall.{DeviceCall}
 use Rattle.blk_base.specs.declared.fault.Outcome.{Outcome}
 use Rattle.blk_base.specs.declared.fault.Outcome.TheVariants.{Good, Torn, Io, NoSpace}
 use Rattle.blk_base.specs.declared.fault.DevNo.{DevNo}
@@ -10,9 +12,9 @@ use Rattle.blk_graph.specs.Paths.{Reaches}
 use Rattle.blk_graph.specs.declared.edge.Edge.{Edge}
 use Rattle.blk_nodes.specs.Nodes.{Nodes, DeviceSeen, device_in}
 
--- a device but for its count, which may have risen
+-- a device but for its count, which may have risen, and which call failed last
 pub record HasRisen (old new : DeviceSeen) : Type 0 where
-  pub same : new ≡ record old { faults = new.faults }
+  pub same : new ≡ record old { faults = new.faults; failed_call = new.failed_call }
   pub faults : old.faults ≤ new.faults
 
 abbrev pub HaveRisen : List DeviceSeen → List DeviceSeen → Type 0
@@ -26,12 +28,13 @@ pub record StoppedBy (old new : DeviceSeen) (dev : DevNo) (count : ℕ) : Type 0
   pub rose : Rose old.faults count
   pub now : count ≡ new.faults
 
--- how a read of one device went
-abbrev pub IsReadOf : DeviceSeen → DeviceSeen → Outcome → Type 0
-IsReadOf old new Good = new ≡ old
-IsReadOf old new (Torn done dev count) = ⊥
-IsReadOf old new (Io dev count) = StoppedBy old new dev count
-IsReadOf old new (NoSpace dev) = ⊥
+-- how this call of one device went, which reads
+abbrev pub IsReadOf : DeviceCall → DeviceSeen → DeviceSeen → Outcome → Type 0
+IsReadOf call old new Good = new ≡ old
+IsReadOf call old new (Torn done dev count) = ⊥
+IsReadOf call old new (Io dev count) =
+    StoppedBy old new dev count × FailedLast call new.failed_call
+IsReadOf call old new (NoSpace dev) = ⊥
 
 -- all devices but that of a `file` node are as before
 pub record OnlyAt (file : ℕ) (old new : List DeviceSeen) : Type 0 where
@@ -48,12 +51,13 @@ pub record StoppedAt (file : ℕ) (old new : List DeviceSeen) (dev : DevNo) (cou
     pub stopped : StoppedBy before after dev count
     pub only : OnlyAt file old new
 
--- how a read of the device of a `file` node went
-abbrev pub IsReadAt : ℕ → List DeviceSeen → List DeviceSeen → Outcome → Type 0
-IsReadAt file old new Good = new ≡ old
-IsReadAt file old new (Torn done dev count) = ⊥
-IsReadAt file old new (Io dev count) = StoppedAt file old new dev count
-IsReadAt file old new (NoSpace dev) = ⊥
+-- how this call of the device of a `file` node went, which reads
+abbrev pub IsReadAt : ℕ → DeviceCall → List DeviceSeen → List DeviceSeen → Outcome → Type 0
+IsReadAt file call old new Good = new ≡ old
+IsReadAt file call old new (Torn done dev count) = ⊥
+IsReadAt file call old new (Io dev count) =
+    (at : StoppedAt file old new dev count) × FailedLast call at.after.failed_call
+IsReadAt file call old new (NoSpace dev) = ⊥
 
 -- a node is another, or reaches it
 abbrev pub LeadsTo : List Edge → ℕ → ℕ → Type 0

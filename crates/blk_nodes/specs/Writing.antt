@@ -1,7 +1,9 @@
 -- What a write of a piece leaves and answers, and which nodes may be written.
 use Rattle.std.specs.Prelude.{◌≡◌, ◌≢◌, ◌⊎◌, ℕ, ◌+◌, ◌%◌, ◌<◌, ◌≤◌, ◌==◌, if◌then◌else◌, Bool, true, false, List, [], length, replicate, take, Option, option_map, is_some, Some, None, Result, Ok, Err}
+use Rattle.blk_base.specs.Calls.{FailedLast}
 use Rattle.blk_base.specs.Content.{with_bytes, size_with, GoesOn}
 use Rattle.blk_base.specs.Pieces.{Extent}
+use Rattle.blk_base.specs.declared.device.DeviceCall.TheVariants.{Write}
 use Rattle.blk_base.specs.declared.device.Stop.{Stop}
 use Rattle.blk_base.specs.declared.device.Stop.TheVariants as why
 use Rattle.blk_base.specs.declared.device.WriteStop.{WriteStop}
@@ -43,14 +45,17 @@ abbrev pub write_outcome : DeviceSeen → WriteStop → Outcome
 write_outcome device stop = outcome_by device stop.done stop.why
 
 -- why a write of so many bytes at a place went so: it has room unless it is refused for want of that, and else only a fault
--- stops it, within the bytes at a border of sectors or before them
+-- stops it, within the bytes at a border of sectors or before them, and this very call of the device is what failed
 abbrev pub HasCauseOf : DeviceSeen → DeviceSeen → ℕ → ℕ → Outcome → Type 0
 HasCauseOf old new place n Good = (place + n ≤ old.capacity) × (new.faults ≡ old.faults)
+    × (new.failed_call ≡ old.failed_call)
 HasCauseOf old new place n (Torn done dev count) = (place + n ≤ old.capacity)
     × (0 < done) × (done < n) × ((place + done) % 512 ≡ 0) × StoppedBy old new dev count
-HasCauseOf old new place n (Io dev count) = (place + n ≤ old.capacity) × StoppedBy old new dev count
-HasCauseOf old new place n (NoSpace dev) =
-    (old.capacity < place + n) × (dev ≡ old.number) × (new.faults ≡ old.faults)
+    × FailedLast (Write place n) new.failed_call
+HasCauseOf old new place n (Io dev count) = (place + n ≤ old.capacity)
+    × StoppedBy old new dev count × FailedLast (Write place n) new.failed_call
+HasCauseOf old new place n (NoSpace dev) = (old.capacity < place + n) × (dev ≡ old.number)
+    × (new.faults ≡ old.faults) × (new.failed_call ≡ old.failed_call)
 
 -- a device after a write of these bytes at a place
 pub record IsWriteOf (old new : DeviceSeen) (place : ℕ) (bytes : List ℕ)
@@ -197,11 +202,11 @@ rest_place (Some own) whole image span = None
 rest_place None true image span = None
 rest_place None false image span = Some (cluster_start image span)
 
--- the rest of its cluster was read from the place on where that begins, and the read went so
+-- the rest of its cluster was read, in one call from the place on where that begins, and it went so
 abbrev pub IsRestRead : Option ℕ → Nodes → Nodes → ℕ → Outcome → Type 0
 IsRestRead None old new node outcome = ⊥
-IsRestRead (Some start) old new node outcome =
-    IsReadOfSource (source_at old node start) old.devices new.devices outcome
+IsRestRead (Some start) old new node outcome = (span : Extent) × (span.start ≡ start)
+    × IsReadOfSource old.rows (source_at old node start) span old.devices new.devices outcome
 
 -- Why a piece of an image went so whose file is on this device. What stops it before its first byte is a call of that device, or
 -- the read of the rest of its cluster.

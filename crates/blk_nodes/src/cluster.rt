@@ -65,7 +65,8 @@ impl Cluster {
             ≡ found_bytes devices.old part.now.source part.now.whole.start part.now.whole.len }
         ensures behind { drop part.now.whole.len self.new
             ≡ replicate (block_size - part.now.whole.len) 0 }
-        ensures outcome { IsReadOfSource part.now.source devices.old devices.new result }
+        ensures outcome { IsReadOfSource rows.now part.now.source part.now.whole devices.old
+            devices.new result }
         ensures devices { HaveRisen devices.old devices.new }
     {
         let (disk, rest) = self.bytes.split_at_mut(part.whole.len as usize);
@@ -88,7 +89,7 @@ impl Cluster {
             ≡ found_bytes devices.old part.now.source part.now.whole.start part.now.whole.len }
         ensures behind { drop part.now.whole.len self.new
             ≡ replicate (block_size - part.now.whole.len) 0 }
-        ensures outcome { ReadsRest part.now devices.old devices.new result }
+        ensures outcome { ReadsRest rows.now part.now devices.old devices.new result }
         ensures devices { HaveRisen devices.old devices.new }
     {
         if part.span.len < part.whole.len {
@@ -128,7 +129,7 @@ impl Cluster {
             → HasFound part.now.whole.len (part.now.span.start % block_size) bytes.now
             (found_bytes devices.old part.now.source part.now.whole.start part.now.whole.len)
             self.new }
-        ensures outcome { ReadsRest part.now devices.old devices.new result }
+        ensures outcome { ReadsRest rows.now part.now devices.old devices.new result }
         ensures devices { HaveRisen devices.old devices.new }
     {
         let span = part.span;

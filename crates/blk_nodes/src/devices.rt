@@ -3,11 +3,13 @@ ghost use Rattle.std.specs.Prelude.{◌≡◌, ◌<◌, ◌/◌, ℕ, ◌≤◌,
 ghost use Rattle.std.specs.List.{position};
 ghost use Rattle.std.specs.Option.{ForSome, option_copied};
 ghost use Rattle.blk_base.specs.Content.{bytes_at};
+ghost use Rattle.blk_base.specs.declared.device.DeviceCall.TheVariants as calls;
 ghost use Rattle.q2_format.specs.Created.{creation_of, IsNewName, IsNewFormat};
 ghost use Rattle.q2_format.specs.declared.header.TheConstants.{MAX_DISK_SIZE};
 ghost use Rattle.q2_image.specs.Guest.{guest_bytes};
 ghost use Rattle.q2_image.specs.Image.{Known, IsImageOf, cluster_size_in, clusters_in, entry_in};
 ghost use Rattle.q2_image.specs.Reading.{IsHost, IsWithinCluster};
+ghost use Rattle.q2_image.specs.Writing.{own_place};
 ghost use Rattle.blk_nodes.specs.Contents.{bytes_by};
 ghost use Rattle.blk_nodes.specs.Dropping.{other_devices};
 ghost use Rattle.blk_nodes.specs.Joined.{DifferInNode};
@@ -49,6 +51,7 @@ impl<D: Device> Model for Held<D> {
       size = D.size h.device;
       capacity = D.capacity h.device;
       faults = D.faults h.device;
+      failed_call = D.failed_call h.device;
     } };
 }
 
@@ -79,7 +82,8 @@ impl<D: Device> Held<D> {
     fn read(&mut self, place: u64, buffer: &mut [u8]) -> Outcome
         ensures read { (bytes : List ℕ) → self.old.content ≡ Some bytes → result ≡ Outcome.Good
             → buffer.new ≡ bytes_at bytes place (length buffer.old) }
-        ensures outcome { IsReadOf self.old self.new result }
+        ensures outcome { IsReadOf (calls.Read place (length buffer.old)) self.old self.new
+            result }
         ensures kept { HasRisen self.old self.new }
     {
         match self.device.read_at(place, buffer) {
@@ -98,7 +102,8 @@ impl<D: Device> Held<D> {
         ensures read { (bytes : List ℕ) → self.old.content ≡ Some bytes → IsImageOf bytes image.now
             → result ≡ Outcome.Good
             → buffer.new ≡ guest_bytes bytes [] span.start span.len }
-        ensures outcome { IsReadOf self.old self.new result }
+        ensures outcome { IsReadOf (calls.Read (own_place image.now span) span.len) self.old
+            self.new result }
         ensures kept { HasRisen self.old self.new }
     {
         let _ = image.cluster_size();
@@ -243,7 +248,8 @@ impl<D: Device> Devices<D> {
         requires { IsSome (device_in self.old file) }
         ensures read { AreTold self.old → result ≡ Outcome.Good
             → buffer.new ≡ bytes_at (bytes_by (device_in self.old file)) start (length buffer.old) }
-        ensures outcome { IsReadAt file self.old self.new result }
+        ensures outcome { IsReadAt file (calls.Read start (length buffer.old)) self.old
+            self.new result }
         ensures devices { HaveRisen self.old self.new }
     {
         match self.place_of(file) {
@@ -274,7 +280,8 @@ impl<D: Device> Devices<D> {
             → IsImageOf bytes image.now }
         ensures read { AreTold self.old → result ≡ Outcome.Good
             → buffer.new ≡ guest_bytes (bytes_by (device_in self.old file)) [] span.start span.len }
-        ensures outcome { IsReadAt file self.old self.new result }
+        ensures outcome { IsReadAt file (calls.Read (own_place image.now span) span.len)
+            self.old self.new result }
         ensures devices { HaveRisen self.old self.new }
     {
         match self.place_of(file) {
@@ -327,6 +334,7 @@ impl<D: Device> Devices<D> {
               size = D.size device;
               capacity = D.capacity device;
               faults = D.faults device;
+              failed_call = D.failed_call device;
             })) }
     {
         match self.place_of(node) {

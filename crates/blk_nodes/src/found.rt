@@ -4,9 +4,9 @@ ghost use Rattle.blk_base.specs.Pieces.{block_size};
 ghost use Rattle.q2_image.specs.Guest.{guest_bytes};
 ghost use Rattle.q2_image.specs.Reading.{IsWithinCluster};
 ghost use Rattle.blk_nodes.specs.Contents.{bytes_by};
-ghost use Rattle.blk_nodes.specs.Found.{found_bytes, IsReadOfSource};
+ghost use Rattle.blk_nodes.specs.Found.{found_bytes, IsReadOfImage, IsReadOfSource};
 ghost use Rattle.blk_nodes.specs.Nodes.{AreTold, device_in};
-ghost use Rattle.blk_nodes.specs.Reading.{HaveRisen, IsReadAt};
+ghost use Rattle.blk_nodes.specs.Reading.{HaveRisen};
 ghost use Rattle.blk_nodes.specs.Walk.{CanSourceBeRead, IsPlaceMapped};
 
 use crate::devices::Devices;
@@ -37,7 +37,7 @@ fn read_mapped<D: Device>(
     requires whole { length buffer.old ≡ span.len }
     ensures read { AreTold devices.old → result ≡ Outcome.Good
         → buffer.new ≡ guest_bytes (bytes_by (device_in devices.old file)) [] span.start span.len }
-    ensures outcome { IsReadAt file devices.old devices.new result }
+    ensures outcome { IsReadOfImage rows.now node file span devices.old devices.new result }
     ensures devices { HaveRisen devices.old devices.new }
 {
     let Some(row) = &rows[node.index()] else {
@@ -65,7 +65,7 @@ pub(crate) fn read_found<D: Device>(
     requires whole { length buffer.old ≡ span.len }
     ensures read { AreTold devices.old → result ≡ Outcome.Good
         → buffer.new ≡ found_bytes devices.old source span.start span.len }
-    ensures outcome { IsReadOfSource source devices.old devices.new result }
+    ensures outcome { IsReadOfSource rows.now source span devices.old devices.new result }
     ensures devices { HaveRisen devices.old devices.new }
 {
     match source {

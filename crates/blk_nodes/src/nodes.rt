@@ -174,6 +174,7 @@ impl<D: Device> Nodes<D> {
               size = D.size device;
               capacity = D.capacity device;
               faults = D.faults device;
+              failed_call = D.failed_call device;
             })) }
         ensures lowest { IfOk result (IsLowestFree (ids self.old.graph)) }
         ensures disks { OnOk result ((other : ℕ) → HasNode self.old.graph other
@@ -472,8 +473,8 @@ impl<D: Device> Nodes<D> {
         ensures read { AreTold self.old.devices
             → ReadsDisk result (disk_of self.old node) span buffer.new }
         ensures outcome { IsReadBelow self.old self.new node result }
-        ensures source { IsReadOfSource (source_at self.old node span.start) self.old.devices
-            self.new.devices result }
+        ensures source { 0 < span.len → IsReadOfSource self.old.rows
+            (source_at self.old node span.start) span self.old.devices self.new.devices result }
         ensures none { span.len ≡ 0 → (result ≡ Outcome.Good) × (self.new ≡ self.old) }
         ensures kept { self.new ≡ record self.old { devices = self.new.devices } }
         ensures devices { HaveRisen self.old.devices self.new.devices }

@@ -29,6 +29,7 @@ impl<D: Device> Nodes<D> {
               size = D.size device;
               capacity = D.capacity device;
               faults = D.faults device;
+              failed_call = D.failed_call device;
             }))) }
         ensures disks { OnOk result ((other : ℕ) → HasNode self.new.graph other
             → disk_of self.new other ≡ disk_of self.old other) }

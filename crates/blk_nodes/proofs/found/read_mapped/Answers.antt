@@ -13,3 +13,15 @@ read_image-requires-clause-known g c =
     let mapped = c.requires.mapped in
     let same = same_image mapped.row c.in-Some.row mapped.image c.in-Qcow2.image (sym mapped.there ∙ there) mapped.driver c.in-Qcow2.is in
     rw (sym same) mapped.known
+
+pub returns-clause-outcome : goal.returns-clause-outcome
+returns-clause-outcome g c =
+    let count = c.requires.rows in
+    let small = c.index.ensures.small in
+    record {
+      row = c.in-Some.row;
+      image = c.in-Qcow2.image;
+      there = row_found c.args.rows.now c.index.result c.args.node c.index-rows-index.result c.index.ensures.value (omega (arith, count, small)) c.index-rows-index.is ∙ c.in-Some.is;
+      driver = c.in-Qcow2.is;
+      read = c.read_image.ensures.outcome;
+    }

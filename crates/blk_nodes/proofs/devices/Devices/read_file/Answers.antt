@@ -1,4 +1,6 @@
-use Rattle.std.proofs.Common.{List, sym, ◌∙◌, ap, subst}
+use Rattle.std.proofs.Common.{List, length, sym, ◌∙◌, ap, subst}
+use Rattle.blk_base.specs.declared.device.DeviceCall.{DeviceCall}
+use Rattle.blk_base.specs.declared.device.DeviceCall.TheVariants as calls
 use Rattle.blk_nodes.specs.Nodes.{DeviceSeen}
 use Rattle.blk_nodes.specs.Reading.{HasRisen, IsReadOf}
 use Rattle.blk_nodes.proofs.HeldDevices.{is_placed, HaveRisen-set, read_over, told_at}
@@ -22,10 +24,11 @@ returns-clause-outcome g c =
     let x : DeviceSeen = c.index_mut-held.result.now in
     let y : DeviceSeen = c.read.new.self in
     let place = rw (sym c.self.view_is) at (sym c.in-Some.ensures.place) in
+    let call : DeviceCall = calls.Read c.args.start (length c.args.buffer.now) in
     rw (sym c.self.view_is)
-    (read_over c.args.file items c.in-Some.at x y c.read.result place
+    (read_over c.args.file call items c.in-Some.at x y c.read.result place
     (subst (λ (d : DeviceSeen). HasRisen d y) c.index_mut-held.ensures.value c.read.ensures.kept)
-    (subst (λ (d : DeviceSeen). IsReadOf d y c.read.result) c.index_mut-held.ensures.value c.read.ensures.outcome))
+    (subst (λ (d : DeviceSeen). IsReadOf call d y c.read.result) c.index_mut-held.ensures.value c.read.ensures.outcome))
 
 pub returns-clause-devices : goal.returns-clause-devices
 returns-clause-devices g c =

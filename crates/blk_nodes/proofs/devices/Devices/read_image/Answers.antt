@@ -1,4 +1,7 @@
 use Rattle.std.proofs.Common.{List, sym, ◌∙◌, ap, subst, get_or}
+use Rattle.blk_base.specs.declared.device.DeviceCall.{DeviceCall}
+use Rattle.blk_base.specs.declared.device.DeviceCall.TheVariants as calls
+use Rattle.q2_image.specs.Writing.{own_place}
 use Rattle.blk_nodes.specs.Nodes.{DeviceSeen}
 use Rattle.blk_nodes.specs.Reading.{HasRisen, IsReadOf}
 use Rattle.blk_nodes.proofs.HeldDevices.{is_placed, at_place, HaveRisen-set, read_over, told_at}
@@ -25,10 +28,11 @@ returns-clause-outcome g c =
     let x : DeviceSeen = c.index_mut-held.result.now in
     let y : DeviceSeen = c.read_image.new.self in
     let place = rw (sym c.self.view_is) at (sym c.in-Some.ensures.place) in
+    let call : DeviceCall = calls.Read (own_place c.args.image.now c.args.span) c.args.span.len in
     rw (sym c.self.view_is)
-    (read_over c.args.file items c.in-Some.at x y c.read_image.result place
+    (read_over c.args.file call items c.in-Some.at x y c.read_image.result place
     (subst (λ (d : DeviceSeen). HasRisen d y) c.index_mut-held.ensures.value c.read_image.ensures.kept)
-    (subst (λ (d : DeviceSeen). IsReadOf d y c.read_image.result) c.index_mut-held.ensures.value c.read_image.ensures.outcome))
+    (subst (λ (d : DeviceSeen). IsReadOf call d y c.read_image.result) c.index_mut-held.ensures.value c.read_image.ensures.outcome))
 
 pub returns-clause-devices : goal.returns-clause-devices
 returns-clause-devices g c =

@@ -29,6 +29,7 @@ returns g c =
       size = g.D.Device.size c.self.inside.device;
       capacity = g.D.Device.capacity c.self.inside.device;
       faults = g.D.Device.faults c.self.inside.device;
+      failed_call = g.D.Device.failed_call c.self.inside.device;
     } in
     let new : DeviceSeen = record {
       node = c.self.inside.node;
@@ -39,6 +40,7 @@ returns g c =
       size = g.D.Device.size c.put_cluster-written.new.dev;
       capacity = g.D.Device.capacity c.put_cluster-written.new.dev;
       faults = g.D.Device.faults c.put_cluster-written.new.dev;
+      failed_call = g.D.Device.failed_call c.put_cluster-written.new.dev;
     } in
     let fits = rw (sym c.self.view_is) at c.requires.fits in
     let place : ℕ = c.args.cluster * cluster_size_in image in

@@ -41,6 +41,7 @@ returns-in-Err g c =
       size = g.D.Device.size c.self.inside.device;
       capacity = g.D.Device.capacity c.self.inside.device;
       faults = g.D.Device.faults c.self.inside.device;
+      failed_call = g.D.Device.failed_call c.self.inside.device;
     } in
     let new : DeviceSeen = record {
       node = c.self.inside.node;
@@ -51,6 +52,7 @@ returns-in-Err g c =
       size = g.D.Device.size c.write_own.new.dev;
       capacity = g.D.Device.capacity c.write_own.new.dev;
       faults = g.D.Device.faults c.write_own.new.dev;
+      failed_call = g.D.Device.failed_call c.write_own.new.dev;
     } in
     let nothing : (stop.why ≡ why.NoSpace) → stop.done ≡ 0 = λ none. (e.stop.no_space none).1 in
     let bytes : List ℕ = c.args.bytes.now in
@@ -73,9 +75,9 @@ returns-in-Err g c =
       cause = subst (HasImageCause (own_end c.args.image.now c.args.span ≤ old.capacity) (Some (own_place c.args.image.now c.args.span)) (length bytes) old new c.args.image.now c.write_own.new.self)
           (sym c.stopped.ensures)
           (own_cause old new c.args.image.now c.write_own.new.self (own_place c.args.image.now c.args.span) (length bytes) (own_end c.args.image.now c.args.span) stop refl e.stop
-          (λ none. let all = e.untouched none in (same_state old new refl refl all.1 all.3 all.2 all.4 e.capacity all.5, all.0)));
+          (λ none. let all = e.untouched none in (same_state old new refl refl all.1 all.3 all.2 all.4 e.capacity all.5 all.6, all.0)));
       changed = subst (ChangesInPlace c.args.span bytes c.args.image.now c.write_own.new.self old new) (sym c.stopped.ensures)
           (own_stopped g.D.Device c.self.inside.node c.self.inside.number c.self.inside.device c.write_own.new.dev c.args.image.now c.write_own.new.self c.args.span bytes
           stop e.wrote e.cleared e.stops
-          (λ none. let all = e.untouched none in (same_state old new refl refl all.1 all.3 all.2 all.4 e.capacity all.5, all.0)));
+          (λ none. let all = e.untouched none in (same_state old new refl refl all.1 all.3 all.2 all.4 e.capacity all.5 all.6, all.0)));
     })

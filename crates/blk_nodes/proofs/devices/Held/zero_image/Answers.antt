@@ -1,15 +1,16 @@
-use Rattle.std.proofs.Common.{◌≡◌, ◌*◌, ℕ, List, None, length, replicate, refl, sym, subst}
+use Rattle.std.proofs.Common.{◌≡◌, ◌*◌, ℕ, List, None, Result, length, replicate, refl, sym, subst}
 use Rattle.std.proofs.lemmas.Result.{on_ok_weaker}
+use Rattle.blk_base.specs.declared.fault.DevStop.{DevStop}
 use Rattle.blk_base.specs.declared.fault.Outcome.{Outcome}
 use Rattle.q2_format.specs.Entry.{host_of}
 use Rattle.q2_format.specs.declared.entries.L2Entry.TheVariants.{Zero}
 use Rattle.q2_image.specs.Image.{cluster_size_in, entry_in}
-use Rattle.q2_image.specs.Made.{zero_steps}
+use Rattle.q2_image.specs.Made.{ChangesImage, zero_steps}
 use Rattle.q2_image.specs.Writing.{IsDiskWith, ZeroFits}
 use Rattle.blk_nodes.specs.Changing.{ClearsCluster}
 use Rattle.blk_nodes.specs.Nodes.{DeviceSeen}
 use Rattle.blk_nodes.specs.Writing.{HasImageCause, taken_by}
-use Rattle.blk_nodes.proofs.ImageCalls.{zero_mapped, cluster_mapped, cluster_change, cluster_zeros, stable_zero, zeros_disk, cluster_cause, cluster_disk, same_state}
+use Rattle.blk_nodes.proofs.ImageCalls.{zero_mapped, cluster_mapped, cluster_change, cluster_zeros, stable_zero, zeros_disk, cluster_cause, cluster_disk, untouched_seen}
 use Rattle.blk_nodes.proofs.devices.Held.zero_image.Goals as goal
 
 pub zero_cluster-written-requires-clause-image : goal.zero_cluster-written-requires-clause-image
@@ -32,6 +33,7 @@ returns g c =
       size = g.D.Device.size c.self.inside.device;
       capacity = g.D.Device.capacity c.self.inside.device;
       faults = g.D.Device.faults c.self.inside.device;
+      failed_call = g.D.Device.failed_call c.self.inside.device;
     } in
     let new : DeviceSeen = record {
       node = c.self.inside.node;
@@ -42,6 +44,7 @@ returns g c =
       size = g.D.Device.size c.zero_cluster-written.new.dev;
       capacity = g.D.Device.capacity c.zero_cluster-written.new.dev;
       faults = g.D.Device.faults c.zero_cluster-written.new.dev;
+      failed_call = g.D.Device.failed_call c.zero_cluster-written.new.dev;
     } in
     let ok = zeros_disk size written old.content new.content place e.disk in
     let bytes : List ℕ = replicate size 0 in
@@ -65,7 +68,9 @@ returns g c =
       cause = subst (HasImageCause (ZeroFits image c.args.cluster old.capacity) None (length bytes) old new image left) (sym c.cluster_outcome.ensures)
           (cluster_cause g.D.Device (ZeroFits image c.args.cluster old.capacity) None (length bytes) image _ written left c.self.inside.device c.zero_cluster-written.new.dev old new refl refl refl e.changes
           (λ other. stable_zero c.args.image.now c.args.cluster old.capacity (λ none. other (e.no_space.1 none)))
-          (λ is. let all = e.untouched is in (e.no_space.0 is, same_state old new refl refl all.1 all.3 all.2 all.4 e.capacity all.5, all.0)));
+          (λ is.
+          let full = subst (λ (r : Result (Unit {0}) DevStop). ChangesImage g.D.Device image (zero_steps image c.args.cluster) r left c.self.inside.device c.zero_cluster-written.new.dev) is e.changes in
+          (e.no_space.0 is, untouched_seen g.D.Device c.self.inside.node c.self.inside.number c.self.inside.device c.zero_cluster-written.new.dev full.1, full.0)));
       changed = subst (ClearsCluster c.args.cluster image left old new) (sym c.cluster_outcome.ensures)
           (cluster_change g.D.Device c.self.inside.node c.self.inside.number c.self.inside.device c.zero_cluster-written.new.dev image left
           (zero_steps image c.args.cluster) place bytes

@@ -37,7 +37,7 @@ returns-then-not-is_good-2-clause-went g c =
     (good_is c.room_below-room.result (sym c.is_good.ensures ∙ c.if-not-is_good.false)) in
     λ some. inr (record {
       room = fits;
-      went = inl (read_stopped_unread old c.peek_piece-outcome.new.self c.args.node c.args.span outcome bad read.outcome read.source read.kept read.devices);
+      went = inl (read_stopped_unread old c.peek_piece-outcome.new.self c.args.node c.args.span outcome bad read.outcome (read.source some) read.kept read.devices);
     })
 
 pub map_below-requires-clause-may : goal.map_below-requires-clause-may
