@@ -140,6 +140,8 @@ impl Device for MemDevice {
 
     ghost faults = { λ d. d.calls.faults };
 
+    ghost failed_call = { λ _. None };
+
     /// Fails exactly where the list says so.
     fn read_at(&mut self, off: u64, buf: &mut [u8]) -> Result<(), DevFault>
         ensures goes { is_ok result ≡ not (fails_next self.old.calls) }

@@ -258,7 +258,7 @@ impl MemStore {
 }
 
 impl Store for MemStore {
-    ghost use Rattle.std.specs.Prelude.{◌≡◌, ◌≢◌, ◌≤◌, ◌++◌, [], ◌∷◌, true, false, replicate, Some, IsTrue, IfOk, IfErr, OnOk, OnErr, MatchResult};
+    ghost use Rattle.std.specs.Prelude.{◌≡◌, ◌≢◌, ◌≤◌, ◌++◌, [], ◌∷◌, true, false, replicate, None, Some, IsTrue, IfOk, IfErr, OnOk, OnErr, MatchResult};
     ghost use Rattle.blk_base.specs.Stored.{IsDeviceOf, HoldsBytes, LeavesOthers};
     ghost use Rattle.blk_base.specs.Files.{file_at, put_file, is_out, given_back};
     ghost use Rattle.blk_base.specs.Answers.{OpenAnswers, CreateAnswers, ReadAnswers};
@@ -275,6 +275,8 @@ impl Store for MemStore {
     ghost room = { λ s. s.room };
 
     ghost faults = { λ s. s.calls.faults };
+
+    ghost failed_file = { λ _. None };
 
     #[tactic(auto, using(crate::proofs::Shelves::lacks))]
     fn open_file(&mut self, name: &str) -> Result<MemDevice, StoreStop>

@@ -86,7 +86,7 @@ impl SureDevice {
 }
 
 impl Device for SureDevice {
-    ghost use Rattle.std.specs.Prelude.{◌≡◌, ◌↔◌, ◌+◌, ◌<◌, ◌≤◌, true, false, length, Some, refl, IsOk, IfErr, OnOk};
+    ghost use Rattle.std.specs.Prelude.{◌≡◌, ◌↔◌, ◌+◌, ◌<◌, ◌≤◌, true, false, length, None, Some, refl, IsOk, IfErr, OnOk};
     ghost use Rattle.blk_base.specs.Content.{GoesOn, bytes_at, with_bytes, size_with};
     ghost use Rattle.blk_base.specs.Counts.{taken};
     ghost use Rattle.blk_base.specs.declared.device.Stop.TheVariants.{NoSpace};
@@ -104,6 +104,8 @@ impl Device for SureDevice {
     ghost capacity = { λ d. d.disk.capacity };
 
     ghost faults = { λ d. 0 };
+
+    ghost failed_call = { λ _. None };
 
     /// Never fails.
     #[tactic(auto, using(crate::proofs::Sure::next_goes, crate::proofs::Sure::sure_after))]

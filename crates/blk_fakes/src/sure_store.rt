@@ -78,7 +78,7 @@ impl SureStore {
 }
 
 impl Store for SureStore {
-    ghost use Rattle.std.specs.Prelude.{◌≡◌, ◌≢◌, ◌++◌, [], ◌∷◌, Some, IsTrue, IfOk, IfErr, OnOk, MatchResult};
+    ghost use Rattle.std.specs.Prelude.{◌≡◌, ◌≢◌, ◌++◌, [], ◌∷◌, None, Some, IsTrue, IfOk, IfErr, OnOk, MatchResult};
     ghost use Rattle.blk_base.specs.Answers.{OpenAnswers, CreateAnswers, ReadAnswers};
     ghost use Rattle.blk_base.specs.Files.{put_file, is_out, given_back};
     ghost use Rattle.blk_base.specs.Stored.{IsDeviceOf, HoldsBytes};
@@ -94,6 +94,8 @@ impl Store for SureStore {
     ghost room = { λ s. s.room };
 
     ghost faults = { λ s. 0 };
+
+    ghost failed_file = { λ _. None };
 
     /// Never fails.
     #[tactic(auto, using(crate::proofs::Sure::next_goes, crate::proofs::Sure::sure_after, crate::proofs::Sure::sure_lent))]

@@ -1,7 +1,8 @@
 //! A file of the system that is open.
-ghost use Rattle.std.specs.Prelude.{◌≡◌, ◌+◌, ◌<◌, ◌≤◌, ◌⊎◌, ◌%◌, length, IfErr};
+ghost use Rattle.std.specs.Prelude.{◌≡◌, ◌+◌, ◌<◌, ◌≤◌, ◌⊎◌, ◌%◌, length, None, Some, IfErr};
+ghost use Rattle.blk_base.specs.declared.device.DeviceCall.{DeviceCall};
 
-use blk_base::{DevFault, Device, Stop, WriteStop};
+use blk_base::{DevFault, Device, DeviceCall, Stop, WriteStop};
 use std::fs::File;
 use std::io;
 use std::marker::Model;
@@ -18,11 +19,13 @@ fn read_full(file: &File, off: u64, buf: &mut [u8]) -> io::Result<()> {
             return Ok(());
         }
         let place = off.saturating_add(at as u64);
-        if place > CAPACITY {
+        if place >= CAPACITY {
             buf[at..].fill(0);
             return Ok(());
         }
-        match file.read_at(&mut buf[at..], place) {
+        // the system refuses a read that ends above the capacity
+        let end = at + ((buf.len() - at) as u64).min(CAPACITY - place) as usize;
+        match file.read_at(&mut buf[at..end], place) {
             Ok(0) => {
                 buf[at..].fill(0);
                 return Ok(());
@@ -82,12 +85,14 @@ fn whole_sectors(off: u64, done: u64) -> u64
     end.saturating_sub(off)
 }
 
-/// A file that is open, its length, how often the system has failed on it, and what it said the last time.
+/// A file that is open, its length, how often the system has failed on it, and the last time at which call and what it
+/// said.
 #[derive(Drop)]
 pub struct FileDevice {
     file: File,
     length: u64,
     faults: u64,
+    failed_call: Option<DeviceCall>,
     failure: Option<io::Error>,
 }
 
@@ -96,7 +101,11 @@ impl Model for FileDevice {
 
     ghost Value = { SystemFile };
 
-    ghost view = { λ d. record { length = d.length; faults = d.faults } };
+    ghost view = { λ d. record {
+      length = d.length;
+      faults = d.faults;
+      failed_call = d.failed_call;
+    } };
 }
 
 impl FileDevice {
@@ -104,23 +113,26 @@ impl FileDevice {
 
     /// A file that was opened, with its length.
     pub(crate) fn new(file: File, length: u64) -> Self
-        ensures { result ≡ record { length = length; faults = 0 } }
+        ensures { result ≡ record { length = length; faults = 0; failed_call = None } }
     {
         FileDevice {
             file,
             length,
             faults: 0,
+            failed_call: None,
             failure: None,
         }
     }
 
-    /// Counts a failure, and keeps what the system said.
-    fn failed(&mut self, error: io::Error)
+    /// Counts a failure, and keeps at which call it was and what the system said.
+    fn failed(&mut self, call: DeviceCall, error: io::Error)
         ensures rose { Rose self.old.faults self.new.faults }
         ensures faults { self.old.faults ≤ self.new.faults }
-        ensures kept { self.new ≡ record self.old { faults = self.new.faults } }
+        ensures kept { self.new
+            ≡ record self.old { faults = self.new.faults; failed_call = Some call } }
     {
         self.faults = self.faults.saturating_add(1);
+        self.failed_call = Some(call);
         self.failure = Some(error);
     }
 
@@ -146,6 +158,8 @@ impl Device for FileDevice {
 
     ghost faults = { λ d. d.faults };
 
+    ghost failed_call = { λ d. d.failed_call };
+
     ghost told_size = { λ d b is. untold b is };
 
     ghost told_flushed = { λ d b is. untold b is };
@@ -156,7 +170,8 @@ impl Device for FileDevice {
         match read_full(&self.file, off, buf) {
             Ok(()) => Ok(()),
             Err(error) => {
-                self.failed(error);
+                let len = buf.len() as u64;
+                self.failed(DeviceCall::Read { offset: off, len }, error);
                 Err(DevFault::Failed)
             }
         }
@@ -180,7 +195,7 @@ impl Device for FileDevice {
         if done > 0 {
             self.length = self.length.max(off + done);
         }
-        self.failed(stop.error);
+        self.failed(DeviceCall::Write { offset: off, len }, stop.error);
         Err(WriteStop {
             done,
             why: Stop::Failed,
@@ -191,7 +206,7 @@ impl Device for FileDevice {
         match self.file.sync_data() {
             Ok(()) => Ok(()),
             Err(error) => {
-                self.failed(error);
+                self.failed(DeviceCall::Flush, error);
                 Err(DevFault::Failed)
             }
         }

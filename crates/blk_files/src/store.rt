@@ -1,8 +1,9 @@
 //! The files of the system by name.
 ghost use Rattle.std.specs.Prelude.{◌≡◌, ◌⊎◌, ◌<◌, ◌≤◌, [], length, None, IfSome};
 ghost use Rattle.std.specs.List.{position};
-ghost use Rattle.blk_base.specs.Files.{is_out_as, is_out, given_back};
+ghost use Rattle.blk_base.specs.Files.{is_out_as, is_out, given_back, IfTold};
 ghost use Rattle.blk_base.specs.Answers.{StandsAt};
+ghost use Rattle.blk_base.specs.Calls.{IsFileAfterStop};
 ghost use Rattle.blk_base.specs.Counts.{Rose};
 
 use crate::device::CAPACITY;
@@ -55,17 +56,22 @@ pub struct FileStore<'a, R: Files> {
 }
 
 impl<'a, R: Files> Model for FileStore<'a, R> {
+    ghost use Rattle.std.specs.Prelude.{option_map};
     ghost use Rattle.blk_files.specs.Seen.{SystemStore};
 
     ghost Value = { SystemStore };
 
-    ghost view = { λ s. record { opened = s.openings.items; faults = s.faults } };
+    ghost view = { λ s. record {
+      opened = s.openings.items;
+      faults = s.faults;
+      failed_file = option_map (λ f. f.name.bytes) s.failed;
+    } };
 }
 
 impl<'a, R: Files> FileStore<'a, R> {
     /// The files, none of which is open.
     pub fn new(rt: &'a R, alloc: Global) -> Self
-        ensures { result ≡ record { opened = []; faults = 0 } }
+        ensures { result ≡ record { opened = []; faults = 0; failed_file = None } }
     {
         FileStore {
             rt,
@@ -108,7 +114,9 @@ impl<'a, R: Files> FileStore<'a, R> {
     fn count(&mut self, name: &str, error: io::Error)
         ensures rose { Rose self.old.faults self.new.faults }
         ensures faults { self.old.faults ≤ self.new.faults }
-        ensures kept { self.new ≡ record self.old { faults = self.new.faults } }
+        ensures file { IfTold self.new.failed_file (λ last. last ≡ name.now) }
+        ensures kept { self.new
+            ≡ record self.old { faults = self.new.faults; failed_file = self.new.failed_file } }
     {
         self.faults = self.faults.saturating_add(1);
         self.failed = match Text::copied(self.alloc, name) {
@@ -121,7 +129,9 @@ impl<'a, R: Files> FileStore<'a, R> {
     fn stopped(&mut self, name: &str, error: io::Error) -> StoreStop
         ensures stop { (result ≡ StoreStop.Absent) ⊎ (result ≡ StoreStop.NoMemory)
             ⊎ ((result ≡ StoreStop.Failed) × Rose self.old.faults self.new.faults) }
-        ensures kept { self.new ≡ record self.old { faults = self.new.faults } }
+        ensures file { IsFileAfterStop result name.now self.old.failed_file self.new.failed_file }
+        ensures kept { self.new
+            ≡ record self.old { faults = self.new.faults; failed_file = self.new.failed_file } }
         ensures quiet { StandsAt self.old.faults self.new.faults result }
         ensures faults { self.old.faults ≤ self.new.faults }
     {
@@ -162,6 +172,8 @@ impl<R: Files<File = File>> Store for FileStore<'_, R> {
     ghost room = { λ _. 9223372036854775807 };
 
     ghost faults = { λ s. s.faults };
+
+    ghost failed_file = { λ s. s.failed_file };
 
     fn open_file(&mut self, name: &str) -> Result<Self::Dev, StoreStop> {
         if self.is_out(name) {
