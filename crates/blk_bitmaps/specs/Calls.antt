@@ -3,7 +3,7 @@ use Rattle.std.specs.Prelude.{ℕ, ◌==◌, Bool, true, false, not, if◌then�
 use Rattle.blk_base.specs.Pieces.{Extent}
 use Rattle.blk_base.specs.Written.{Written}
 use Rattle.blk_bitmaps.specs.declared.row.Bitmap.{Bitmap}
-use Rattle.blk_bitmaps.specs.declared.sources.Source.{Source}
+use Rattle.blk_bitmaps.specs.declared.sources.SourceBitmap.{SourceBitmap}
 use Rattle.blk_bitmaps.specs.Rows.{added, switched, emptied, filled, written, merged_row, used, use_ended, is_named, records, is_used_by}
 use Rattle.blk_bitmaps.specs.Refusals.{source_of}
 
@@ -14,7 +14,7 @@ pub data Call : Type 0 where
   Enable : ℕ → List ℕ → Call
   Disable : ℕ → List ℕ → Call
   Clear : ℕ → List ℕ → Call
-  Merge : ℕ → List ℕ → List Source → Call
+  Merge : ℕ → List ℕ → List SourceBitmap → Call
   NoteWrite : ℕ → Extent → Call
   NoteAll : ℕ → Call
   Freeze : ℕ → List ℕ → ℕ → Call
@@ -39,7 +39,7 @@ abbrev pub with_source : List Bitmap → ℕ → List ℕ → Option Bitmap → 
 with_source rows node name None = rows
 with_source rows node name (Some source) = with_first (is_named node name) (merged_row source) rows
 
-abbrev pub with_sources : List Bitmap → ℕ → List ℕ → List Source → List Bitmap
+abbrev pub with_sources : List Bitmap → ℕ → List ℕ → List SourceBitmap → List Bitmap
 with_sources rows node name [] = rows
 with_sources rows node name (source ∷ sources) =
     with_sources (with_source rows node name (source_of rows source)) node name sources

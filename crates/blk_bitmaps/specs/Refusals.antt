@@ -2,7 +2,7 @@
 use Rattle.std.specs.Prelude.{ℕ, ◌==◌, nat_le, Bool, true, not, if◌then◌else◌, List, [], ◌∷◌, length, Option, Some, None, is_some, is_none}
 use Rattle.std.specs.List.{list_any}
 use Rattle.blk_bitmaps.specs.declared.row.Bitmap.{Bitmap}
-use Rattle.blk_bitmaps.specs.declared.sources.Source.{Source}
+use Rattle.blk_bitmaps.specs.declared.sources.SourceBitmap.{SourceBitmap}
 use Rattle.blk_bitmaps.specs.declared.stop.BitmapStop.{BitmapStop}
 use Rattle.blk_bitmaps.specs.declared.stop.BitmapStop.TheVariants.{NameTaken, NotFound, Busy, Granularity, SizeDiffers, TooMany}
 use Rattle.blk_bitmaps.specs.Rows.{is_named, is_granule_size}
@@ -31,11 +31,11 @@ abbrev pub use_refusal : Option Bitmap → Option BitmapStop
 use_refusal None = Some NotFound
 use_refusal (Some row) = busy_refusal row.busy
 
-abbrev pub source_of : List Bitmap → Source → Option Bitmap
+abbrev pub source_of : List Bitmap → SourceBitmap → Option Bitmap
 source_of rows source = find rows source.node source.name.bytes
 
 -- a source is not there
-abbrev pub is_absent : List Bitmap → List Source → Bool
+abbrev pub is_absent : List Bitmap → List SourceBitmap → Bool
 is_absent rows sources = list_any (λ source. is_none (source_of rows source)) sources
 
 abbrev pub job_of : Option Bitmap → Option ℕ
@@ -43,7 +43,7 @@ job_of None = None
 job_of (Some row) = row.busy
 
 -- the job of the first of the sources that is busy
-abbrev pub first_job : List Bitmap → List Source → Option ℕ
+abbrev pub first_job : List Bitmap → List SourceBitmap → Option ℕ
 first_job rows [] = None
 first_job rows (source ∷ sources) =
     elim (job_of (source_of rows source)) as (λ _. Option ℕ) [
@@ -56,11 +56,11 @@ has_size size None = true
 has_size size (Some row) = row.size == size
 
 -- a source is of a disk of another size
-abbrev pub differs : List Bitmap → ℕ → List Source → Bool
+abbrev pub differs : List Bitmap → ℕ → List SourceBitmap → Bool
 differs rows size sources = list_any (λ source. not (has_size size (source_of rows source))) sources
 
 -- a merge of these sources into the row
-abbrev pub sources_refusal : List Bitmap → Bitmap → List Source → Option BitmapStop
+abbrev pub sources_refusal : List Bitmap → Bitmap → List SourceBitmap → Option BitmapStop
 sources_refusal rows row sources =
     if is_absent rows sources then Some NotFound
     else elim row.busy as (λ _. Option BitmapStop) [
@@ -71,6 +71,6 @@ sources_refusal rows row sources =
       ]
     ]
 
-abbrev pub merge_refusal : List Bitmap → Option Bitmap → List Source → Option BitmapStop
+abbrev pub merge_refusal : List Bitmap → Option Bitmap → List SourceBitmap → Option BitmapStop
 merge_refusal rows None sources = Some NotFound
 merge_refusal rows (Some row) sources = sources_refusal rows row sources

@@ -13,5 +13,5 @@ mod stop;
 pub use bitmaps::{Bitmaps, MOST_BITMAPS};
 pub use granularity::Granularity;
 pub use row::Bitmap;
-pub use sources::{Source, Sources};
+pub use sources::{SourceBitmap, Sources};
 pub use stop::BitmapStop;

@@ -7,7 +7,7 @@ ghost use Rattle.blk_bitmaps.specs.declared.row.Bitmap.{Bitmap};
 
 use crate::find::{find, place_of};
 use crate::row::Bitmap;
-use crate::sources::Source;
+use crate::sources::SourceBitmap;
 use crate::stop::BitmapStop;
 use blk_graph::NodeId;
 
@@ -16,7 +16,7 @@ pub(crate) fn judge(
     rows: &[Bitmap],
     node: NodeId,
     target: &str,
-    sources: &[Source],
+    sources: &[SourceBitmap],
 ) -> Result<(), BitmapStop>
     ensures { MatchOption (merge_refusal rows.now (find rows.now node target.now) sources.now)
         (IsOk result) (λ stop. result ≡ Err stop) }
@@ -27,7 +27,7 @@ pub(crate) fn judge(
     }
 }
 
-fn judge_sources(rows: &[Bitmap], row: &Bitmap, sources: &[Source]) -> Result<(), BitmapStop>
+fn judge_sources(rows: &[Bitmap], row: &Bitmap, sources: &[SourceBitmap]) -> Result<(), BitmapStop>
     ensures { MatchOption (sources_refusal rows.now row.now sources.now) (IsOk result)
         (λ stop. result ≡ Err stop) }
 {
@@ -47,7 +47,7 @@ fn judge_sources(rows: &[Bitmap], row: &Bitmap, sources: &[Source]) -> Result<()
 }
 
 /// Whether a source is not there.
-fn is_absent(rows: &[Bitmap], sources: &[Source]) -> bool
+fn is_absent(rows: &[Bitmap], sources: &[SourceBitmap]) -> bool
     ensures { result ≡ is_absent rows.now sources.now }
 {
     sources
@@ -56,7 +56,7 @@ fn is_absent(rows: &[Bitmap], sources: &[Source]) -> bool
 }
 
 /// The job of the first source that is busy.
-fn first_job(rows: &[Bitmap], sources: &[Source]) -> Option<u32>
+fn first_job(rows: &[Bitmap], sources: &[SourceBitmap]) -> Option<u32>
     ensures { result ≡ first_job rows.now sources.now }
 {
     for source in sources {
@@ -69,25 +69,25 @@ fn first_job(rows: &[Bitmap], sources: &[Source]) -> Option<u32>
 }
 
 /// Whether a source is of a disk of another size.
-fn differs(rows: &[Bitmap], size: u64, sources: &[Source]) -> bool
+fn differs(rows: &[Bitmap], size: u64, sources: &[SourceBitmap]) -> bool
     ensures { result ≡ differs rows.now size sources.now }
 {
     sources.iter().any(|source| !has_size(rows, size, source))
 }
 
-fn source_of<'a>(rows: &'a [Bitmap], source: &Source) -> Option<&'a Bitmap>
+fn source_of<'a>(rows: &'a [Bitmap], source: &SourceBitmap) -> Option<&'a Bitmap>
     ensures { option_copied result ≡ source_of rows.now source.now }
 {
     find(rows, source.node, source.name.as_str())
 }
 
-fn job_of(rows: &[Bitmap], source: &Source) -> Option<u32>
+fn job_of(rows: &[Bitmap], source: &SourceBitmap) -> Option<u32>
     ensures { result ≡ job_of (source_of rows.now source.now) }
 {
     source_of(rows, source)?.busy
 }
 
-fn has_size(rows: &[Bitmap], size: u64, source: &Source) -> bool
+fn has_size(rows: &[Bitmap], size: u64, source: &SourceBitmap) -> bool
     ensures { result ≡ has_size size (source_of rows.now source.now) }
 {
     match source_of(rows, source) {
@@ -97,7 +97,7 @@ fn has_size(rows: &[Bitmap], size: u64, source: &Source) -> bool
 }
 
 /// Merges the sources one after another into the bitmap of a name.
-pub(crate) fn merge(rows: &mut [Bitmap], node: NodeId, target: &str, sources: &[Source])
+pub(crate) fn merge(rows: &mut [Bitmap], node: NodeId, target: &str, sources: &[SourceBitmap])
     ensures { rows.new ≡ with_sources rows.old node target.now sources.now }
 {
     for source in sources {
@@ -105,7 +105,7 @@ pub(crate) fn merge(rows: &mut [Bitmap], node: NodeId, target: &str, sources: &[
     }
 }
 
-fn merge_source(rows: &mut [Bitmap], node: NodeId, target: &str, source: &Source)
+fn merge_source(rows: &mut [Bitmap], node: NodeId, target: &str, source: &SourceBitmap)
     ensures { rows.new ≡ with_source rows.old node target.now (source_of rows.old source.now) }
 {
     merge_named(rows, node, target, source.node, source.name.as_str());

@@ -28,14 +28,14 @@ use Rattle.blk_graph.proofs.RefreshLemmas.{EachIs-turned, EndsAt, EndsAt-mapped,
 use Rattle.blk_graph.proofs.RoleLemmas.{EachIs}
 
 -- the same edge, and as it was set where it is a guest's or a job's
-pub record IsAlike (a b : Edge) : Type 0 where
+pub record IsEdgeAlike (a b : Edge) : Type 0 where
   pub same : IsSameEdge a b
   pub set : ((n : ℕ) → b.parent ≡ Node n → ⊥) → a ≡ b
 
-abbrev pub AreAlike : List Edge → List Edge → Type 0
-AreAlike [] [] = Unit {0}
-AreAlike (a ∷ as') (b ∷ bs) = IsAlike a b × AreAlike as' bs
-AreAlike _ _ = ⊥
+abbrev pub AreEdgesAlike : List Edge → List Edge → Type 0
+AreEdgesAlike [] [] = Unit {0}
+AreEdgesAlike (a ∷ as') (b ∷ bs) = IsEdgeAlike a b × AreEdgesAlike as' bs
+AreEdgesAlike _ _ = ⊥
 
 edge-same : (a b : Edge) → IsSameEdge a b → a.perm ≡ b.perm → a.shared ≡ b.shared → a ≡ b
 edge-same a b same perm shared =
@@ -45,14 +45,14 @@ edge-same a b same perm shared =
     ∙ ap (λ x. let e : Edge = record { parent = b.parent; role = b.role; child = b.child; perm = x; shared = a.shared } in e) perm
     ∙ ap (λ x. let e : Edge = record { parent = b.parent; role = b.role; child = b.child; perm = b.perm; shared = x } in e) shared
 
-alike-refl : (e : Edge) → IsAlike e e
+alike-refl : (e : Edge) → IsEdgeAlike e e
 alike-refl e = record { same = record { parent = refl; role = refl; child = refl }; set = λ none. refl }
 
-all_alike : (edges : List Edge) → AreAlike edges edges
+all_alike : (edges : List Edge) → AreEdgesAlike edges edges
 all_alike [] = tt
 all_alike (e ∷ edges) = (alike-refl e, all_alike edges)
 
-alike-trans : (a b c : Edge) → IsAlike a b → IsAlike b c → IsAlike a c
+alike-trans : (a b c : Edge) → IsEdgeAlike a b → IsEdgeAlike b c → IsEdgeAlike a c
 alike-trans a b c h k = record {
   same = record {
     parent = h.same.parent ∙ k.same.parent;
@@ -62,7 +62,7 @@ alike-trans a b c h k = record {
   set = λ none. h.set (λ n is. none n (sym k.same.parent ∙ is)) ∙ k.set none;
 }
 
-all_alike-trans : (a b c : List Edge) → AreAlike a b → AreAlike b c → AreAlike a c
+all_alike-trans : (a b c : List Edge) → AreEdgesAlike a b → AreEdgesAlike b c → AreEdgesAlike a c
 all_alike-trans [] [] [] h k = tt
 all_alike-trans (a ∷ as') (b ∷ bs) (c ∷ cs) h k = (alike-trans a b c h.0 k.0, all_alike-trans as' bs cs h.1 k.1)
 all_alike-trans [] [] (c ∷ cs) h k = absurd k
@@ -70,20 +70,20 @@ all_alike-trans [] (b ∷ bs) c h k = absurd h
 all_alike-trans (a ∷ as') [] c h k = absurd h
 all_alike-trans (a ∷ as') (b ∷ bs) [] h k = absurd k
 
-alike-sym : (a b : Edge) → IsAlike a b → IsAlike b a
+alike-sym : (a b : Edge) → IsEdgeAlike a b → IsEdgeAlike b a
 alike-sym a b h = record {
   same = record { parent = sym h.same.parent; role = sym h.same.role; child = sym h.same.child };
   set = λ none. sym (h.set (λ n is. none n (h.same.parent ∙ is)));
 }
 
-all_alike-sym : (a b : List Edge) → AreAlike a b → AreAlike b a
+all_alike-sym : (a b : List Edge) → AreEdgesAlike a b → AreEdgesAlike b a
 all_alike-sym [] [] h = tt
 all_alike-sym (a ∷ as') (b ∷ bs) h = (alike-sym a b h.0, all_alike-sym as' bs h.1)
 all_alike-sym [] (b ∷ bs) h = absurd h
 all_alike-sym (a ∷ as') [] h = absurd h
 
 -- a derivation leaves a list alike
-ruled-alike : (kinds : List NodeKind) (above : ℕ → Uses) (e : Edge) → IsAlike (ruled kinds above e) e
+ruled-alike : (kinds : List NodeKind) (above : ℕ → Uses) (e : Edge) → IsEdgeAlike (ruled kinds above e) e
 ruled-alike kinds above e = record { same = ruled-same kinds above e; set = λ none. by_parent e.parent refl none }
   where
     by_parent : (p : Parent) → e.parent ≡ p → ((n : ℕ) → e.parent ≡ Node n → ⊥) → ruled_from kinds above e p ≡ e
@@ -91,45 +91,45 @@ ruled-alike kinds above e = record { same = ruled-same kinds above e; set = λ n
     by_parent (Guest n) is none = refl
     by_parent (Job n) is none = refl
 
-all_ruled-alike : (kinds : List NodeKind) (above : ℕ → Uses) (edges : List Edge) → AreAlike (map (ruled kinds above) edges) edges
+all_ruled-alike : (kinds : List NodeKind) (above : ℕ → Uses) (edges : List Edge) → AreEdgesAlike (map (ruled kinds above) edges) edges
 all_ruled-alike kinds above [] = tt
 all_ruled-alike kinds above (e ∷ edges) = (ruled-alike kinds above e, all_ruled-alike kinds above edges)
 
-turned_by-alike : (kinds : List NodeKind) (edges : List Edge) (turns : ℕ) → AreAlike (turned_by turns kinds edges) edges
+turned_by-alike : (kinds : List NodeKind) (edges : List Edge) (turns : ℕ) → AreEdgesAlike (turned_by turns kinds edges) edges
 turned_by-alike kinds edges zero = all_alike edges
 turned_by-alike kinds edges (suc turns) =
     all_alike-trans (turned_by (suc turns) kinds edges) (turned_by turns kinds edges) edges
     (all_ruled-alike kinds (uses_into (turned_by turns kinds edges)) (turned_by turns kinds edges)) (turned_by-alike kinds edges turns)
 
-pub refreshed-alike : (kinds : List NodeKind) (edges : List Edge) → AreAlike (refreshed kinds edges) edges
+pub refreshed-alike : (kinds : List NodeKind) (edges : List Edge) → AreEdgesAlike (refreshed kinds edges) edges
 unfolding refreshed
 refreshed-alike kinds edges = turned_by-alike kinds edges 64
 
 -- an edit by parents, roles and children leaves alike lists alike
-filter-alike : (p q : Edge → Bool) → ((a b : Edge) → IsAlike a b → p a ≡ q b) → (a b : List Edge) → AreAlike a b → AreAlike (filter p a) (filter q b)
+filter-alike : (p q : Edge → Bool) → ((a b : Edge) → IsEdgeAlike a b → p a ≡ q b) → (a b : List Edge) → AreEdgesAlike a b → AreEdgesAlike (filter p a) (filter q b)
 filter-alike p q same [] [] h = tt
 filter-alike p q same (a ∷ as') (b ∷ bs) h = rw (same a b h.0) (by_test (q b) (filter-alike p q same as' bs h.1))
   where
-    by_test : (t : Bool) → AreAlike (filter p as') (filter q bs)
-        → AreAlike (cond t (a ∷ filter p as') (filter p as')) (cond t (b ∷ filter q bs) (filter q bs))
+    by_test : (t : Bool) → AreEdgesAlike (filter p as') (filter q bs)
+        → AreEdgesAlike (cond t (a ∷ filter p as') (filter p as')) (cond t (b ∷ filter q bs) (filter q bs))
     by_test true ih = (h.0, ih)
     by_test false ih = ih
 filter-alike p q same [] (b ∷ bs) h = absurd h
 filter-alike p q same (a ∷ as') [] h = absurd h
 
-list_any-alike : (p q : Edge → Bool) → ((a b : Edge) → IsAlike a b → p a ≡ q b) → (a b : List Edge) → AreAlike a b → list_any p a ≡ list_any q b
+list_any-alike : (p q : Edge → Bool) → ((a b : Edge) → IsEdgeAlike a b → p a ≡ q b) → (a b : List Edge) → AreEdgesAlike a b → list_any p a ≡ list_any q b
 list_any-alike p q same [] [] h = refl
 list_any-alike p q same (a ∷ as') (b ∷ bs) h =
     ap (λ t. t || list_any p as') (same a b h.0) ∙ ap (λ t. q b || t) (list_any-alike p q same as' bs h.1)
 list_any-alike p q same [] (b ∷ bs) h = absurd h
 list_any-alike p q same (a ∷ as') [] h = absurd h
 
-is_edge-alike : (parent : Parent) (role : Role) (a b : Edge) → IsAlike a b → is_edge parent role a ≡ is_edge parent role b
+is_edge-alike : (parent : Parent) (role : Role) (a b : Edge) → IsEdgeAlike a b → is_edge parent role a ≡ is_edge parent role b
 is_edge-alike parent role a b h =
     ap (λ p. same_parent p parent && same_role a.role role) h.same.parent
     ∙ ap (λ r. same_parent b.parent parent && same_role r role) h.same.role
 
-is_double-alike : (from to : ℕ) (as' bs : List Edge) → AreAlike as' bs → (a b : Edge) → IsAlike a b
+is_double-alike : (from to : ℕ) (as' bs : List Edge) → AreEdgesAlike as' bs → (a b : Edge) → IsEdgeAlike a b
     → is_double as' from to a ≡ is_double bs from to b
 is_double-alike from to as' bs alike a b h =
     ap (λ c. not (from == to) && c == from && same_role a.role Between && list_any (is_between a.parent to) as') h.same.child
@@ -140,24 +140,24 @@ is_double-alike from to as' bs alike a b h =
     (λ x y k. ap (λ t. t && x.child == to) (is_edge-alike b.parent Between x y k) ∙ ap (λ c. is_edge b.parent Between y && c == to) k.same.child)
     as' bs alike)
 
-moved-alike : (from to : ℕ) (a b : Edge) → IsAlike a b → IsAlike (moved from to a) (moved from to b)
+moved-alike : (from to : ℕ) (a b : Edge) → IsEdgeAlike a b → IsEdgeAlike (moved from to a) (moved from to b)
 moved-alike from to a b h =
-    subst (λ t. IsAlike (cond t (with_child to a) a) (moved from to b)) (ap (λ c. c == from) (sym h.same.child)) (by_test (b.child == from))
+    subst (λ t. IsEdgeAlike (cond t (with_child to a) a) (moved from to b)) (ap (λ c. c == from) (sym h.same.child)) (by_test (b.child == from))
   where
-    by_test : (t : Bool) → IsAlike (cond t (with_child to a) a) (cond t (with_child to b) b)
+    by_test : (t : Bool) → IsEdgeAlike (cond t (with_child to a) a) (cond t (with_child to b) b)
     by_test true = record {
       same = record { parent = h.same.parent; role = h.same.role; child = refl };
       set = λ none. ap (with_child to) (h.set none);
     }
     by_test false = h
 
-map_moved-alike : (from to : ℕ) (a b : List Edge) → AreAlike a b → AreAlike (map (moved from to) a) (map (moved from to) b)
+map_moved-alike : (from to : ℕ) (a b : List Edge) → AreEdgesAlike a b → AreEdgesAlike (map (moved from to) a) (map (moved from to) b)
 map_moved-alike from to [] [] h = tt
 map_moved-alike from to (a ∷ as') (b ∷ bs) h = (moved-alike from to a b h.0, map_moved-alike from to as' bs h.1)
 map_moved-alike from to [] (b ∷ bs) h = absurd h
 map_moved-alike from to (a ∷ as') [] h = absurd h
 
-with_moved-alike : (from to : ℕ) (a b : List Edge) → AreAlike a b → AreAlike (with_moved from to a) (with_moved from to b)
+with_moved-alike : (from to : ℕ) (a b : List Edge) → AreEdgesAlike a b → AreEdgesAlike (with_moved from to a) (with_moved from to b)
 with_moved-alike from to a b h =
     map_moved-alike from to (but_doubles from to a) (but_doubles from to b)
     (filter-alike (λ e. not (is_double a from to e)) (λ e. not (is_double b from to e))
@@ -166,10 +166,10 @@ with_moved-alike from to a b h =
 -- what is found in both
 abbrev FoundAlike : Option Edge → Option Edge → Type 0
 FoundAlike None None = Unit {0}
-FoundAlike (Some a) (Some b) = IsAlike a b
+FoundAlike (Some a) (Some b) = IsEdgeAlike a b
 FoundAlike _ _ = ⊥
 
-find-alike : (p : Edge → Bool) → ((a b : Edge) → IsAlike a b → p a ≡ p b) → (a b : List Edge) → AreAlike a b → FoundAlike (find p a) (find p b)
+find-alike : (p : Edge → Bool) → ((a b : Edge) → IsEdgeAlike a b → p a ≡ p b) → (a b : List Edge) → AreEdgesAlike a b → FoundAlike (find p a) (find p b)
 find-alike p same [] [] h = tt
 find-alike p same (a ∷ as') (b ∷ bs) h = rw (same a b h.0) (by_test (p b) (find-alike p same as' bs h.1))
   where
@@ -179,16 +179,16 @@ find-alike p same (a ∷ as') (b ∷ bs) h = rw (same a b h.0) (by_test (p b) (f
 find-alike p same [] (b ∷ bs) h = absurd h
 find-alike p same (a ∷ as') [] h = absurd h
 
-pub without_filter-alike : (over : ℕ) (a b : List Edge) → AreAlike a b → AreAlike (without_filter over a) (without_filter over b)
+pub without_filter-alike : (over : ℕ) (a b : List Edge) → AreEdgesAlike a b → AreEdgesAlike (without_filter over a) (without_filter over b)
 without_filter-alike over a b h =
     by_found (find (is_filters over) a) (find (is_filters over) b)
     (find-alike (is_filters over) (is_edge-alike (Node over) Filtered) a b h)
   where
-    rest : AreAlike (but_filters over a) (but_filters over b)
+    rest : AreEdgesAlike (but_filters over a) (but_filters over b)
     rest = filter-alike (λ e. not (is_filters over e)) (λ e. not (is_filters over e))
         (λ x y k. ap not (is_edge-alike (Node over) Filtered x y k)) a b h
 
-    by_found : (f g : Option Edge) → FoundAlike f g → AreAlike (elim f as (λ _. List Edge) [
+    by_found : (f g : Option Edge) → FoundAlike f g → AreEdgesAlike (elim f as (λ _. List Edge) [
       | None ↦ a
       | Some edge ↦ with_moved over edge.child (but_filters over a)
     ]) (elim g as (λ _. List Edge) [
@@ -215,7 +215,7 @@ derived-some Commit Filtered writes above h = (_, refl)
 derived-some _ _ writes above h = absurd cc
 
 -- from the same uses the same edge is derived
-ruled-both : (kinds : List NodeKind) (f g : ℕ → Uses) (a b : Edge) → IsAlike a b → IsByTable kinds b
+ruled-both : (kinds : List NodeKind) (f g : ℕ → Uses) (a b : Edge) → IsEdgeAlike a b → IsByTable kinds b
     → ((n : ℕ) → b.parent ≡ Node n → f n ≡ g n) → ruled kinds f a ≡ ruled kinds g b
 ruled-both kinds f g a b h table same = ap (ruled_from kinds f a) h.same.parent ∙ by_parent b.parent refl table
   where
@@ -236,7 +236,7 @@ ruled-both kinds f g a b h table same = ap (ruled_from kinds f a) h.same.parent 
     by_parent (Job n) is own = h.set (λ m at. absurd (let no : Job n ≡ Node m = sym is ∙ at in cc))
 
 -- what both lists ask of a node, where the edges into it are the same
-uses-both : (kinds : List NodeKind) (f g : ℕ → Uses) (n : ℕ) (a b : List Edge) → AreAlike a b → EachIs (IsByTable kinds) b
+uses-both : (kinds : List NodeKind) (f g : ℕ → Uses) (n : ℕ) (a b : List Edge) → AreEdgesAlike a b → EachIs (IsByTable kinds) b
     → ((e : Edge) (p : ℕ) → Contains b e → e.child ≡ n → e.parent ≡ Node p → f p ≡ g p)
     → uses_into (map (ruled kinds f) a) n ≡ uses_into (map (ruled kinds g) b) n
 uses-both kinds f g n [] [] h table same = refl
@@ -258,7 +258,7 @@ uses-both kinds f g n [] (b ∷ bs) h table same = absurd h
 uses-both kinds f g n (a ∷ as') [] h table same = absurd h
 
 -- the same of the whole lists
-ruled_all-both : (kinds : List NodeKind) (f g : ℕ → Uses) (a b : List Edge) → AreAlike a b → EachIs (IsByTable kinds) b
+ruled_all-both : (kinds : List NodeKind) (f g : ℕ → Uses) (a b : List Edge) → AreEdgesAlike a b → EachIs (IsByTable kinds) b
     → ((e : Edge) (p : ℕ) → Contains b e → e.parent ≡ Node p → f p ≡ g p) → map (ruled kinds f) a ≡ map (ruled kinds g) b
 ruled_all-both kinds f g [] [] h table same = refl
 ruled_all-both kinds f g (a ∷ as') (b ∷ bs) h table same =
@@ -274,8 +274,8 @@ table_by kinds edges table (suc k) =
     EachIs-turned (IsByTable kinds) kinds (turned_by k kinds edges)
     (λ e. table_ruled kinds kinds (uses_into (turned_by k kinds edges)) e) (table_by kinds edges table k)
 
-module _ (kinds : List NodeKind) (a b : List Edge) (alike : AreAlike a b) (table : EachIs (IsByTable kinds) b) where
-  alike_by : (k : ℕ) → AreAlike (turned_by k kinds a) (turned_by k kinds b)
+module _ (kinds : List NodeKind) (a b : List Edge) (alike : AreEdgesAlike a b) (table : EachIs (IsByTable kinds) b) where
+  alike_by : (k : ℕ) → AreEdgesAlike (turned_by k kinds a) (turned_by k kinds b)
   alike_by k =
       all_alike-trans (turned_by k kinds a) a (turned_by k kinds b) (turned_by-alike kinds a k)
       (all_alike-trans a b (turned_by k kinds b) alike (all_alike-sym (turned_by k kinds b) b (turned_by-alike kinds b k)))
@@ -310,12 +310,12 @@ pub filter_back : (kinds : List NodeKind) (edges : List Edge) (node over : ℕ) 
 filter_back kinds edges node over perm shared differ lone table listed acyclic stays =
     let put : List Edge = with_filter node over perm shared edges in
     let back : without_filter over put ≡ edges = without_filter-with_filter edges node over perm shared differ lone in
-    let alike : AreAlike (without_filter over (refreshed kinds put)) (without_filter over put)
+    let alike : AreEdgesAlike (without_filter over (refreshed kinds put)) (without_filter over put)
     = without_filter-alike over (refreshed kinds put) put (refreshed-alike kinds put) in
     refreshed-both kinds (without_filter over (refreshed kinds put)) edges (rw back at alike) table listed acyclic
     ∙ refreshed-fixed kinds edges stays
 
-push_alike : (x y : Edge) → IsAlike x y → (a b : List Edge) → AreAlike a b → AreAlike (a ++ x ∷ []) (b ++ y ∷ [])
+push_alike : (x y : Edge) → IsEdgeAlike x y → (a b : List Edge) → AreEdgesAlike a b → AreEdgesAlike (a ++ x ∷ []) (b ++ y ∷ [])
 push_alike x y h [] [] k = (h, tt)
 push_alike x y h (a ∷ as') (b ∷ bs) k = (k.0, push_alike x y h as' bs k.1)
 push_alike x y h [] (b ∷ bs) k = absurd k

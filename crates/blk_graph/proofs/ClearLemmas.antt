@@ -19,7 +19,7 @@ use Rattle.std.proofs.lemmas.List.{length-set}
 use Rattle.blk_graph.specs.Walk.{is_marked, mark_count}
 use Rattle.blk_graph.proofs.WalkLemmas.{mark_count-set}
 use Rattle.blk_graph.proofs.CycleLemmas.{and-left, and-right, same_parent-true}
-use Rattle.blk_graph.proofs.IdLemmas.{below, below-there, length-below}
+use Rattle.blk_graph.proofs.IdLemmas.{numbers_below, below-there, length-below}
 use Rattle.blk_graph.proofs.InverseLemmas.{same_parent-refl}
 use Rattle.blk_graph.proofs.LengthLemmas.{visited, length-visited, visited-within}
 use Rattle.blk_graph.proofs.Members.{Contains-here, Contains-there, Contains-cases, Contains-nil, list_any-there}
@@ -171,11 +171,11 @@ module _ (edges : List Edge) (clear : List Bool) (listed : IsListed edges) (stuc
       elim (twice_or_once edges node r.1 r.0 r.2) [
         | inl cycle ↦ cycle
         | inr once ↦
-            let within : (q : ℕ) → is_member nat_eq (visited node r.0) q ≡ true → is_member nat_eq (below 64) q ≡ true
-            = λ q m. (is_member-Decides unsigned_Decides (below 64) q).1
-            (visited-within edges (below 64) node r.1 r.0 (λ e h. below-there 64 e.child (listed.each e h).child)
+            let within : (q : ℕ) → is_member nat_eq (visited node r.0) q ≡ true → is_member nat_eq (numbers_below 64) q ≡ true
+            = λ q m. (is_member-Decides unsigned_Decides (numbers_below 64) q).1
+            (visited-within edges (numbers_below 64) node r.1 r.0 (λ e h. below-there 64 e.child (listed.each e h).child)
             (below-there 64 node small) r.2 q ((is_member-Decides unsigned_Decides (visited node r.0) q).0 m)) in
-            let fewer = length-le_from_is_member nat_eq_equiv (visited node r.0) (below 64) once within in
+            let fewer = length-le_from_is_member nat_eq_equiv (visited node r.0) (numbers_below 64) once within in
             absurd (omega (arith, fewer, length-visited node r.0, length-below 64, r.3))
       ]
 

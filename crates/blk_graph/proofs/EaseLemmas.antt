@@ -17,7 +17,7 @@ use Rattle.blk_graph.specs.declared.kind.Kind.{Kind}
 use Rattle.blk_graph.specs.declared.kind.Kind.TheVariants.{Raw, Qcow2, CopyOnRead, BeforeWrite, Mirror, Commit}
 use Rattle.blk_graph.specs.declared.kind.NodeKind.{NodeKind}
 use Rattle.blk_graph.specs.Drafts.{WriteLess, KeepsRule}
-use Rattle.blk_graph.specs.Edges.{has_perm, IsWithin}
+use Rattle.blk_graph.specs.Edges.{has_perm, ArePermsWithin}
 use Rattle.blk_graph.specs.Permissions.{perms, idle_uses, derived_uses, uses_by}
 use Rattle.blk_graph.specs.Refreshed.{kind_at, joined, uses_into, with_uses, ruled, ruled_from, turned_by, refreshed, IsRefreshed}
 use Rattle.blk_graph.specs.Rule.{KeepsPermissions}
@@ -27,15 +27,15 @@ use Rattle.blk_graph.proofs.RoleLemmas.{tail_pairs, head_pairs, more_pairs}
 
 -- less is asked, and more is shared
 pub record IsLighter (a b : Uses) : Type 0 where
-  pub asks : IsWithin a.perm b.perm
-  pub shares : IsWithin b.shared a.shared
+  pub asks : ArePermsWithin a.perm b.perm
+  pub shares : ArePermsWithin b.shared a.shared
 
 pub record IsEasier (a b : Edge) : Type 0 where
   pub parent : a.parent ≡ b.parent
   pub role : a.role ≡ b.role
   pub child : a.child ≡ b.child
-  pub asks : IsWithin a.perm b.perm
-  pub shares : IsWithin b.shared a.shared
+  pub asks : ArePermsWithin a.perm b.perm
+  pub shares : ArePermsWithin b.shared a.shared
 
 either_within : (a b c d : Bool) → (a ≡ true → c ≡ true) → (b ≡ true → d ≡ true) → (a || b) ≡ true → (c || d) ≡ true
 either_within true b c d h k is = rw (h refl) refl
@@ -107,7 +107,7 @@ AreLighter (Some a) (Some b) = IsLighter a b
 AreLighter _ _ = ⊥
 
 perms_within : (a b c x y z : Bool) → (a ≡ true → x ≡ true) → (b ≡ true → y ≡ true) → (c ≡ true → z ≡ true)
-    → IsWithin (perms a b c) (perms x y z)
+    → ArePermsWithin (perms a b c) (perms x y z)
 perms_within a b c x y z r w u Read = r
 perms_within a b c x y z r w u Write = w
 perms_within a b c x y z r w u Unchanged = u
@@ -250,7 +250,7 @@ eased_filter p (e ∷ edges) = by_test (p e) (eased_filter p edges)
 
 -- two edges of one child agree, whichever of them asks
 abbrev pub Agree : Edge → Edge → Type 0
-Agree a b = a.child ≡ b.child → IsWithin a.perm b.shared × IsWithin b.perm a.shared
+Agree a b = a.child ≡ b.child → ArePermsWithin a.perm b.shared × ArePermsWithin b.perm a.shared
 
 agree-easier : (a b x y : Edge) → IsEasier a x → IsEasier b y → Agree x y → Agree a b
 agree-easier a b x y h k agree same =

@@ -17,13 +17,13 @@ use Rattle.blk_graph.proofs.EditLemmas.{moved-parent, moved-cases, Contains-with
 use Rattle.blk_graph.proofs.CycleLemmas.{and-left, same_parent-true}
 
 -- where each node stood before the filter was set
-abbrev pub behind : ℕ → ℕ → ℕ → ℕ
-behind node filter x = cond (x == filter) node x
+abbrev pub before_filter : ℕ → ℕ → ℕ → ℕ
+before_filter node filter x = cond (x == filter) node x
 
-pub behind-filter : (node filter x : ℕ) → x ≡ filter → behind node filter x ≡ node
+pub behind-filter : (node filter x : ℕ) → x ≡ filter → before_filter node filter x ≡ node
 behind-filter node filter x h = rw (eq-eqb x filter h) refl
 
-pub behind-other : (node filter x : ℕ) → x ≢ filter → behind node filter x ≡ x
+pub behind-other : (node filter x : ℕ) → x ≢ filter → before_filter node filter x ≡ x
 behind-other node filter x h = rw (ne_eqb x filter h) refl
 
 module _ (edges : List Edge) (node filter : ℕ) (perm shared : Perms)
@@ -31,15 +31,15 @@ module _ (edges : List Edge) (node filter : ℕ) (perm shared : Perms)
   -- an edge of the edited list is the filter's, or stands for one that was there
   filter_step : (a : ℕ) (e : Edge) → Contains (with_filter node filter perm shared edges) e
       → e.parent ≡ Node a
-      → ((a ≡ filter) × (e.child ≡ node)) ⊎ Reaches edges (behind node filter a) (behind node filter e.child)
+      → ((a ≡ filter) × (e.child ≡ node)) ⊎ Reaches edges (before_filter node filter a) (before_filter node filter e.child)
   filter_step a e h k =
       elim (Contains-push_cases (with_moved node filter edges) (filter_edge filter node perm shared) e h) [
         | inl was ↦
             let r = Contains-with_moved node filter edges e was in
             let parent : r.0.parent ≡ Node a = sym (moved-parent node filter r.0) ∙ ap (λ (x : Edge). x.parent) (sym r.2) ∙ k in
-            let from : behind node filter a ≡ a
+            let from : before_filter node filter a ≡ a
             = behind-other node filter a (λ same. lone.leaves r.0 r.1 (parent ∙ ap Node same)) in
-            let to : behind node filter e.child ≡ r.0.child
+            let to : before_filter node filter e.child ≡ r.0.child
             = elim (moved-cases node filter r.0) [
               | inl is ↦ behind-filter node filter e.child (ap (λ (x : Edge). x.child) (r.2 ∙ is.1)) ∙ sym is.0
               | inr is ↦
@@ -56,7 +56,7 @@ module _ (edges : List Edge) (node filter : ℕ) (perm shared : Perms)
   -- a path of the edited list was one before, or it is the filter's edge
   filter_path : (a b : ℕ) (e : Edge) (p : List Edge)
       → IsPath (with_filter node filter perm shared edges) a (e ∷ p) b
-      → Reaches edges (behind node filter a) (behind node filter b) ⊎ ((a ≡ filter) × (b ≡ node))
+      → Reaches edges (before_filter node filter a) (before_filter node filter b) ⊎ ((a ≡ filter) × (b ≡ node))
   filter_path a b e [] h = elim (filter_step a e h.0 h.1) [
     | inl is ↦ inr (is.0, sym h.2 ∙ is.1)
     | inr was ↦ inl (rw (sym h.2) was)
@@ -64,16 +64,16 @@ module _ (edges : List Edge) (node filter : ℕ) (perm shared : Perms)
   filter_path a b e (f ∷ p) h = elim (filter_step a e h.0 h.1) [
     | inl is ↦ elim (filter_path e.child b f p h.2) [
       | inl rest ↦
-          let same : behind node filter a ≡ behind node filter e.child
+          let same : before_filter node filter a ≡ before_filter node filter e.child
           = behind-filter node filter a is.0
           ∙ sym (behind-other node filter e.child (λ q. differ (sym q ∙ is.1)) ∙ is.1) in
           inl (rw same rest)
       | inr at_filter ↦ absurd (differ (sym at_filter.0 ∙ is.1))
     ]
     | inr was ↦ elim (filter_path e.child b f p h.2) [
-      | inl rest ↦ inl (Reaches-joined edges (behind node filter a) (behind node filter e.child) (behind node filter b) was rest)
+      | inl rest ↦ inl (Reaches-joined edges (before_filter node filter a) (before_filter node filter e.child) (before_filter node filter b) was rest)
       | inr at_filter ↦
-          let same : behind node filter b ≡ behind node filter e.child
+          let same : before_filter node filter b ≡ before_filter node filter e.child
           = behind-other node filter b (λ q. differ (sym q ∙ at_filter.1)) ∙ at_filter.1
           ∙ sym (behind-filter node filter e.child at_filter.0) in
           inl (rw same was)
@@ -83,7 +83,7 @@ module _ (edges : List Edge) (node filter : ℕ) (perm shared : Perms)
   -- a filter makes no cycle
   pub IsAcyclic-with_filter : IsAcyclic edges → IsAcyclic (with_filter node filter perm shared edges)
   IsAcyclic-with_filter acyclic n cycle = elim (filter_path n n cycle.first cycle.rest cycle.path) [
-    | inl was ↦ acyclic (behind node filter n) was
+    | inl was ↦ acyclic (before_filter node filter n) was
     | inr is ↦ differ (sym is.0 ∙ is.1)
   ]
 

@@ -11,48 +11,48 @@ use Rattle.blk_graph.specs.Ids.{IsLowestFree, lowest_from, lowest_free}
 use Rattle.blk_graph.proofs.Members.{Contains-here, Contains-there, Contains-cases, Contains-nil}
 
 -- the numbers below one
-abbrev pub below : ℕ → List ℕ
-below zero = []
-below (suc n) = n ∷ below n
+abbrev pub numbers_below : ℕ → List ℕ
+numbers_below zero = []
+numbers_below (suc n) = n ∷ numbers_below n
 
-pub below-less : (n q : ℕ) → Contains (below n) q → q < n
+pub below-less : (n q : ℕ) → Contains (numbers_below n) q → q < n
 below-less zero q h = absurd (Contains-nil q h)
-below-less (suc n) q h = elim (Contains-cases n (below n) q h) [
+below-less (suc n) q h = elim (Contains-cases n (numbers_below n) q h) [
   | inl here ↦ omega (arith, here)
   | inr there ↦ let less = below-less n q there in omega (arith, less)
 ]
 
-pub below-there : (n q : ℕ) → q < n → Contains (below n) q
+pub below-there : (n q : ℕ) → q < n → Contains (numbers_below n) q
 below-there zero q h = absurd (omega (arith, h))
 below-there (suc n) q h = elim (cases_order q n) [
-  | inl same ↦ rw same (Contains-here n (below n))
+  | inl same ↦ rw same (Contains-here n (numbers_below n))
   | inr differs ↦ elim differs [
-    | inl less ↦ Contains-there n (below n) q (below-there n q less)
+    | inl less ↦ Contains-there n (numbers_below n) q (below-there n q less)
     | inr more ↦ absurd (omega (arith, h, more))
   ]
 ]
 
-below-apart : (n m : ℕ) → n ≤ m → AllByRecursion (λ y. nat_eq m y ≡ false) (below n)
+below-apart : (n m : ℕ) → n ≤ m → AllByRecursion (λ y. nat_eq m y ≡ false) (numbers_below n)
 below-apart zero m h = tt
 below-apart (suc n) m h = (ne_eqb m n (λ e. omega (arith, h, e)), below-apart n m (omega (arith, h)))
 
-pub below-distinct : (n : ℕ) → IsDistinct nat_eq (below n)
+pub below-distinct : (n : ℕ) → IsDistinct nat_eq (numbers_below n)
 unfolding IsDistinct
 below-distinct zero = tt
-below-distinct (suc n) = IsDistinct-cons nat_eq n (below n) (below-apart n n (omega arith)) (below-distinct n)
+below-distinct (suc n) = IsDistinct-cons nat_eq n (numbers_below n) (below-apart n n (omega arith)) (below-distinct n)
 
-pub length-below : (n : ℕ) → length (below n) ≡ n
+pub length-below : (n : ℕ) → length (numbers_below n) ≡ n
 length-below zero = refl
 length-below (suc n) = let h = length-below n in omega (arith, h)
 
 -- where all ids are taken, the nodes are as many
 pub length-taken : (count : ℕ) (nodes : List ℕ) → ((id : ℕ) → id < count → Contains nodes id) → count ≤ length nodes
 length-taken count nodes taken =
-    let within : (q : ℕ) → is_member nat_eq (below count) q ≡ true → is_member nat_eq nodes q ≡ true
+    let within : (q : ℕ) → is_member nat_eq (numbers_below count) q ≡ true → is_member nat_eq nodes q ≡ true
     = λ q m. (is_member-Decides unsigned_Decides nodes q).1
-    (taken q (below-less count q ((is_member-Decides unsigned_Decides (below count) q).0 m))) in
-    let fewer : length (below count) ≤ length nodes
-    = length-le_from_is_member nat_eq_equiv (below count) nodes (below-distinct count) within in
+    (taken q (below-less count q ((is_member-Decides unsigned_Decides (numbers_below count) q).0 m))) in
+    let fewer : length (numbers_below count) ≤ length nodes
+    = length-le_from_is_member nat_eq_equiv (numbers_below count) nodes (below-distinct count) within in
     omega (arith, fewer, length-below count)
 
 -- which is the id that the definition names

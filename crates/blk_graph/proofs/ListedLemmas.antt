@@ -19,7 +19,7 @@ use Rattle.blk_graph.specs.declared.kind.NodeKind.{NodeKind}
 use Rattle.blk_graph.specs.Edges.{DifferInPlace, may_have, HasNumber, MayStand, IsListed}
 use Rattle.blk_graph.specs.Edits.{IsLone, with_edge, with_child, with_replaced, with_moved, with_filter, is_filters, but_filters, without_filter}
 use Rattle.blk_graph.specs.Refreshed.{refreshed}
-use Rattle.blk_graph.proofs.IdLemmas.{below, below-there, length-below}
+use Rattle.blk_graph.proofs.IdLemmas.{numbers_below, below-there, length-below}
 use Rattle.blk_graph.proofs.Members.{Contains-here, Contains-there, Contains-nil, Contains-map, find-Some}
 use Rattle.blk_graph.proofs.RefreshLemmas.{IsListed-turned, refreshed-by}
 use Rattle.blk_graph.proofs.RoleLemmas.{EachIs, EachIs-filter, EachIs-with_edge, EachIs-moved, EachIs-replaced, EachIs-with_filter, tail_pairs, head_pairs, AllPairs-with_edge, AllPairs-moved, AllPairs-with_replaced, AllPairs-with_filter}
@@ -148,20 +148,20 @@ slots-distinct (e ∷ edges) each pairs =
 
 pub length-listed : (edges : List Edge) → IsListed edges → length edges ≤ 1344
 length-listed edges listed =
-    let within : (q : ℕ) → is_member nat_eq (map slot_of edges) q ≡ true → is_member nat_eq (below 1344) q ≡ true
+    let within : (q : ℕ) → is_member nat_eq (map slot_of edges) q ≡ true → is_member nat_eq (numbers_below 1344) q ≡ true
     = λ q m.
     let there = (is_member-Decides unsigned_Decides (map slot_of edges) q).0 m in
     let r = Contains-map slot_of edges q there in
     let own = listed.each r.0 r.1 in
     let less = slot-less r.0.parent r.0.role r.0.child own.number own.child in
-    (is_member-Decides unsigned_Decides (below 1344) q).1 (below-there 1344 q (omega (arith, less, r.2))) in
-    let fewer : length (map slot_of edges) ≤ length (below 1344)
-    = length-le_from_is_member nat_eq_equiv (map slot_of edges) (below 1344) (slots-distinct edges listed.each listed.places) within in
+    (is_member-Decides unsigned_Decides (numbers_below 1344) q).1 (below-there 1344 q (omega (arith, less, r.2))) in
+    let fewer : length (map slot_of edges) ≤ length (numbers_below 1344)
+    = length-le_from_is_member nat_eq_equiv (map slot_of edges) (numbers_below 1344) (slots-distinct edges listed.each listed.places) within in
     omega (arith, fewer, length-map edges slot_of, length-below 1344)
 
 -- each edit leaves a list
 pub IsListed-none : IsListed []
-IsListed-none = record { each = λ e h. absurd (Contains-nil e h); places = λ i j d below within. absurd (omega (arith, within)) }
+IsListed-none = record { each = λ e h. absurd (Contains-nil e h); places = λ i j d numbers_below within. absurd (omega (arith, within)) }
 
 stands_further : (to : ℕ) → to < 64 → (e : Edge) → MayStand e → MayStand (with_child to e)
 stands_further to less e stands = record { role = stands.role; number = stands.number; child = less }

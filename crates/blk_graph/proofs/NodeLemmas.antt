@@ -306,11 +306,11 @@ IsKept-added old new keys order kinds edges id key text kind room kept few free 
     }
 
 -- whether a node stays where another is removed
-abbrev pub is_other : ℕ → ℕ → Bool
-is_other node id = not (id == node)
+abbrev pub is_other_node : ℕ → ℕ → Bool
+is_other_node node id = not (id == node)
 
 filter_apart : (x node : ℕ) (xs : List ℕ) → x ≡ node → AllByRecursion (λ y. nat_eq x y ≡ false) xs
-    → filter (is_other node) xs ≡ xs
+    → filter (is_other_node node) xs ≡ xs
 filter_apart x node [] same apart = refl
 filter_apart x node (y ∷ xs) same apart =
     let differ : y ≢ node = λ e. eqb-false x y apart.0 (same ∙ sym e) in
@@ -318,16 +318,16 @@ filter_apart x node (y ∷ xs) same apart =
 
 -- one node fewer
 length_removed : (node : ℕ) (order : List ℕ) → IsDistinct nat_eq order → Contains order node
-    → length (filter (is_other node) order) + 1 ≡ length order
+    → length (filter (is_other_node node) order) + 1 ≡ length order
 length_removed node [] distinct h = absurd (Contains-nil node h)
 length_removed node (x ∷ xs) distinct h =
     by_test (x == node) refl (λ there. length_removed node xs (IsDistinct-tail nat_eq x xs distinct) there) (Contains-cases x xs node h)
   where
-    by_test : (b : Bool) → (x == node) ≡ b → (Contains xs node → length (filter (is_other node) xs) + 1 ≡ length xs)
+    by_test : (b : Bool) → (x == node) ≡ b → (Contains xs node → length (filter (is_other_node node) xs) + 1 ≡ length xs)
         → (node ≡ x) ⊎ Contains xs node
-        → length (cond (not b) (x ∷ filter (is_other node) xs) (filter (is_other node) xs)) + 1 ≡ length (x ∷ xs)
+        → length (cond (not b) (x ∷ filter (is_other_node node) xs) (filter (is_other_node node) xs)) + 1 ≡ length (x ∷ xs)
     by_test true e ih m =
-        let same : filter (is_other node) xs ≡ xs
+        let same : filter (is_other_node node) xs ≡ xs
         = filter_apart x node xs (eqb-true x node e) (IsDistinct-head nat_eq x xs distinct) in
         omega (arith, ap length same)
     by_test false e ih (inl here) = absurd (eqb-false x node e (sym here))
@@ -349,32 +349,32 @@ distinct_filtered p (x ∷ xs) h = by_test (p x) (distinct_filtered p xs (IsDist
     by_test true ih = IsDistinct-cons nat_eq x (filter p xs) (all_filtered _ p xs (IsDistinct-head nat_eq x xs h)) ih
     by_test false ih = ih
 
-other-apart : (node id : ℕ) → is_other node id ≡ true → id ≢ node
+other-apart : (node id : ℕ) → is_other_node node id ≡ true → id ≢ node
 other-apart node id h e = let is : (id == node) ≡ true = eq-eqb id node e in let no : not true ≡ true = rw is at h in cc
 
-apart-other : (node id : ℕ) → id ≢ node → is_other node id ≡ true
+apart-other : (node id : ℕ) → id ≢ node → is_other_node node id ≡ true
 apart-other node id h = rw (ne_eqb id node h) refl
 
 -- the rows after a removal
 filtered_rows : (f : ℕ → NodeRow) (node : ℕ) (order : List ℕ) → ((id : ℕ) → (f id).id ≡ id)
-    → map f (filter (is_other node) order) ≡ other_nodes node (map f order)
+    → map f (filter (is_other_node node) order) ≡ other_nodes node (map f order)
 filtered_rows f node [] own = refl
 filtered_rows f node (id ∷ order) own =
     let same : ((f id).id == node) ≡ (id == node) = ap (λ x. x == node) (own id) in
     rw same (by_test (id == node) (filtered_rows f node order own))
   where
-    by_test : (b : Bool) → map f (filter (is_other node) order) ≡ other_nodes node (map f order)
-        → map f (cond (not b) (id ∷ filter (is_other node) order) (filter (is_other node) order))
+    by_test : (b : Bool) → map f (filter (is_other_node node) order) ≡ other_nodes node (map f order)
+        → map f (cond (not b) (id ∷ filter (is_other_node node) order) (filter (is_other_node node) order))
         ≡ cond (not b) (f id ∷ other_nodes node (map f order)) (other_nodes node (map f order))
     by_test true ih = ih
     by_test false ih = ap (λ rows. f id ∷ rows) ih
 
 pub rows_removed : (old new : Slab Written) (keys : List ℕ) (node : ℕ) (order : List ℕ)
     → ((id : ℕ) → Contains order id → id ≢ node → get new (key_of keys id) ≡ get old (key_of keys id))
-    → map (row_of new keys) (filter (is_other node) order) ≡ other_nodes node (map (row_of old keys) order)
+    → map (row_of new keys) (filter (is_other_node node) order) ≡ other_nodes node (map (row_of old keys) order)
 rows_removed old new keys node order same =
-    rows_kept old new keys keys (filter (is_other node) order)
-    (λ id h. let r = Contains-filter (is_other node) order id h in
+    rows_kept old new keys keys (filter (is_other_node node) order)
+    (λ id h. let r = Contains-filter (is_other_node node) order id h in
     ap (λ found. elim found as (λ _. List ℕ) [ None ↦ [] | Some t ↦ t.bytes ]) (same id r.0 (other-apart node id r.1)))
     ∙ filtered_rows (row_of old keys) node order (λ id. refl)
 
@@ -412,38 +412,38 @@ pub IsKept-removed : (old new : Slab Written) (keys order : List ℕ) (kinds : L
     → IsKept old keys order kinds edges room → Contains order node
     → ((e : Edge) → Contains edges e → e.child ≢ node) → ((e : Edge) → Contains edges e → e.parent ≢ Node node)
     → Updates old new (key_of keys node) None → slab_len new + 1 ≡ slab_len old → new.capacity ≡ old.capacity
-    → IsKept new keys (filter (is_other node) order) (set kinds node no_kind) edges room
+    → IsKept new keys (filter (is_other_node node) order) (set kinds node no_kind) edges room
 IsKept-removed old new keys order kinds edges node room kept there no_child no_parent updates count same_room =
     let before : Graph = graph_of old keys order kinds edges in
-    let after : Graph = graph_of new keys (filter (is_other node) order) (set kinds node no_kind) edges in
+    let after : Graph = graph_of new keys (filter (is_other_node node) order) (set kinds node no_kind) edges in
     let distinct : IsDistinct nat_eq order = rw (ids-graph_of old keys order kinds edges) at kept.sound.different_nodes in
-    let fewer : length (filter (is_other node) order) + 1 ≡ length order = length_removed node order distinct there in
+    let fewer : length (filter (is_other_node node) order) + 1 ≡ length order = length_removed node order distinct there in
     let at_most : length order ≤ 64 = omega (arith, kept.sound.few_nodes, length-map order (row_of old keys)) in
     let stays : (n : ℕ) → n ≢ node → HasNode before n → HasNode after n
-    = λ n apart h. rw (ids-graph_of new keys (filter (is_other node) order) (set kinds node no_kind) edges)
-    (filter-Contains (is_other node) order n (Contains-order old keys order kinds edges n h) (apart-other node n apart)) in
+    = λ n apart h. rw (ids-graph_of new keys (filter (is_other_node node) order) (set kinds node no_kind) edges)
+    (filter-Contains (is_other_node node) order n (Contains-order old keys order kinds edges n h) (apart-other node n apart)) in
     let differ : (id : ℕ) → Contains order id → id ≢ node → key_of keys id ≢ key_of keys node
     = λ id h differs same. differs (kept.apart id node h there same) in
     record {
       named = λ id h.
-          let r = Contains-filter (is_other node) order id h in
+          let r = Contains-filter (is_other_node node) order id h in
           rw (updates.others (key_of keys id) (differ id r.0 (other-apart node id r.1))) (kept.named id r.0);
       apart = λ a b h k.
-          kept.apart a b (Contains-filter (is_other node) order a h).0 (Contains-filter (is_other node) order b k).0;
+          kept.apart a b (Contains-filter (is_other_node node) order a h).0 (Contains-filter (is_other_node node) order b k).0;
       keys_room = kept.keys_room;
       count = omega (arith, fewer, count, kept.count);
       names_room = same_room ∙ kept.names_room;
       nodes_fit = kept.nodes_fit;
       sound = record {
-        different_nodes = rw (ids-graph_of new keys (filter (is_other node) order) (set kinds node no_kind) edges)
-            (distinct_filtered (is_other node) order distinct);
+        different_nodes = rw (ids-graph_of new keys (filter (is_other_node node) order) (set kinds node no_kind) edges)
+            (distinct_filtered (is_other_node node) order distinct);
         different_names =
             let P : List NodeRow → Type 0 = λ rows. DifferentNames rows in
             subst P (sym (rows_removed old new keys node order (λ id h differs. updates.others (key_of keys id) (differ id h differs)))) (names-removed node (map (row_of old keys) order) kept.sound.different_names);
-        few_nodes = omega (arith, fewer, at_most, length-map (filter (is_other node) order) (row_of new keys));
+        few_nodes = omega (arith, fewer, at_most, length-map (filter (is_other_node node) order) (row_of new keys));
         small = λ x h.
-            let there = (Contains-filter (is_other node) order x
-            (rw (ids-graph_of new keys (filter (is_other node) order) (set kinds node no_kind) edges) at h)).0 in
+            let there = (Contains-filter (is_other_node node) order x
+            (rw (ids-graph_of new keys (filter (is_other_node node) order) (set kinds node no_kind) edges) at h)).0 in
             kept.sound.small x (rw (ids-graph_of old keys order kinds edges) there);
         kinds = length-set kinds node no_kind ∙ kept.sound.kinds;
         vacant = λ x none. elim (cases_eq x node) [

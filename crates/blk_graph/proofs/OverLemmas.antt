@@ -8,7 +8,7 @@ use Rattle.blk_graph.specs.declared.edge.Parent.{Parent}
 use Rattle.blk_graph.specs.declared.edge.Parent.TheVariants.{Node}
 use Rattle.blk_graph.specs.declared.edge.Role.TheVariants.{Backing}
 use Rattle.blk_graph.specs.Edits.{with_child, with_edge, stays, replaced, with_over}
-use Rattle.blk_graph.specs.Judged.{IsApart}
+use Rattle.blk_graph.specs.Judged.{IsOverlayApart}
 use Rattle.blk_graph.specs.Paths.{IsPath, Reaches, IsAcyclic}
 use Rattle.blk_graph.specs.Permissions.{node_edge}
 use Rattle.blk_graph.proofs.ChildLemmas.{reached-entered}
@@ -35,7 +35,7 @@ replaced-split from to but e = by_test (e.child == from && not (stays but e.pare
     )
     by_test false is = inr refl
 
-module _ (node overlay : ℕ) (edges : List Edge) (acyclic : IsAcyclic edges) (apart : IsApart edges node overlay) where
+module _ (node overlay : ℕ) (edges : List Edge) (acyclic : IsAcyclic edges) (apart : IsOverlayApart edges node overlay) where
   abbrev new : Edge
   new = node_edge overlay Backing node
 

@@ -20,7 +20,7 @@ use Rattle.blk_graph.proofs.Members.{Contains-here, Contains-there, Contains-map
 use Rattle.blk_graph.proofs.PathLemmas.{IsPath-append, Reaches-edge, IsAcyclic-covered}
 use Rattle.blk_graph.proofs.LengthLemmas.{length-IsPath}
 use Rattle.blk_graph.proofs.EditLemmas.{IsSameEdge}
-use Rattle.blk_graph.proofs.IdLemmas.{below, below-there, length-below}
+use Rattle.blk_graph.proofs.IdLemmas.{numbers_below, below-there, length-below}
 use Rattle.blk_graph.proofs.RoleLemmas.{EachIs, map_pairs, kept_apart}
 
 with_uses-same : (e : Edge) (uses : Option Uses) → IsSameEdge (with_uses e uses) e
@@ -240,7 +240,7 @@ IsAcyclic-turned_by kinds edges acyclic (suc k) =
 pub no_long_path : (edges : List Edge) (from to : ℕ) (path : List Edge) → IsListed edges → IsAcyclic edges → IsPath edges from path to
     → length path ≤ 63
 no_long_path edges from to path listed acyclic is =
-    let short = length-IsPath edges (below 64) from to path acyclic (λ e h. below-there 64 e.child (listed.each e h).child)
+    let short = length-IsPath edges (numbers_below 64) from to path acyclic (λ e h. below-there 64 e.child (listed.each e h).child)
     (λ e a h parent. let number : HasNumber e.parent = (listed.each e h).number in below-there 64 a (rw parent at number)) is in
     omega (arith, short, length-below 64)
 

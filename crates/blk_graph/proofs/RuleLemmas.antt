@@ -10,7 +10,7 @@ use Rattle.blk_graph.specs.declared.edge.Conflict.{Conflict}
 use Rattle.blk_graph.specs.declared.edge.Perms.{Perms}
 use Rattle.blk_graph.specs.declared.edge.Perm.{Perm}
 use Rattle.blk_graph.specs.declared.edge.Perm.TheVariants.{Read, Write, Unchanged}
-use Rattle.blk_graph.specs.Edges.{has_perm, IsWithin}
+use Rattle.blk_graph.specs.Edges.{has_perm, ArePermsWithin}
 use Rattle.blk_graph.specs.Rule.{KeepsPermissions, GuestsWriteAlone, IsBroken, AllShare, AsksOnly, first_denied, first_answer, first_answer_from, conflict_on, conflict_between, conflict_of, conflict_at, first_conflict}
 use Rattle.blk_graph.proofs.Members.{Contains-here, Contains-there, Contains-cases, Contains-nil, find-Some}
 use Rattle.blk_graph.proofs.CycleLemmas.{and-left, and-right}
@@ -131,12 +131,12 @@ is_shared : (b : Bool) → not b ≡ true → b ≡ false
 is_shared true h = cc
 is_shared false h = refl
 
-pub IsWithin-from_None : (asked shared : Perms) → first_denied asked shared ≡ None → IsWithin asked shared
+pub IsWithin-from_None : (asked shared : Perms) → first_denied asked shared ≡ None → ArePermsWithin asked shared
 IsWithin-from_None asked shared h perm a =
     not_denied (has_perm asked perm) (has_perm shared perm)
     (find-None (is_denied asked shared) (Read ∷ Write ∷ Unchanged ∷ []) h perm (all_perms perm)) a
 
-pub None-from_IsWithin : (asked shared : Perms) → IsWithin asked shared → first_denied asked shared ≡ None
+pub None-from_IsWithin : (asked shared : Perms) → ArePermsWithin asked shared → first_denied asked shared ≡ None
 None-from_IsWithin asked shared h =
     find-none (is_denied asked shared) (Read ∷ Write ∷ Unchanged ∷ [])
     (λ perm _. shared_not_denied (has_perm asked perm) (has_perm shared perm) (h perm))
@@ -295,7 +295,7 @@ None-from_AllShare edges node i asking common all none = by_own (asking.child ==
         → cond b (option_map (conflict_on node asking other) (first_denied asking.perm other.shared)) None ≡ None
     by_between j other at_j true t =
         let there : other.child ≡ node = eqb-true other.child node (and-right (not (i == j)) (other.child == node) t) in
-        let within : IsWithin asking.perm other.shared
+        let within : ArePermsWithin asking.perm other.shared
         = λ perm asked. all other (Contains-slice_get edges j other at_j) there perm
         (IsWithin-from_None asking.perm common none perm asked) in
         rw (None-from_IsWithin asking.perm other.shared within) refl

@@ -6,7 +6,7 @@ use Rattle.std.proofs.lemmas.Bool.{eqb-true, eqb-false}
 use Rattle.std.proofs.lemmas.List.{get_or_default}
 use Rattle.blk_graph.specs.declared.edge.Edge.{Edge}
 use Rattle.blk_graph.specs.declared.edge.Perms.{Perms}
-use Rattle.blk_graph.specs.Edges.{IsWithin}
+use Rattle.blk_graph.specs.Edges.{ArePermsWithin}
 use Rattle.blk_graph.specs.Rule.{EachShares, RestIsCalm, first_denied}
 
 module _ {X : Type 0} where
@@ -26,7 +26,7 @@ module _ {X : Type 0} where
 -- the edges before a place share what stands at their children
 abbrev pub SharedBelow : List Edge → List Perms → ℕ → Type 0
 SharedBelow edges shares i = (k : ℕ) (d : Edge) (common : Perms) → k < i → k < length edges
-    → slice_get shares (get_or edges k d).child ≡ Some common → IsWithin common (get_or edges k d).shared
+    → slice_get shares (get_or edges k d).child ≡ Some common → ArePermsWithin common (get_or edges k d).shared
 
 -- the edges before a place ask what stands at their children, or these have a mark
 abbrev pub CalmBelow : List Edge → List Perms → List Bool → ℕ → Type 0
@@ -42,18 +42,18 @@ at_place edges i k item d within is same =
 
 pub SharedBelow-next : (edges : List Edge) (shares : List Perms) (i : ℕ) (item : Edge) (old new : Perms)
     → SharedBelow edges shares i → i < length edges → item ≡ get_or edges i item
-    → slice_get shares item.child ≡ Some old → IsWithin new old → IsWithin new item.shared
+    → slice_get shares item.child ≡ Some old → ArePermsWithin new old → ArePermsWithin new item.shared
     → SharedBelow edges (set shares item.child new) (i + 1)
 SharedBelow-next edges shares i item old new below within is there less own k d common low inside found =
     by_place (k == i) refl
   where
     by_child : k ≢ i → (b : Bool) → ((get_or edges k d).child == item.child) ≡ b
-        → IsWithin common (get_or edges k d).shared
+        → ArePermsWithin common (get_or edges k d).shared
     by_child differ true e =
         let same : (get_or edges k d).child ≡ item.child = eqb-true (get_or edges k d).child item.child e in
         let is_new : common ≡ new
         = slice_get-set_same shares item.child new common (rw same at found) in
-        let before : IsWithin old (get_or edges k d).shared
+        let before : ArePermsWithin old (get_or edges k d).shared
         = below k d old (omega arith) inside (rw same there) in
         rw is_new (λ perm asked. before perm (less perm asked))
     by_child differ false e =
@@ -61,7 +61,7 @@ SharedBelow-next edges shares i item old new below within is there less own k d 
         below k d common (omega arith) inside
         (sym (slice_get-set_other shares item.child (get_or edges k d).child new apart) ∙ found)
 
-    by_place : (b : Bool) → (k == i) ≡ b → IsWithin common (get_or edges k d).shared
+    by_place : (b : Bool) → (k == i) ≡ b → ArePermsWithin common (get_or edges k d).shared
     by_place true e =
         let same : get_or edges k d ≡ item = at_place edges i k item d within is (eqb-true k i e) in
         let is_new : common ≡ new = slice_get-set_same shares item.child new common (rw same at found) in

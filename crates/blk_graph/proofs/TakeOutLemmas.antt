@@ -12,7 +12,7 @@ use Rattle.blk_graph.specs.declared.edge.Perm.{Perm}
 use Rattle.blk_graph.specs.declared.edge.Perm.TheVariants.{Read, Write, Unchanged}
 use Rattle.blk_graph.specs.declared.edge.Uses.{Uses}
 use Rattle.blk_graph.specs.declared.kind.NodeKind.{NodeKind}
-use Rattle.blk_graph.specs.Edges.{same_parent, has_perm, IsWithin}
+use Rattle.blk_graph.specs.Edges.{same_parent, has_perm, ArePermsWithin}
 use Rattle.blk_graph.specs.Edits.{with_child, moved, but_doubles, is_double, with_moved, is_filters, but_filters, without_filter, without_parent}
 use Rattle.blk_graph.specs.Filters.{IsTransparent, LeavesRoom}
 use Rattle.blk_graph.specs.Permissions.{uses_by}
@@ -26,11 +26,11 @@ use Rattle.blk_graph.proofs.RefreshLemmas.{refreshed-by}
 use Rattle.blk_graph.proofs.RoleLemmas.{head_pairs, tail_pairs, map_pairs}
 
 -- an edge asks and shares within what is asked and shared
-pub record IsUnder (e : Edge) (uses : Uses) : Type 0 where
-  pub asks : IsWithin e.perm uses.perm
-  pub shares : IsWithin uses.shared e.shared
+pub record IsWithinUses (e : Edge) (uses : Uses) : Type 0 where
+  pub asks : ArePermsWithin e.perm uses.perm
+  pub shares : ArePermsWithin uses.shared e.shared
 
-under-lighter : (e : Edge) (a b : Uses) → IsUnder e a → IsLighter a b → IsUnder e b
+under-lighter : (e : Edge) (a b : Uses) → IsWithinUses e a → IsLighter a b → IsWithinUses e b
 under-lighter e a b h k = record {
   asks = λ perm is. k.asks perm (h.asks perm is);
   shares = λ perm is. h.shares perm (k.shares perm is);
@@ -46,7 +46,7 @@ both true false h k = absurd cc
 both false b h k = absurd cc
 
 -- the uses of edges that all are under others
-joined-under : (e : Edge) (rest uses : Uses) → IsUnder e uses → IsLighter rest uses → IsLighter (joined e rest) uses
+joined-under : (e : Edge) (rest uses : Uses) → IsWithinUses e uses → IsLighter rest uses → IsLighter (joined e rest) uses
 joined-under e rest uses h k = record { asks = λ perm. asks perm; shares = λ perm. shares perm }
   where
     asks : (perm : Perm) → has_perm (joined e rest).perm perm ≡ true → has_perm uses.perm perm ≡ true
@@ -59,7 +59,7 @@ joined-under e rest uses h k = record { asks = λ perm. asks perm; shares = λ p
     shares Write is = both e.shared.write rest.shared.write (h.shares Write is) (k.shares Write is)
     shares Unchanged is = both e.shared.unchanged rest.shared.unchanged (h.shares Unchanged is) (k.shares Unchanged is)
 
-uses_into-under : (n : ℕ) (uses : Uses) (edges : List Edge) → ((e : Edge) → Contains edges e → e.child ≡ n → IsUnder e uses)
+uses_into-under : (n : ℕ) (uses : Uses) (edges : List Edge) → ((e : Edge) → Contains edges e → e.child ≡ n → IsWithinUses e uses)
     → IsLighter (uses_into edges n) uses
 uses_into-under n uses [] each = idle-lighter uses
 uses_into-under n uses (e ∷ edges) each =
@@ -71,7 +71,7 @@ uses_into-under n uses (e ∷ edges) each =
     by_test false is ih = ih
 
 -- and an edge is under the uses that it is joined to
-under-joined : (e : Edge) (rest : Uses) → IsUnder e (joined e rest)
+under-joined : (e : Edge) (rest : Uses) → IsWithinUses e (joined e rest)
 under-joined e rest = record { asks = λ perm. asks perm; shares = λ perm. shares perm }
   where
     left : (a b : Bool) → a ≡ true → (a || b) ≡ true
@@ -92,14 +92,14 @@ under-joined e rest = record { asks = λ perm. asks perm; shares = λ perm. shar
     shares Write h = left_of e.shared.write rest.shared.write h
     shares Unchanged h = left_of e.shared.unchanged rest.shared.unchanged h
 
-under_uses : (n : ℕ) (edges : List Edge) (e : Edge) → Contains edges e → e.child ≡ n → IsUnder e (uses_into edges n)
+under_uses : (n : ℕ) (edges : List Edge) (e : Edge) → Contains edges e → e.child ≡ n → IsWithinUses e (uses_into edges n)
 under_uses n [] e there at = absurd (Contains-nil e there)
 under_uses n (x ∷ edges) e there at = elim (Contains-cases x edges e there) [
   | inl here ↦ rw (ap (λ (y : Edge). y.child) (sym here) ∙ at, eq-eqb n n refl) (rw here (under-joined x (uses_into edges n)))
   | inr later ↦ by_test (x.child == n) (under_uses n edges e later at)
 ]
   where
-    by_test : (t : Bool) → IsUnder e (uses_into edges n) → IsUnder e (cond t (joined x (uses_into edges n)) (uses_into edges n))
+    by_test : (t : Bool) → IsWithinUses e (uses_into edges n) → IsWithinUses e (cond t (joined x (uses_into edges n)) (uses_into edges n))
     by_test true h = under-lighter e (uses_into edges n) (joined x (uses_into edges n)) h (joined-lighter x (uses_into edges n))
     by_test false h = h
 
@@ -135,13 +135,13 @@ agree_apart p (x ∷ xs) pairs a b at_a at_b is none = by_cases (Contains-cases 
 module _ (kinds : List NodeKind) (edges others : List Edge) (over to : ℕ) (gone : Edge → Bool) (cover : Edge)
     (there : Contains edges cover) (goes : gone cover ≡ true) (into : cover.child ≡ to)
     (was_there : (e : Edge) → Contains others e → Contains edges e × (gone e ≡ false)) (fewer : AllPairs Agree others)
-    (asks : IsWithin (uses_into edges over).perm cover.perm) (shares : IsWithin cover.shared (uses_into edges over).shared)
+    (asks : ArePermsWithin (uses_into edges over).perm cover.perm) (shares : ArePermsWithin cover.shared (uses_into edges over).shared)
     (stays : IsRefreshed kinds edges) (rule : KeepsPermissions edges) where
   abbrev left_over : List Edge
   left_over = with_moved over to others
 
   -- an edge into the filter asks and shares within what is asked and shared of the other node
-  under_own : (e : Edge) → Contains edges e → e.child ≡ over → IsUnder e (uses_into edges to)
+  under_own : (e : Edge) → Contains edges e → e.child ≡ over → IsWithinUses e (uses_into edges to)
   under_own e h at =
       let up = under_uses over edges e h at in
       let down = under_uses to edges cover there into in
@@ -186,7 +186,7 @@ module _ (kinds : List NodeKind) (edges others : List Edge) (over to : ℕ) (gon
 
       -- one edge leads to the filter, the other to the other node
       beside : (x y : Edge) → Contains edges x → x.child ≡ over → Contains edges y → gone y ≡ false → y.child ≡ to
-          → IsWithin x.perm y.shared × IsWithin y.perm x.shared
+          → ArePermsWithin x.perm y.shared × ArePermsWithin y.perm x.shared
       beside x y at_x to_x at_y none to_y =
           let pair = agree_apart gone edges (agree-pairs edges rule) cover y there at_y goes none (into ∙ sym to_y) in
           let up = under_uses over edges x at_x to_x in (

@@ -9,7 +9,7 @@ use Rattle.blk_graph.specs.declared.edge.Edge.{Edge}
 use Rattle.blk_graph.specs.declared.edge.Parent.{Parent}
 use Rattle.blk_graph.specs.declared.edge.Parent.TheVariants.{Node, Guest, Job}
 use Rattle.blk_graph.specs.Paths.{IsPath, Reaches}
-use Rattle.blk_graph.specs.Walk.{is_marked, is_reached, leads_on, AllReached, IsClosed, mark_count}
+use Rattle.blk_graph.specs.Walk.{is_marked, is_reached, leads_on, AllReached, AreMarksClosed, mark_count}
 use Rattle.blk_graph.proofs.PathLemmas.{Reaches-edge, Reaches-joined}
 use Rattle.blk_graph.proofs.CycleLemmas.{and-left, and-right}
 
@@ -60,7 +60,7 @@ or-right true b h = refl
 or-right false b h = h
 
 -- where no edge leads on, all that is reached has a mark
-pub marked_from_path : (edges : List Edge) (from : ℕ) (marks : List Bool) → IsClosed edges from marks
+pub marked_from_path : (edges : List Edge) (from : ℕ) (marks : List Bool) → AreMarksClosed edges from marks
     → (a b : ℕ) (e : Edge) (p : List Edge) → is_reached from marks (Node a) ≡ true
     → IsPath edges a (e ∷ p) b → is_marked marks b ≡ true
 marked_from_path edges from marks closed a b e [] start h =
@@ -75,7 +75,7 @@ marked_from_path edges from marks closed a b e (f ∷ p) start h =
     marked_from_path edges from marks closed e.child b f p
     (or-right (e.child == from) (is_marked marks e.child) child) h.2
 
-pub marked_from_Reaches : (edges : List Edge) (from : ℕ) (marks : List Bool) → IsClosed edges from marks
+pub marked_from_Reaches : (edges : List Edge) (from : ℕ) (marks : List Bool) → AreMarksClosed edges from marks
     → (to : ℕ) → Reaches edges from to → is_marked marks to ≡ true
 marked_from_Reaches edges from marks closed to h =
     marked_from_path edges from marks closed from to h.first h.rest

@@ -43,8 +43,9 @@ has_perm perms Write = perms.write
 has_perm perms Unchanged = perms.unchanged
 
 -- each permission that is asked is shared
-abbrev pub IsWithin : Perms → Perms → Type 0
-IsWithin asked shared = (perm : Perm) → IsTrue (has_perm asked perm) → IsTrue (has_perm shared perm)
+abbrev pub ArePermsWithin : Perms → Perms → Type 0
+ArePermsWithin asked shared =
+    (perm : Perm) → IsTrue (has_perm asked perm) → IsTrue (has_perm shared perm)
 
 -- a node has its file, its backing node and what it filters, a guest its drive, and a job all the others
 abbrev pub may_have : Parent → Role → Bool

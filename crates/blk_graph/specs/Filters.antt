@@ -4,7 +4,7 @@ use Rattle.blk_graph.specs.declared.edge.Edge.{Edge}
 use Rattle.blk_graph.specs.declared.edge.Parent.TheVariants.{Node, Job}
 use Rattle.blk_graph.specs.declared.edge.Perms.{Perms}
 use Rattle.blk_graph.specs.declared.edge.Role.TheVariants.{Filtered}
-use Rattle.blk_graph.specs.Edges.{is_job, IsWithin}
+use Rattle.blk_graph.specs.Edges.{is_job, ArePermsWithin}
 use Rattle.blk_graph.specs.Edits.{IsLone, child_of, is_filters, with_filter}
 use Rattle.blk_graph.specs.Graph.{Graph, IsFit, IsJust}
 use Rattle.blk_graph.specs.Refreshed.{uses_into, refreshed}
@@ -13,8 +13,8 @@ use Rattle.blk_graph.specs.Refreshed.{uses_into, refreshed}
 pub record IsTransparent (edges : List Edge) (filter : ℕ) : Type 0 where
   pub edge : Edge
   pub own : find (is_filters filter) edges ≡ Some edge
-  pub asks : IsWithin (uses_into edges filter).perm edge.perm
-  pub shares : IsWithin edge.shared (uses_into edges filter).shared
+  pub asks : ArePermsWithin (uses_into edges filter).perm edge.perm
+  pub shares : ArePermsWithin edge.shared (uses_into edges filter).shared
 
 -- An edge of a job into a node asks all that the filter's parents ask, and shares only what all of them share. No job leads to
 -- the filter, and to its child only the filter and jobs do.
@@ -23,8 +23,8 @@ pub record LeavesRoom (edges : List Edge) (filter to job : ℕ) : Type 0 where
   pub there : Contains edges edge
   pub own : edge.parent ≡ Job job
   pub child : edge.child ≡ to
-  pub asks : IsWithin (uses_into edges filter).perm edge.perm
-  pub shares : IsWithin edge.shared (uses_into edges filter).shared
+  pub asks : ArePermsWithin (uses_into edges filter).perm edge.perm
+  pub shares : ArePermsWithin edge.shared (uses_into edges filter).shared
   pub apart : (other : Edge) → Contains edges other → other.child ≡ filter
       → is_job other.parent ≡ false
   pub alone : (other : Edge) → Contains edges other

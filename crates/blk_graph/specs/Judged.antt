@@ -43,7 +43,7 @@ pub record IsSettled (nodes : List ℕ) (kinds : List NodeKind) (edited : List E
   pub only : IfErr result IsEditStop
 
 -- nothing leads to the overlay, which is another node than this one and doesn't lead to it
-pub record IsApart (edges : List Edge) (node overlay : ℕ) : Type 0 where
+pub record IsOverlayApart (edges : List Edge) (node overlay : ℕ) : Type 0 where
   pub differ : overlay ≢ node
   pub unused : (edge : Edge) → Contains edges edge → edge.child ≢ overlay
   pub away : Reaches edges overlay node → ⊥

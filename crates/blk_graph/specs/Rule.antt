@@ -7,13 +7,13 @@ use Rattle.blk_graph.specs.declared.edge.Perms.{Perms}
 use Rattle.blk_graph.specs.declared.edge.Perm.{Perm}
 use Rattle.blk_graph.specs.declared.edge.Perm.TheVariants.{Read, Write, Unchanged}
 use Rattle.blk_graph.specs.declared.edge.Parent.TheVariants.{Guest}
-use Rattle.blk_graph.specs.Edges.{has_perm, IsWithin}
+use Rattle.blk_graph.specs.Edges.{has_perm, ArePermsWithin}
 
 -- for any two edges into one node, what the one asks lies within what the other shares
 abbrev pub KeepsPermissions : List Edge → Type 0
 KeepsPermissions edges = (i j : ℕ) (asking other : Edge)
     → slice_get edges i ≡ Some asking → slice_get edges j ≡ Some other → i ≢ j
-    → asking.child ≡ other.child → IsWithin asking.perm other.shared
+    → asking.child ≡ other.child → ArePermsWithin asking.perm other.shared
 
 -- the conflict names two edges into its node, and what the one asks and the other doesn't share
 pub record IsBroken (edges : List Edge) (conflict : Conflict) : Type 0 where
@@ -39,7 +39,7 @@ GuestsWriteAlone edges = (i j guest : ℕ) (drive other : Edge)
 -- every edge into the node shares these
 abbrev pub AllShare : List Edge → ℕ → Perms → Type 0
 AllShare edges node common =
-    (edge : Edge) → Contains edges edge → edge.child ≡ node → IsWithin common edge.shared
+    (edge : Edge) → Contains edges edge → edge.child ≡ node → ArePermsWithin common edge.shared
 
 -- the first that is asked and isn't shared, in the order read, write, unchanged
 abbrev pub first_denied : Perms → Perms → Option Perm

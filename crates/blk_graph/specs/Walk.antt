@@ -23,8 +23,9 @@ abbrev pub AllReached : List Edge → ℕ → List Bool → Type 0
 AllReached edges from marks = (node : ℕ) → is_marked marks node ≡ true → Reaches edges from node
 
 -- no edge leads on
-abbrev pub IsClosed : List Edge → ℕ → List Bool → Type 0
-IsClosed edges from marks = (edge : Edge) → Contains edges edge → leads_on from marks edge ≡ false
+abbrev pub AreMarksClosed : List Edge → ℕ → List Bool → Type 0
+AreMarksClosed edges from marks =
+    (edge : Edge) → Contains edges edge → leads_on from marks edge ≡ false
 
 -- how many nodes have a mark
 abbrev pub mark_count : List Bool → ℕ

@@ -4,7 +4,7 @@ ghost use Rattle.blk_graph.specs.Edits.{with_edge, with_replaced, with_over, wit
 ghost use Rattle.blk_graph.specs.Graph.{ids, no_graph, HasNode, HasParent, HasName, FitsIn, IsSoundGraph, PathsAreShort, with_node, with_writes};
 ghost use Rattle.blk_graph.specs.Filters.{IsTransparent, LeavesRoom, IsPutOver};
 ghost use Rattle.blk_graph.specs.Ids.{IsLowestFree};
-ghost use Rattle.blk_graph.specs.Judged.{IsAdditionStop, IsApart, IsJudged, first_parent, with_edges, with_kinds, without_node};
+ghost use Rattle.blk_graph.specs.Judged.{IsAdditionStop, IsOverlayApart, IsJudged, first_parent, with_edges, with_kinds, without_node};
 ghost use Rattle.blk_graph.specs.Paths.{Reaches, LeadsBack};
 ghost use Rattle.blk_graph.specs.Permissions.{has_role};
 ghost use Rattle.blk_graph.specs.Refreshed.{kind_at, refreshed, IsByTable};
@@ -221,7 +221,8 @@ impl Graph {
         requires kind { has_role (kind_at self.old.kinds overlay).kind Role.Backing ≡ true }
         ensures judged { IsJudged (ids self.old) self.old.kinds
             (with_over node overlay self.old.edges) result }
-        ensures no_cycle { IsApart self.old.edges node overlay → result ≢ Err GraphStop.Cycle }
+        ensures no_cycle { IsOverlayApart self.old.edges node overlay
+            → result ≢ Err GraphStop.Cycle }
         ensures ok { OnOk result
             (self.new ≡ with_edges self.old (with_over node overlay self.old.edges)) }
         ensures err { OnErr result (self.new ≡ self.old) }

@@ -1,6 +1,6 @@
 //! The look for the first pair of edges that breaks the permission rule.
 ghost use Rattle.std.specs.Prelude.{◌≡◌, length, IsTrue};
-ghost use Rattle.blk_graph.specs.Edges.{IsWithin};
+ghost use Rattle.blk_graph.specs.Edges.{ArePermsWithin};
 ghost use Rattle.blk_graph.specs.Rule.{AllShare, AsksOnly, EachShares, RestIsCalm, first_denied, conflict_between, conflict_of, conflict_at, first_conflict};
 
 use crate::edge::{Conflict, Edge, MOST_NODES, NodeId, Perm, Perms};
@@ -61,8 +61,8 @@ fn suspect(edges: &[Edge], common: &[Perms], suspects: &mut [bool])
 }
 
 fn both(a: Perms, b: Perms) -> Perms
-    ensures first { IsWithin result a }
-    ensures second { IsWithin result b }
+    ensures first { ArePermsWithin result a }
+    ensures second { ArePermsWithin result b }
 {
     Perms {
         read: a.read && b.read,

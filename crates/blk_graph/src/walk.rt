@@ -2,7 +2,7 @@
 ghost use Rattle.std.specs.Prelude.{◌≡◌, ◌<◌, ◌≤◌, ◌↔◌, true, length, IsTrue};
 ghost use Rattle.std.specs.Bool.{MatchBool};
 ghost use Rattle.blk_graph.specs.Paths.{Reaches};
-ghost use Rattle.blk_graph.specs.Walk.{leads_on, AllReached, IsClosed, mark_count};
+ghost use Rattle.blk_graph.specs.Walk.{leads_on, AllReached, AreMarksClosed, mark_count};
 
 use crate::edge::{Edge, MOST_NODES, NodeId, Parent};
 
@@ -24,7 +24,7 @@ fn spread(edges: &[Edge], from: NodeId, marks: &mut [bool]) -> bool
     requires reached { AllReached edges.now from marks.old }
     ensures reached { AllReached edges.now from marks.new }
     ensures more { MatchBool result (mark_count marks.old < mark_count marks.new)
-        (IsClosed edges.now from marks.new) }
+        (AreMarksClosed edges.now from marks.new) }
 {
     let mut grew = false;
     for edge in edges {

@@ -7,7 +7,7 @@ use Rattle.blk_base.specs.declared.fault.Outcome.{Outcome}
 use Rattle.trace_codec.specs.declared.op.Op.{Op}
 use Rattle.blk_history.specs.Fold.{With}
 use Rattle.blk_history.specs.Disk.{piece}
-use Rattle.blk_history.specs.Legal.{IsNextIo, CanAdmitIo, IsRefusedIo, IsNextPiece, IsOver, Tells, FitsIo, LegalIo}
+use Rattle.blk_history.specs.Legal.{IsNextIo, CanAdmitIo, IsRefusedIo, IsNextPiece, IsFlightOver, Tells, FitsIo, LegalIo}
 use Rattle.blk_history.specs.Machine.{IoState, IoTable, IoGuest, Flight, Node, io_guest_at, node_at, disk_in, with_io_piece, piece_done, io_admitted, io_finished, io_past_piece, io_after}
 use Rattle.blk_history.specs.Names.{RowNames}
 use Rattle.blk_history.specs.Owned.{asked_by}
@@ -21,7 +21,7 @@ use Rattle.blk_history.specs.Alone.{PrintsOneHistory}
 use Rattle.blk_history.proofs.Folds.{with-some, with-at, length-change, slice-there}
 use Rattle.blk_history.proofs.Lines.{words_then, after-verb, same-word}
 use Rattle.blk_history.proofs.Outcomes.{one-outcome, one-told}
-use Rattle.blk_history.proofs.Verbs.{IsOfNoJob, verb_of, verb_in, verb-told, line-there}
+use Rattle.blk_history.proofs.Verbs.{IsOfNoJob, event_verb, verb_in, verb-told, line-there}
 
 -- ---- one guest
 
@@ -115,7 +115,7 @@ module _ (s : IoState) (names : RowNames) (one : length s.table.guests ≡ 1) wh
   Makes r k outcome got row = With row.flight (λ f. (r ≡ row.done) × IsNextPiece f k outcome (disk_in s.disks row.node) got)
 
   abbrev Retires : ℕ → IoGuest → Type 0
-  Retires r row = With row.flight (λ f. (r ≡ row.done) × IsOver f)
+  Retires r row = With row.flight (λ f. (r ≡ row.done) × IsFlightOver f)
 
   -- both are of the one guest
   same-guest : (g h : ℕ) (P Q : IoGuest → Type 0) → With (io_guest_at s g) P → With (io_guest_at s h) Q → g ≡ h
@@ -130,9 +130,9 @@ module _ (s : IoState) (names : RowNames) (one : length s.table.guests ≡ 1) wh
   both-at : {A : Type 0} (o : Option A) (P Q : A → Type 0) → With o P → With o Q → (a : A) × ((o ≡ Some a) × (P a × Q a))
   both-at o P Q h k = let a = with-some P o h in (a.0, (a.1.0, (a.1.1, with-at Q o a.0 a.1.0 k)))
 
-  same-entry : (e f : Event) (es fs : List Event) → verb_of e ≡ verb_of f → FitsIo s e → FitsIo s f → asked_by 0 (e ∷ es) ≡ asked_by 0 (f ∷ fs) → IsSmall e → IsSmall f
+  same-entry : (e f : Event) (es fs : List Event) → event_verb e ≡ event_verb f → FitsIo s e → FitsIo s f → asked_by 0 (e ∷ es) ≡ asked_by 0 (f ∷ fs) → IsSmall e → IsSmall f
       → (r q : List ℕ) → entry_line names e ++ r ≡ entry_line names f ++ q → e ≡ f
-  unfolding verb_of
+  unfolding event_verb
   same-entry (Admit g n op) (Admit g2 n2 op2) es fs verbs fe ff asked se sf r q e =
       let same = same-guest g g2 (Admits n op) (Admits n2 op2) fe ff in
       let row = same-row g g2 (Admits n op) (Admits n2 op2) fe ff in
@@ -176,7 +176,7 @@ module _ (s : IoState) (names : RowNames) (one : length s.table.guests ≡ 1) wh
   same-entry (Retire g n) (Retire g2 n2) es fs verbs fe ff asked se sf r q e =
       let same = same-guest g g2 (Retires n) (Retires n2) fe ff in
       let row = same-row g g2 (Retires n) (Retires n2) fe ff in
-      let flight = both-at row.0.flight (λ f. (n ≡ row.0.done) × IsOver f) (λ f. (n2 ≡ row.0.done) × IsOver f) row.1.0 row.1.1 in
+      let flight = both-at row.0.flight (λ f. (n ≡ row.0.done) × IsFlightOver f) (λ f. (n2 ≡ row.0.done) × IsFlightOver f) row.1.0 row.1.1 in
       let number : n ≡ n2 = flight.1.1.0.0 ∙ sym flight.1.1.1.0 in
       cc
   same-entry (Reply line given command text) f es fs verbs fe ff asked se sf r q e = absurd fe
@@ -197,7 +197,7 @@ all-same names (x ∷ es) [] s one lh lk asked sh sk e = absurd (line-there name
 all-same names (x ∷ es) (f ∷ fs) s one lh lk asked sh sk e =
     let r = flat_map (entry_line names) es in
     let q = flat_map (entry_line names) fs in
-    let verbs : verb_of x ≡ verb_of f = sym (verb-told names x r (of-no-job s x lh.0)) ∙ ap verb_in e ∙ verb-told names f q (of-no-job s f lk.0) in
+    let verbs : event_verb x ≡ event_verb f = sym (verb-told names x r (of-no-job s x lh.0)) ∙ ap verb_in e ∙ verb-told names f q (of-no-job s f lk.0) in
     let same : x ≡ f = same-entry s names one x f es fs verbs lh.0 lk.0 asked (All-head IsSmall x es sh) (All-head IsSmall f fs sk) r q e in
     let rest : r ≡ q = append_cancel_left (entry_line names x) r q (e ∙ ap (λ y. entry_line names y ++ q) (sym same)) in
     let asked-on : asked_by 0 es ≡ asked_by 0 fs = asked-rest x es fs (subst (λ y. asked_by 0 (x ∷ es) ≡ asked_by 0 (y ∷ fs)) (sym same) asked) in

@@ -18,13 +18,13 @@ use Rattle.qmp_codec.specs.declared.event.JobKind.TheVariants.{Stream, Commit, M
 use Rattle.qmp_codec.specs.Events.{event_text as event_word, kind_text}
 use Rattle.blk_history.specs.Names.{JobLine}
 use Rattle.blk_history.specs.Transcript.{fault_words, fault_text, event_line}
-use Rattle.blk_history.specs.Line.{blanked, IsPlain, IsPlainFault, error_part, progress_part, name_part, event_parts, Appends}
+use Rattle.blk_history.specs.Line.{blanked, StaysInJson, IsPlainFault, error_part, progress_part, name_part, event_parts, Appends}
 
 -- what stands in JSON for a text that is plain
-stays : (text : List ℕ) → IsPlain text → escape text ≡ text
+stays : (text : List ℕ) → StaysInJson text → escape text ≡ text
 stays text plain = let within : escape text ++ 34 ∷ [] ≡ text ++ 34 ∷ [] = cc plain in append_cancel_right (escape text) text (34 ∷ []) within
 
-plain-of : (text : List ℕ) → escape text ≡ text → IsPlain text
+plain-of : (text : List ℕ) → escape text ≡ text → StaysInJson text
 plain-of text same = ap (λ bytes. 34 ∷ (bytes ++ 34 ∷ [])) same
 
 kind-plain : (kind : JobKind) → escape (kind_text kind) ≡ kind_text kind
@@ -84,13 +84,13 @@ space-plain = refl
 word-plain : (n : ℕ) → n < 2 ^ 32 → escape (codes "dev" ++ decimal n) ≡ codes "dev" ++ decimal n
 word-plain n small = both-plain (codes "dev") (decimal n) dev-plain (decimal-plain n (omega arith))
 
-pub plain_io : (n count : ℕ) → n < 2 ^ 32 → count < 2 ^ 64 → IsPlain (fault_text (Io (record { 0 = n }) count))
+pub plain_io : (n count : ℕ) → n < 2 ^ 32 → count < 2 ^ 64 → StaysInJson (fault_text (Io (record { 0 = n }) count))
 plain_io n count small counted = plain-of (fault_text (Io (record { 0 = n }) count))
     (both-plain (codes "io ") ((codes "dev" ++ decimal n) ++ 32 ∷ decimal count) io-plain
     (both-plain (codes "dev" ++ decimal n) (32 ∷ decimal count) (word-plain n small)
     (both-plain (32 ∷ []) (decimal count) blank-plain (decimal-plain count counted))))
 
-pub plain_space : (n : ℕ) → n < 2 ^ 32 → IsPlain (fault_text (NoSpace (record { 0 = n })))
+pub plain_space : (n : ℕ) → n < 2 ^ 32 → StaysInJson (fault_text (NoSpace (record { 0 = n })))
 plain_space n small = plain-of (fault_text (NoSpace (record { 0 = n }))) (both-plain (codes "nospace ") (codes "dev" ++ decimal n) space-plain (word-plain n small))
 
 joined : (c id e p n : List ℕ) → c ++ ((id ++ (e ++ p)) ++ n) ≡ (c ++ id) ++ (e ++ (p ++ n))
@@ -104,7 +104,7 @@ quoted_name name =
     codes ",\"event\":\"" ++ ((event_word name ++ codes "\"") ++ codes ",\"timestamp\":{\"microseconds\":-1,\"seconds\":-1}}")
 
 -- as its parts stand in one another
-nested : (job : JobLine) (name : EventName) (fault : Option Fault) (offset : ℕ) → IsPlain job.id → IsPlainFault fault
+nested : (job : JobLine) (name : EventName) (fault : Option Fault) (offset : ℕ) → StaysInJson job.id → IsPlainFault fault
     → 32 ∷ event_line job name fault offset
     ≡ codes " {\"data\":{\"device\":\"" ++ (((job.id ++ codes "\"") ++ (error_part fault ++ progress_part job offset)) ++ quoted_name name)
 unfolding escape_byte
@@ -124,7 +124,7 @@ nested job name (Some fault) offset plain ok =
     let one = decimal_digit 1 (omega arith) in
     rw (id, error, kind, word, zero, one) refl
 
-pub event_text_parts : (job : JobLine) (name : EventName) (fault : Option Fault) (offset : ℕ) → IsPlain job.id → IsPlainFault fault
+pub event_text_parts : (job : JobLine) (name : EventName) (fault : Option Fault) (offset : ℕ) → StaysInJson job.id → IsPlainFault fault
     → 32 ∷ event_line job name fault offset ≡ event_parts job name fault offset
 event_text_parts job name fault offset plain ok =
     nested job name fault offset plain ok

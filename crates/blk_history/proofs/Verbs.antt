@@ -23,15 +23,15 @@ pub data Verb : Type 0 where
   Ends : Verb
   Others : Verb
 
-unfoldable pub verb_of : Event → Verb
-verb_of (Admit g r op) = Admits
-verb_of (Refuse g r op why) = Refuses
-verb_of (Piece g r k outcome got) = Pieces
-verb_of (Retire g r) = Retires
-verb_of (Reply line given command text) = Replies
-verb_of (Reached line what) = Reaches
-verb_of (Done actor) = Ends
-verb_of e = Others
+unfoldable pub event_verb : Event → Verb
+event_verb (Admit g r op) = Admits
+event_verb (Refuse g r op why) = Refuses
+event_verb (Piece g r k outcome got) = Pieces
+event_verb (Retire g r) = Retires
+event_verb (Reply line given command text) = Replies
+event_verb (Reached line what) = Reaches
+event_verb (Done actor) = Ends
+event_verb e = Others
 
 -- by its first and third letters
 by_letters : ℕ → ℕ → Verb
@@ -47,8 +47,8 @@ by_letters a c =
 pub verb_in : List ℕ → Verb
 verb_in line = by_letters (get_or line 0 0) (get_or line 2 0)
 
-pub verb-told : (names : RowNames) (e : Event) (r : List ℕ) → IsOfNoJob e → verb_in (entry_line names e ++ r) ≡ verb_of e
-unfolding verb_in by_letters verb_of
+pub verb-told : (names : RowNames) (e : Event) (r : List ℕ) → IsOfNoJob e → verb_in (entry_line names e ++ r) ≡ event_verb e
+unfolding verb_in by_letters event_verb
 verb-told names (Admit g n op) r plain = refl
 verb-told names (Refuse g n op why) r plain = refl
 verb-told names (Piece g n k outcome got) r plain = refl

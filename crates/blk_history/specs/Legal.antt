@@ -52,8 +52,8 @@ pub record IsNextPiece (f : Flight) (k : ℕ) (outcome : Outcome) (disk : Option
   pub told : Tells outcome f.op (piece f.op k) disk got
 
 -- all pieces are done, or the last wasn't good
-abbrev pub IsOver : Flight → Type 0
-IsOver f = (f.next ≡ pieces_of f.op) ⊎ (f.is_stopped ≡ true)
+abbrev pub IsFlightOver : Flight → Type 0
+IsFlightOver f = (f.next ≡ pieces_of f.op) ⊎ (f.is_stopped ≡ true)
 
 -- the entry fits the state before it
 abbrev pub FitsIo : IoState → Event → Type 0
@@ -68,7 +68,7 @@ FitsIo s (Piece g r k outcome got) =
     (λ row. With row.flight
     (λ f. (r ≡ row.done) × IsNextPiece f k outcome (disk_in s.disks row.node) got))
 FitsIo s (Retire g r) =
-    With (io_guest_at s g) (λ row. With row.flight (λ f. (r ≡ row.done) × IsOver f))
+    With (io_guest_at s g) (λ row. With row.flight (λ f. (r ≡ row.done) × IsFlightOver f))
 FitsIo s e = ⊥
 
 -- a history is legal where each of its entries fits

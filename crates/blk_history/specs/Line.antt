@@ -18,12 +18,12 @@ abbrev pub blanked : List (List ℕ) → List ℕ
 blanked words = flat_map (λ word. 32 ∷ word) words
 
 -- as JSON it is itself between quotation marks
-abbrev pub IsPlain : List ℕ → Type 0
-IsPlain text = compact_text (string text) ≡ 34 ∷ (text ++ 34 ∷ [])
+abbrev pub StaysInJson : List ℕ → Type 0
+StaysInJson text = compact_text (string text) ≡ 34 ∷ (text ++ 34 ∷ [])
 
 -- a job has a line, and its id prints as it is
 abbrev pub HasJob : RowNames → ℕ → Type 0
-HasJob names job = (job < length names.jobs) × IsPlain (job_line names job).id
+HasJob names job = (job < length names.jobs) × StaysInJson (job_line names job).id
 
 abbrev pub HasActor : RowNames → ℕ → Type 0
 HasActor names zero = Unit {0}
@@ -135,4 +135,4 @@ event_parts job name fault offset =
 -- a fault's words print as they are
 abbrev pub IsPlainFault : Option Fault → Type 0
 IsPlainFault None = Unit {0}
-IsPlainFault (Some fault) = IsPlain (fault_text fault)
+IsPlainFault (Some fault) = StaysInJson (fault_text fault)

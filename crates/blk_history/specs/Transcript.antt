@@ -12,7 +12,7 @@ use Rattle.blk_base.specs.declared.fault.Outcome.TheVariants.{Good, Torn, Io, No
 use Rattle.blk_runs.specs.Runs.{runs_text}
 use Rattle.trace_codec.specs.declared.op.Op.{Op}
 use Rattle.trace_codec.specs.declared.op.Op.TheVariants.{Read, Write, Zero, Flush, Discard}
-use Rattle.qmp_codec.specs.declared.event.Event.{Event as Told}
+use Rattle.qmp_codec.specs.declared.event.JobEvent.{JobEvent}
 use Rattle.qmp_codec.specs.declared.event.EventName.{EventName}
 use Rattle.qmp_codec.specs.declared.event.EventName.TheVariants as event
 use Rattle.qmp_codec.specs.Events.{kind_text, event_data}
@@ -94,7 +94,7 @@ abbrev pub fault_text : Fault → List ℕ
 fault_text fault = join_with_byte 32 (fault_words fault)
 
 -- what a job tells
-abbrev pub told_by_job : JobLine → EventName → Option Fault → ℕ → Told
+abbrev pub told_by_job : JobLine → EventName → Option Fault → ℕ → JobEvent
 told_by_job job name fault offset = record {
   name = name;
   device = plain_text job.id;

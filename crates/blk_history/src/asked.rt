@@ -7,11 +7,11 @@ use trace_codec::{Await, Op};
 
 /// A request, as an entry keeps it. Contracts see the request itself.
 #[derive(Drop)]
-pub struct Asked {
+pub struct KeptRequest {
     op: Op,
 }
 
-impl Model for Asked {
+impl Model for KeptRequest {
     ghost use Rattle.trace_codec.specs.declared.op.Op.{Op};
 
     ghost Value = { Op };
@@ -19,11 +19,11 @@ impl Model for Asked {
     ghost view = { λ a. a.op };
 }
 
-impl Asked {
+impl KeptRequest {
     pub fn new(op: Op) -> Self
         ensures { result ≡ op }
     {
-        Asked { op }
+        KeptRequest { op }
     }
 
     pub fn op(&self) -> &Op

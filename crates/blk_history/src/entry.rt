@@ -2,7 +2,7 @@
 
 ghost use Rattle.std.specs.Prelude.{◌≡◌, ◌+◌, ◌<◌, ◌≤◌, [], ◌∷◌, ◌++◌, length, vec_len, vec_capacity};
 
-use crate::{Asked, Awaited, Understood};
+use crate::{Awaited, KeptRequest, Understood};
 use blk_base::{Fault, Outcome, Span, Text};
 
 /// Why a request was refused at its admission.
@@ -53,12 +53,12 @@ pub enum Entry {
     Admit {
         guest: u32,
         request: u32,
-        op: Asked,
+        op: KeptRequest,
     },
     Refuse {
         guest: u32,
         request: u32,
-        op: Asked,
+        op: KeptRequest,
         why: Refused,
     },
     Piece {

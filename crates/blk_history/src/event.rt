@@ -2,13 +2,13 @@
 
 use crate::{JobEnd, Refused};
 use blk_base::Outcome;
-use qmp_codec::{Action, Command, Source};
+use qmp_codec::{Action, Command, MergeSource};
 use std::collections::LinkedList;
 use trace_codec::{Await, Op};
 
 type Word = LinkedList<u8>;
 
-type Sources = LinkedList<Source<Word>>;
+type Sources = LinkedList<MergeSource<Word>>;
 
 /// An entry with its bytes. No value of this type is ever made.
 #[derive(Drop)]

@@ -10,7 +10,7 @@ mod line;
 mod rows;
 mod telling;
 
-pub use asked::{Asked, Awaited, Understood};
+pub use asked::{Awaited, KeptRequest, Understood};
 pub use entry::{Cause, Entry, JobEnd, Refused};
 pub use event::Event;
 pub use history::History;

@@ -1,7 +1,7 @@
 //! What the transcript tells of a job.
 ghost use Rattle.std.specs.Prelude.{◌≡◌, ◌+◌, ◌*◌, ◌<◌, ◌≤◌, [], ◌∷◌, ◌++◌, length, codes, decimal, None};
 ghost use Rattle.blk_history.specs.Transcript.{cause_word, fault_text, result_words, event_name, fault_of_end, event_line, start_words, ready_words, end_words};
-ghost use Rattle.blk_history.specs.Line.{blanked, IsPlain, IsPlainFault, device_part, error_part, length_part, offset_part, kind_part, progress_part, name_part, event_parts, Appends};
+ghost use Rattle.blk_history.specs.Line.{blanked, StaysInJson, IsPlainFault, device_part, error_part, length_part, offset_part, kind_part, progress_part, name_part, event_parts, Appends};
 
 use crate::entry::{Cause, JobEnd};
 use crate::line::{push_count, push_dev, push_word};
@@ -25,7 +25,7 @@ fn push_cause(out: &mut Text, cause: Cause)
 fn push_fault(out: &mut Text, fault: Fault)
     requires { 47 ≤ out.old.spare }
     ensures words { Appends out.old out.new (fault_text fault) 47 }
-    ensures plain { IsPlain (fault_text fault) }
+    ensures plain { StaysInJson (fault_text fault) }
 {
     match fault {
         Fault::Io { dev, count } => {
@@ -151,7 +151,7 @@ fn push_parts(out: &mut Text, job: &JobName, name: EventName, fault: Option<Faul
 
 /// Puts a blank and what a job tells at the end.
 fn push_event(out: &mut Text, job: &JobName, name: EventName, fault: Option<Fault>, offset: u64)
-    requires plain { IsPlain job.now.id }
+    requires plain { StaysInJson job.now.id }
     requires room { 239 + length job.now.id ≤ out.old.spare }
     ensures { Appends out.old out.new (32 ∷ event_line job.now name fault offset)
         (239 + length job.now.id) }
@@ -170,7 +170,7 @@ pub(crate) fn push_start(out: &mut Text, job: &JobName)
 
 /// Puts the words of a job that is ready at the end.
 pub(crate) fn push_ready(out: &mut Text, job: &JobName)
-    requires plain { IsPlain job.now.id }
+    requires plain { StaysInJson job.now.id }
     requires room { 240 + 2 * length job.now.id ≤ out.old.spare }
     ensures { Appends out.old out.new (blanked (ready_words job.now))
         (240 + 2 * length job.now.id) }
@@ -202,7 +202,7 @@ fn end_fault(outcome: JobEnd) -> Option<Fault>
 /// Puts the words of a job's end at the end.
 #[tactic(auto, using(crate::proofs::Tellings::blanked_more, std::proofs::lemmas::List::append_assoc))]
 pub(crate) fn push_end(out: &mut Text, job: &JobName, outcome: JobEnd, offset: u64)
-    requires plain { IsPlain job.now.id }
+    requires plain { StaysInJson job.now.id }
     requires room { 288 + 2 * length job.now.id ≤ out.old.spare }
     ensures { Appends out.old out.new (blanked (end_words job.now outcome offset))
         (288 + 2 * length job.now.id) }

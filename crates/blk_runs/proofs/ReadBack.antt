@@ -86,7 +86,7 @@ no-runs (r ∷ q ∷ rs) is = absurd (let bad : ⊥ = cc is in bad)
 both : {A : Type 0} (x y : A) (xs ys : List A) → x ≡ y → xs ≡ ys → x ∷ xs ≡ y ∷ ys
 both x y xs ys first rest = rw (first, rest) refl
 
-pub record Goes (front rs : List Run) (word : List ℕ) (more : List (List ℕ)) : Type 0 where
+pub record HasNextRun (front rs : List Run) (word : List ℕ) (more : List (List ℕ)) : Type 0 where
   pub run : Run
   pub back : List Run
   pub whole : rs ≡ front ++ run ∷ back
@@ -95,7 +95,7 @@ pub record Goes (front rs : List Run) (word : List ℕ) (more : List (List ℕ))
   pub rest : map run_text back ≡ more
 
 pub goes : (front rs : List Run) (word : List ℕ) (more : List (List ℕ)) → All IsBlockRun front → All IsBlockRun rs
-    → map run_text rs ≡ map run_text front ++ word ∷ more → Goes front rs word more
+    → map run_text rs ≡ map run_text front ++ word ∷ more → HasNextRun front rs word more
 goes [] [] word more fronts are same = absurd (let bad : ⊥ = cc same in bad)
 goes [] (q ∷ rs) word more fronts are same =
     record { run = q; back = rs; whole = refl; is = All-head IsBlockRun q rs are; text = cc same; rest = cc same }
@@ -194,13 +194,13 @@ uncut text none = slice_split_none (λ b. eqb b 32) text (λ k d below. ne_eqb _
 -- ---- reading on
 
 -- so it is where these runs were read so far and these words are left
-pub record Reads (text : List ℕ) (front : List Run) (left : List (List ℕ)) : Type 0 where
+pub record HasReadRuns (text : List ℕ) (front : List Run) (left : List (List ℕ)) : Type 0 where
   pub some : text ≢ []
   pub are : All IsBlockRun front
   pub words : map run_text front ++ left ≡ words_of text
 
-pub goes-on : (text : List ℕ) (front rs : List Run) (word : List ℕ) (more : List (List ℕ)) → Reads text front (word ∷ more)
-    → All IsBlockRun rs → text_of rs ≡ text → Goes front rs word more
+pub goes-on : (text : List ℕ) (front rs : List Run) (word : List ℕ) (more : List (List ℕ)) → HasReadRuns text front (word ∷ more)
+    → All IsBlockRun rs → text_of rs ≡ text → HasNextRun front rs word more
 goes-on text front rs word more reads are is =
     goes front rs word more reads.are are (runs-in-words rs text are is reads.some ∙ sym reads.words)
 
@@ -208,8 +208,8 @@ pub map-with : (front : List Run) (r : Run) (left : List (List ℕ)) → map run
 map-with [] r left = refl
 map-with (x ∷ front) r left = ap (λ ws. run_text x ∷ ws) (map-with front r left)
 
-pub reads-with : (text : List ℕ) (front : List Run) (r : Run) (word : List ℕ) (more : List (List ℕ)) → Reads text front (word ∷ more)
-    → IsBlockRun r → run_text r ≡ word → Reads text (front ++ r ∷ []) more
+pub reads-with : (text : List ℕ) (front : List Run) (r : Run) (word : List ℕ) (more : List (List ℕ)) → HasReadRuns text front (word ∷ more)
+    → IsBlockRun r → run_text r ≡ word → HasReadRuns text (front ++ r ∷ []) more
 reads-with text front r word more reads is same = record {
   some = reads.some;
   are = All-append IsBlockRun front (r ∷ []) reads.are (All-cons IsBlockRun r [] is (All-nil IsBlockRun));
@@ -217,14 +217,14 @@ reads-with text front r word more reads is same = record {
 }
 
 -- nothing is left
-pub read-all : (text : List ℕ) (front : List Run) → Reads text front [] → text_of front ≡ text
+pub read-all : (text : List ℕ) (front : List Run) → HasReadRuns text front [] → text_of front ≡ text
 read-all text front reads = words-of-text front text (sym (append-nil (map run_text front)) ∙ reads.words)
 
-pub only-read : (text : List ℕ) (front rs : List Run) → Reads text front [] → All IsBlockRun rs → text_of rs ≡ text → rs ≡ front
+pub only-read : (text : List ℕ) (front rs : List Run) → HasReadRuns text front [] → All IsBlockRun rs → text_of rs ≡ text → rs ≡ front
 only-read text front rs reads are is =
     all-gone front rs reads.are are (runs-in-words rs text are is reads.some ∙ sym reads.words ∙ append-nil (map run_text front))
 
-pub begin : (text : List ℕ) → text ≢ [] → Reads text [] (words_of text)
+pub begin : (text : List ℕ) → text ≢ [] → HasReadRuns text [] (words_of text)
 begin text some = record { some = some; are = All-nil IsBlockRun; words = refl }
 
 pub bytes-pushed : (front : List Run) (r : Run) → bytes_of_runs front ++ replicate r.count r.byte ≡ bytes_of_runs (front ++ r ∷ [])

@@ -9,7 +9,7 @@ use Rattle.blk_graph.specs.declared.edge.Role.{Role}
 use Rattle.blk_graph.specs.declared.edge.Role.TheVariants.{Drive}
 use Rattle.blk_graph.specs.Edits.{child_of}
 use Rattle.blk_graph.proofs.ChildLemmas.{child-edge}
-use Rattle.qmp_rules.specs.declared.rows.Device.{Device}
+use Rattle.qmp_rules.specs.declared.rows.DeviceRow.{DeviceRow}
 use Rattle.qmp_rules.specs.declared.rows.NodeRecord.{NodeRecord}
 use Rattle.qmp_rules.specs.Table.{RunTable, child, device_by_number, node_by_id}
 use Rattle.qmp_rules.specs.Chains.{disk_from, disk_node, filter_role, filtered}
@@ -117,7 +117,7 @@ module _ (t t' : RunTable) (new but : ℕ) (change : NodeRecord → NodeRecord) 
   drive-same g = grows.children (Guest g) Drive (guest-other g)
 
   pub device-same : (g : ℕ) → device_by_number t' g ≡ device_by_number t g
-  device-same g = ap (λ (devices : List Device). device_by_number (record t { devices = devices }) g) grows.devices
+  device-same g = ap (λ (devices : List DeviceRow). device_by_number (record t { devices = devices }) g) grows.devices
 
   pub drives-grown : HaveDrives t → HaveDrives t'
   drives-grown drives g there =

@@ -9,7 +9,7 @@ use Rattle.blk_graph.specs.declared.edge.Parent.TheVariants.{Guest}
 use Rattle.blk_history.specs.Fold.{With}
 use Rattle.blk_nodes.specs.Nodes.{DeviceSeen, Nodes}
 use Rattle.qmp_rules.specs.Table.{RunTable, device_by_number, node_by_id}
-use Rattle.qmp_rules.specs.declared.rows.Device.{Device}
+use Rattle.qmp_rules.specs.declared.rows.DeviceRow.{DeviceRow}
 use Rattle.qmp_rules.specs.declared.rows.NodeRecord.{NodeRecord}
 use Rattle.flat_machine.specs.Legal.{IsForbidden}
 use Rattle.flat_machine.specs.State.{drive_of, filename_of}
@@ -94,7 +94,7 @@ module _ (t t' : RunTable) (new but : ℕ) (change : NodeRecord → NodeRecord) 
     writable = still-writable;
     within = within-grown t t' new but change grows p.guests was.within;
     allowed = λ g f flies.
-        subst (λ (d : Option Device). With d (λ device. IsForbidden f.op device.read_only → ⊥)) (sym (device-same t t' new but change grows g)) (was.allowed g f flies);
+        subst (λ (d : Option DeviceRow). With d (λ device. IsForbidden f.op device.read_only → ⊥)) (sym (device-same t t' new but change grows g)) (was.allowed g f flies);
     count = was.count ∙ ap length (sym more.guests);
     jobs = more.jobs ∙ was.jobs;
     out = out;

@@ -14,7 +14,7 @@ use Rattle.flat_machine.specs.Opening.{start}
 use Rattle.flat_machine.specs.Comes.{IsHistoryOf, guests_after}
 use Rattle.flat_machine.specs.Final.{bytes_named}
 use Rattle.flat_machine.specs.Imaging.{ImagesAreSound}
-use Rattle.flat_machine.specs.Licence.{AreLicensed, IsBetween, faults_of}
+use Rattle.flat_machine.specs.Licence.{AreLicensed, IsBetweenCounts, faults_of}
 use Rattle.flat_machine.specs.declared.opening.Opening.{Opening}
 use Rattle.flat_machine.proofs.Kept.{changes_keep}
 use Rattle.flat_machine.proofs.ImagesChanged.{all_images_keep}
@@ -54,7 +54,7 @@ module _ (w v : WorldSeen) (is : IsPutBack w v) (o : Opening) (comes : Comes o w
 
   still-licensed : AreLicensed (first_counts v) (counts_now v) w.progress.log.events
   still-licensed = record {
-    rises = All-weaker (IsBetween (first_counts w) (counts_now w)) (IsBetween (first_counts v) (counts_now v)) (between-on w v is.runs) (faults_of w.progress.log.events) comes.history.licensed.rises;
+    rises = All-weaker (IsBetweenCounts (first_counts w) (counts_now w)) (IsBetweenCounts (first_counts v) (counts_now v)) (between-on w v is.runs) (faults_of w.progress.log.events) comes.history.licensed.rises;
     once = comes.history.licensed.once;
   }
 

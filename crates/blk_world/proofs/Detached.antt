@@ -25,7 +25,7 @@ use Rattle.qmp_rules.specs.Edits.{edits_of}
 use Rattle.qmp_rules.specs.Table.{RunTable, device_by_number, device_named, kinds_of, node_by_id}
 use Rattle.qmp_rules.specs.declared.change.Change.{Change}
 use Rattle.qmp_rules.specs.declared.change.Change.TheVariants.{RemoveDevice}
-use Rattle.qmp_rules.specs.declared.rows.Device.{Device}
+use Rattle.qmp_rules.specs.declared.rows.DeviceRow.{DeviceRow}
 use Rattle.qmp_rules.specs.declared.rows.NodeRecord.{NodeRecord}
 use Rattle.qmp_rules.specs.Queries.{bytes_of_node}
 use Rattle.flat_machine.specs.Agreement.{HasDisk}
@@ -73,7 +73,7 @@ unfolding changed
 without_it t number = record { rows = refl; edges = refl; devices = refl; guests = refl; jobs = refl }
 
 module _ (w : WorldSeen) (whole : IsWholeWorld w) (joined : IsJoined w.nodes) (id : List ℕ) (none : refusal_to w.table told_none (command.DeviceDel id) ≡ None)
-    (device : Device) (named : device_named w.table id ≡ Some device) (calm : AreCalm w.table w.progress.guests (device_disk w.table id)) where
+    (device : DeviceRow) (named : device_named w.table id ≡ Some device) (calm : AreCalm w.table w.progress.guests (device_disk w.table id)) where
   was : IsCoherent w.table w.nodes w.opened w.progress
   was = whole.coherent
 
@@ -96,17 +96,17 @@ module _ (w : WorldSeen) (whole : IsWholeWorld w) (joined : IsJoined w.nodes) (i
 
   other_device : (g : ℕ) → g ≢ number → device_by_number u g ≡ device_by_number w.table g
   other_device g apart =
-      ap (find (λ (d : Device). d.number == g)) is.devices
-      ∙ find-filter (λ (d : Device). d.number == g) (λ (d : Device). not (d.number == number)) keeps w.table.devices
+      ap (find (λ (d : DeviceRow). d.number == g)) is.devices
+      ∙ find-filter (λ (d : DeviceRow). d.number == g) (λ (d : DeviceRow). not (d.number == number)) keeps w.table.devices
     where
-      keeps : (d : Device) → (d.number == g) ≡ true → not (d.number == number) ≡ true
+      keeps : (d : DeviceRow) → (d.number == g) ≡ true → not (d.number == number) ≡ true
       keeps d at = ap not (ne_eqb d.number number (λ same. apart (sym (number_is d at) ∙ same)))
         where
-          number_is : (d : Device) → (d.number == g) ≡ true → d.number ≡ g
+          number_is : (d : DeviceRow) → (d.number == g) ≡ true → d.number ≡ g
           number_is d at = eqb-true d.number g at
 
-  left_device : (g : ℕ) (d : Device) → device_by_number u g ≡ Some d → (device_by_number w.table g ≡ Some d) × (g ≢ number)
-  left_device g d there = device_left number g w.table.devices d (sym (ap (find (λ (x : Device). x.number == g)) is.devices) ∙ there)
+  left_device : (g : ℕ) (d : DeviceRow) → device_by_number u g ≡ Some d → (device_by_number w.table g ≡ Some d) × (g ≢ number)
+  left_device g d there = device_left number g w.table.devices d (sym (ap (find (λ (x : DeviceRow). x.number == g)) is.devices) ∙ there)
 
   same_at : (node : ℕ) → node_by_id u node ≡ node_by_id w.table node
   same_at node = ap (find (λ (r : NodeRecord). r.id == node)) is.rows
@@ -160,7 +160,7 @@ module _ (w : WorldSeen) (whole : IsWholeWorld w) (joined : IsJoined w.nodes) (i
   own_calm : (drive : ℕ) → drive_of w.table number ≡ Some drive → IsCalm w.table w.progress.guests (disk_node w.table drive)
   own_calm drive on =
       let disk : device_disk w.table id ≡ disk_node w.table drive ∷ [] =
-      ap (λ (found : Option Device). ids_of (option_and_then (λ (d : Device). disk_of_guest w.table d.number) found)) named
+      ap (λ (found : Option DeviceRow). ids_of (option_and_then (λ (d : DeviceRow). disk_of_guest w.table d.number) found)) named
       ∙ ap (λ (found : Option ℕ). ids_of (option_map (disk_node w.table) found)) on in
       All-head (IsCalm w.table w.progress.guests) (disk_node w.table drive) [] (subst (AreCalm w.table w.progress.guests) disk calm)
 
@@ -195,7 +195,7 @@ module _ (w : WorldSeen) (whole : IsWholeWorld w) (joined : IsJoined w.nodes) (i
   have_drives : HaveDrives u
   have_drives g there = by_device (device_by_number u g) refl there
     where
-      by_device : (found : Option Device) → device_by_number u g ≡ found → IsSome found → IsSome (drive_of u g)
+      by_device : (found : Option DeviceRow) → device_by_number u g ≡ found → IsSome found → IsSome (drive_of u g)
       by_device None e some = absurd (false≢true some)
       by_device (Some d) e some =
           let left = left_device g d e in
@@ -230,7 +230,7 @@ module _ (w : WorldSeen) (whole : IsWholeWorld w) (joined : IsJoined w.nodes) (i
 
   are_allowed : AreAllowed u w.progress.guests
   are_allowed g f flies =
-      subst (λ (d : Option Device). With d (λ x. IsForbidden f.op x.read_only → ⊥)) (sym (other_device g (another g f flies))) (was.allowed g f flies)
+      subst (λ (d : Option DeviceRow). With d (λ x. IsForbidden f.op x.read_only → ⊥)) (sym (other_device g (another g f flies))) (was.allowed g f flies)
 
   nodes_alike : AreNodesOf u nodes
   nodes_alike = record {
@@ -258,7 +258,7 @@ module _ (w : WorldSeen) (whole : IsWholeWorld w) (joined : IsJoined w.nodes) (i
 
   edits : command_edits w.table told_none (command.DeviceDel id) ≡ RemoveDevice number ∷ []
   unfolding edits_of
-  edits = ap (λ (found : Option Device). elim found as (λ _. List Change) [ None ↦ [] | Some d ↦ RemoveDevice d.number ∷ [] ]) named
+  edits = ap (λ (found : Option DeviceRow). elim found as (λ _. List Change) [ None ↦ [] | Some d ↦ RemoveDevice d.number ∷ [] ]) named
 
   changes_so : (answer w.table told_none (command.DeviceDel id)).changes ≡ RemoveDevice number ∷ []
   changes_so = ap (λ (a : Answer). a.changes) (answer-is w.table told_none (command.DeviceDel id) None none) ∙ edits

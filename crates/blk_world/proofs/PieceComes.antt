@@ -18,7 +18,7 @@ use Rattle.blk_history.specs.declared.event.Event.{Event}
 use Rattle.trace_codec.specs.declared.op.Op.{Op}
 use Rattle.qmp_rules.specs.Chains.{disk_node}
 use Rattle.qmp_rules.specs.Table.{RunTable, child, device_by_number}
-use Rattle.qmp_rules.specs.declared.rows.Device.{Device}
+use Rattle.qmp_rules.specs.declared.rows.DeviceRow.{DeviceRow}
 use Rattle.flat_machine.specs.EventLicence.{IsOnTheWay, ReachesDevice, RoseIn, WouldPass, full_by, faulty_device}
 use Rattle.flat_machine.specs.Legal.{Fits, IsForbidden}
 use Rattle.flat_machine.specs.Licence.{fault_at, named_by}
@@ -80,8 +80,8 @@ stop_names before after (Io other count) dev stop = stop.named
 stop_names before after (NoSpace other) dev stop = stop
 
 -- a guest has a device, which allows what is asked
-allows : (t : RunTable) (g : ℕ) (op : Op) (device : Option Device) → device_by_number t g ≡ device → With device (λ d. IsForbidden op d.read_only → ⊥)
-    → (d : Device) × (device_by_number t g ≡ Some d) × (is_write op ≡ true → d.read_only ≡ false)
+allows : (t : RunTable) (g : ℕ) (op : Op) (device : Option DeviceRow) → device_by_number t g ≡ device → With device (λ d. IsForbidden op d.read_only → ⊥)
+    → (d : DeviceRow) × (device_by_number t g ≡ Some d) × (is_write op ≡ true → d.read_only ≡ false)
 allows t g op None is never = absurd never
 allows t g op (Some d) is allowed = (d, is, λ writes. by_access d.read_only writes allowed)
   where

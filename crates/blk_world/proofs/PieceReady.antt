@@ -16,7 +16,7 @@ use Rattle.blk_graph.proofs.NodeLemmas.{without_parent-apart}
 use Rattle.blk_graph.proofs.PathLemmas.{Reaches-edge, Reaches-joined}
 use Rattle.qmp_rules.specs.Chains.{filter_role, filtered, disk_node}
 use Rattle.qmp_rules.specs.Table.{RunTable, node_by_id, device_by_number, child}
-use Rattle.qmp_rules.specs.declared.rows.Device.{Device}
+use Rattle.qmp_rules.specs.declared.rows.DeviceRow.{DeviceRow}
 use Rattle.qmp_rules.specs.declared.rows.NodeRecord.{NodeRecord}
 use Rattle.qmp_rules.specs.Queries.{bytes_of_node}
 use Rattle.blk_history.specs.Disk.{span_of, piece, is_write}
@@ -367,8 +367,8 @@ module _ (t : RunTable) (nodes : Nodes) (joined : IsJoined nodes) (stands : Tabl
 
 -- A guest's disk can be asked for the next piece of its request in flight.
 module _ (t : RunTable) (nodes : Nodes) (p : Progress) (joined : IsJoined nodes) where
-  pub device_there : (g : ℕ) (f : Flight) (device : Option Device) → device_by_number t g ≡ device → With device (λ d. IsForbidden f.op d.read_only → ⊥) → is_write f.op ≡ true
-      → (d : Device) × (device_by_number t g ≡ Some d) × (d.read_only ≡ false)
+  pub device_there : (g : ℕ) (f : Flight) (device : Option DeviceRow) → device_by_number t g ≡ device → With device (λ d. IsForbidden f.op d.read_only → ⊥) → is_write f.op ≡ true
+      → (d : DeviceRow) × (device_by_number t g ≡ Some d) × (d.read_only ≡ false)
   device_there g f None is never changes = absurd never
   device_there g f (Some device) is allowed changes = (device, is, not_forbidden f.op device.read_only changes allowed)
 
@@ -379,7 +379,7 @@ module _ (t : RunTable) (nodes : Nodes) (p : Progress) (joined : IsJoined nodes)
     pub node_on : disk_of_guest t g ≡ Some (disk_node t drive)
     node_on = ap (option_map (disk_node t)) on
 
-    pub writer : is_write f.op ≡ true → (d : Device) × (device_by_number t g ≡ Some d) × (d.read_only ≡ false)
+    pub writer : is_write f.op ≡ true → (d : DeviceRow) × (device_by_number t g ≡ Some d) × (d.read_only ≡ false)
     writer changes = device_there g f (device_by_number t g) refl (was.allowed g f flies) changes
 
     pub writable_row : is_write f.op ≡ true → disk_is.row.read_only ≡ false

@@ -17,7 +17,7 @@ use Rattle.blk_history.specs.Fold.{With}
 use Rattle.qmp_rules.specs.Changes.{unsettled}
 use Rattle.qmp_rules.specs.Chains.{filter_role, filtered, disk_node, is_over, unsettled_over, written_under}
 use Rattle.qmp_rules.specs.Table.{RunTable, node_by_id, device_by_number, child}
-use Rattle.qmp_rules.specs.declared.rows.Device.{Device}
+use Rattle.qmp_rules.specs.declared.rows.DeviceRow.{DeviceRow}
 use Rattle.qmp_rules.specs.declared.rows.NodeRecord.{NodeRecord}
 use Rattle.qmp_rules.specs.Queries.{bytes_of_node}
 use Rattle.flat_machine.specs.Agreement.{HasDisk}
@@ -51,7 +51,7 @@ module _ (t now : RunTable) (e : IsTableEased t now) where
       by_row (Some row) = ap Some (row_same g blind row)
 
   device_same : (g : ℕ) → device_by_number now g ≡ device_by_number t g
-  device_same g = ap (find (λ (device : Device). device.number == g)) e.devices
+  device_same g = ap (find (λ (device : DeviceRow). device.number == g)) e.devices
 
   drive_same : (g : ℕ) → drive_of now g ≡ drive_of t g
   drive_same g = ap (child_of (GuestOf g) Drive) e.edges
@@ -105,7 +105,7 @@ module _ (t now : RunTable) (e : IsTableEased t now) where
           subst (λ (disk : Option ℕ). With disk (λ node. end_of (span_of f.op) ≤ bytes_of_node now node)) (sym (guest_disk_same g))
           (within_same (disk_of_guest t g) (end_of (span_of f.op)) (was.within g f flies));
       allowed = λ g f flies.
-          subst (λ (device : Option Device). With device (λ d. IsForbidden f.op d.read_only → ⊥)) (sym (device_same g)) (was.allowed g f flies);
+          subst (λ (device : Option DeviceRow). With device (λ d. IsForbidden f.op d.read_only → ⊥)) (sym (device_same g)) (was.allowed g f flies);
       count = was.count ∙ ap length (sym e.guests);
       jobs = e.jobs ∙ was.jobs;
       out = out-same now nodes next opened after.devices (out_eased t now e nodes opened was.out);
@@ -158,7 +158,7 @@ module _ (t : RunTable) (node : ℕ) where
 
 module _ (t : RunTable) (nodes : Nodes) (opened : List Opened) (p : Progress) (joined : IsJoined nodes) (was : IsCoherent t nodes opened p)
     (writer drive : ℕ) (on : drive_of t writer ≡ Some drive) where
-  written_disks : (device : Device) → device_by_number t writer ≡ Some device → device.read_only ≡ false → AreOnDisks (written_under (disk_node t drive) t)
+  written_disks : (device : DeviceRow) → device_by_number t writer ≡ Some device → device.read_only ≡ false → AreOnDisks (written_under (disk_node t drive) t)
   unfolding written_under eased_written
   written_disks device there writes g other is =
       let node : ℕ = disk_node t drive in
@@ -169,7 +169,7 @@ module _ (t : RunTable) (nodes : Nodes) (opened : List Opened) (p : Progress) (j
       (subst (λ (row : Option NodeRecord). With row HasDisk) (sym (eased_at t (written_under node t) e (disk_node t other)))
       (kept_at t node (disk_node t other) apart (node_by_id t (disk_node t other)) refl (was.disks g other is)))
 
-  pub disks_after : (op : Op) → (is_write op ≡ true → (d : Device) × (device_by_number t writer ≡ Some d) × (d.read_only ≡ false)) → AreOnDisks (table_after op (disk_node t drive) t)
+  pub disks_after : (op : Op) → (is_write op ≡ true → (d : DeviceRow) × (device_by_number t writer ≡ Some d) × (d.read_only ≡ false)) → AreOnDisks (table_after op (disk_node t drive) t)
   disks_after (Read span) by = was.disks
   disks_after (Write span payload) by = let d = by refl in written_disks d.0 d.1 d.2
   disks_after (Zero span) by = let d = by refl in written_disks d.0 d.1 d.2

@@ -19,7 +19,7 @@ use Rattle.blk_graph.proofs.ChildLemmas.{child-edge}
 use Rattle.blk_graph.proofs.Members.{Contains-nil, Contains-cases}
 use Rattle.qmp_rules.specs.Chains.{filter_role, filtered, disk_from, disk_node, chain_from, chain, is_listed, is_over}
 use Rattle.qmp_rules.specs.Table.{RunTable, node_by_id, device_by_number, child}
-use Rattle.qmp_rules.specs.declared.rows.Device.{Device}
+use Rattle.qmp_rules.specs.declared.rows.DeviceRow.{DeviceRow}
 use Rattle.qmp_rules.specs.declared.rows.NodeRecord.{NodeRecord}
 use Rattle.flat_machine.specs.State.{drive_of}
 use Rattle.flat_machine.specs.Wiring.{TableStands}
@@ -352,7 +352,7 @@ module _ (t : RunTable) (nodes : Nodes) (joined : IsJoined nodes) (are : AreNode
       let e = guest_edge g drive is in
       record { edge = e.0; there = e.1; to = e.3; asks = ap (λ (x : Edge). x.perm.read) e.4.is }
 
-  pub guest_writes : (g drive : ℕ) (device : Device) → AskToWrite t → device_by_number t g ≡ Some device → device.read_only ≡ false → drive_of t g ≡ Some drive → IsWritten drive
+  pub guest_writes : (g drive : ℕ) (device : DeviceRow) → AskToWrite t → device_by_number t g ≡ Some device → device.read_only ≡ false → drive_of t g ≡ Some drive → IsWritten drive
   guest_writes g drive device ask there writes is =
       let e = guest_edge g drive is in
       record {
@@ -365,7 +365,7 @@ module _ (t : RunTable) (nodes : Nodes) (joined : IsJoined nodes) (are : AreNode
       }
 
   -- no guest's disk is over one that another guest may write
-  pub none_over : (writer reader drive other : ℕ) (device : Device) → AskToWrite t → device_by_number t writer ≡ Some device → device.read_only ≡ false → drive_of t writer ≡ Some drive
+  pub none_over : (writer reader drive other : ℕ) (device : DeviceRow) → AskToWrite t → device_by_number t writer ≡ Some device → device.read_only ≡ false → drive_of t writer ≡ Some drive
       → drive_of t reader ≡ Some other → is_over t (disk_node t drive) (disk_node t other) ≡ false
   unfolding chain
   none_over writer reader drive other device ask there writes on on_other =

@@ -95,7 +95,7 @@ impl<S: Store> World<S> {
     ghost use Rattle.blk_base.specs.Files.{is_out};
     ghost use Rattle.std.specs.Prelude.{◌↔◌, true, false, None, IsTrue, IsNone, IfSome, Contains, is_none};
     ghost use Rattle.blk_history.specs.Fold.{With};
-    ghost use Rattle.blk_history.specs.Legal.{IsOver};
+    ghost use Rattle.blk_history.specs.Legal.{IsFlightOver};
     ghost use Rattle.trace_codec.specs.Awaits.{seen_await};
     ghost use Rattle.qmp_rules.specs.Table.{job_in};
     ghost use Rattle.flat_machine.specs.Legal.{IsMet, IsNotDone, AllDone};
@@ -201,7 +201,7 @@ impl<S: Store> World<S> {
 
     /// Ends a request.
     fn put_retirement(&mut self, guest: u32)
-        requires { With (flight_at self.old.progress.guests guest) IsOver }
+        requires { With (flight_at self.old.progress.guests guest) IsFlightOver }
         ensures { self.new ≡ with_history self.old (with_retirement guest) }
     {
         self.progress.retire(guest);
@@ -209,7 +209,7 @@ impl<S: Store> World<S> {
 
     /// Ends a request of which all pieces are done, or the last wasn't good. Takes no memory.
     pub fn retire(&mut self, guest: u32)
-        requires { With (flight_at self.old.progress.guests guest) IsOver }
+        requires { With (flight_at self.old.progress.guests guest) IsFlightOver }
         ensures kept { self.new ≡ with_history self.old (with_retirement guest) }
         ensures comes { (o : Opening) → Comes o self.old → Comes o self.new }
     {

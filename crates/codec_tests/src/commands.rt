@@ -7,7 +7,7 @@ mod shown;
 
 use blk_base::Text;
 use qmp_codec::{
-    Class, CodecStop, Event, EventName, JobKind, Reply, print_event, print_reply, read_command,
+    Class, CodecStop, EventName, JobEvent, JobKind, Reply, print_event, print_reply, read_command,
     read_id,
 };
 use serde_json::Value;
@@ -235,7 +235,7 @@ fn printed(
     kind: JobKind,
     error: Option<&str>,
 ) -> Result<Text, Fail> {
-    let event = Event {
+    let event = JobEvent {
         name,
         device: Text::copied(alloc, "m0")?,
         error: copied(alloc, error)?,

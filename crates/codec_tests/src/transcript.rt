@@ -6,7 +6,7 @@ ghost use Rattle.blk_history.specs.Recorded.{event_of, PointsWithin};
 ghost use Rattle.blk_history.specs.Line.{At, IsActorNamed};
 
 use blk_base::{Bytes, DevNo, Names1, Outcome, Room, Span, Text};
-use blk_history::{Asked, Awaited, Entry, History, JobName, Refused, Rows, Understood};
+use blk_history::{Awaited, Entry, History, JobName, KeptRequest, Refused, Rows, Understood};
 use qmp_codec::JobKind;
 use std::alloc::Global;
 use std::process::Abort;
@@ -30,19 +30,19 @@ fn names(alloc: Global) -> Result<Rows, Fail>
     Ok(Rows::new(Names1::from_vec(guests), jobs))
 }
 
-fn read(start: u32, len: u32) -> Asked {
-    Asked::new(Op::Read(Span {
+fn read(start: u32, len: u32) -> KeptRequest {
+    KeptRequest::new(Op::Read(Span {
         start: u64::from(start),
         len: u64::from(len),
     }))
 }
 
-fn write(start: u32, len: u32) -> Asked {
+fn write(start: u32, len: u32) -> KeptRequest {
     let span = Span {
         start: u64::from(start),
         len: u64::from(len),
     };
-    Asked::new(Op::Write(span, Payload::Fill(0x55)))
+    KeptRequest::new(Op::Write(span, Payload::Fill(0x55)))
 }
 
 fn piece(k: u32, outcome: Outcome) -> Entry
@@ -107,7 +107,7 @@ fn admits(rt: &impl Abort, alloc: Global, op: Op, want: &str) -> Result<(), Fail
     let entry = Entry::Admit {
         guest: 0,
         request: 3,
-        op: Asked::new(op),
+        op: KeptRequest::new(op),
     };
     says(rt, alloc, entry, &[], want)
 }
@@ -178,7 +178,7 @@ fn lines_of_other_requests(rt: HostRuntime) -> Result<(), Fail> {
     let refused = Entry::Refuse {
         guest: 0,
         request: 4,
-        op: Asked::new(Op::Zero(span)),
+        op: KeptRequest::new(Op::Zero(span)),
         why: Refused::ReadOnly,
     };
     says(

@@ -29,7 +29,7 @@ use Rattle.qmp_rules.specs.declared.change.Change.TheVariants as change
 use Rattle.qmp_rules.specs.declared.refusal.FileFault.TheVariants.{Absent}
 use Rattle.qmp_rules.specs.declared.refusal.Refusal.TheVariants as refusal
 use Rattle.qmp_rules.specs.declared.rows.NodeRecord.{NodeRecord}
-use Rattle.qmp_rules.specs.declared.rows.Device.{Device}
+use Rattle.qmp_rules.specs.declared.rows.DeviceRow.{DeviceRow}
 use Rattle.qmp_rules.specs.declared.rows.FileState.{FileState}
 use Rattle.qmp_rules.specs.declared.rows.FileState.TheVariants.{Made, Formatted, Used}
 use Rattle.qmp_asks.specs.declared.look.Look.{Look}
@@ -581,7 +581,7 @@ snapshot_can s told c stands asks =
     by_node : ((row : NodeRecord) × (node_named s.table c.node ≡ Some row)) → With (node_by_id s.table (id_or 0 s.table (Some c.node))) HasDisk
     by_node named = rw named.1 (rw named.1 at backed)
 
-free_gone : (found : Option Device) → AreFree (elim found as (λ _. List Change) [ None ↦ [] | Some device ↦ change.RemoveDevice device.number ∷ [] ])
+free_gone : (found : Option DeviceRow) → AreFree (elim found as (λ _. List Change) [ None ↦ [] | Some device ↦ change.RemoveDevice device.number ∷ [] ])
 free_gone None = tt
 free_gone (Some device) = (λ s. tt, tt)
 

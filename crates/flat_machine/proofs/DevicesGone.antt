@@ -15,7 +15,7 @@ use Rattle.blk_graph.proofs.Members.{find-Some, Contains-filter}
 use Rattle.blk_graph.proofs.ChildLemmas.{child-without}
 use Rattle.blk_graph.proofs.RefreshLemmas.{child_of-refreshed}
 use Rattle.qmp_rules.specs.declared.change.Change.TheVariants as change
-use Rattle.qmp_rules.specs.declared.rows.Device.{Device}
+use Rattle.qmp_rules.specs.declared.rows.DeviceRow.{DeviceRow}
 use Rattle.qmp_rules.specs.Table.{RunTable, kinds_of}
 use Rattle.qmp_rules.specs.Changes.{changed, without_device}
 use Rattle.flat_machine.specs.State.{State, drive_of}
@@ -38,7 +38,7 @@ passes false e = refl
 -- ---- devices
 
 -- a device that is left was there, with another number
-pub device_left : (number other : ℕ) (devices : List Device) (device : Device)
+pub device_left : (number other : ℕ) (devices : List DeviceRow) (device : DeviceRow)
     → find (λ d. d.number == other) (without_device number devices) ≡ Some device
     → (find (λ d. d.number == other) devices ≡ Some device) × (other ≢ number)
 device_left number other devices device found =
@@ -48,7 +48,7 @@ device_left number other devices device found =
     let differ : other ≢ number = λ same. eqb-false device.number number (passes (device.number == number) was.1) (is ∙ same) in
     (sym (find-filter (λ d. d.number == other) (λ d. not (d.number == number)) (keeps differ) devices) ∙ found, differ)
   where
-    keeps : (other ≢ number) → (d : Device) → (d.number == other) ≡ true → not (d.number == number) ≡ true
+    keeps : (other ≢ number) → (d : DeviceRow) → (d.number == other) ≡ true → not (d.number == number) ≡ true
     keeps differ d is = ap not (ne_eqb d.number number (λ same. differ (sym (eqb-true d.number other is) ∙ same)))
 
 -- ---- tables

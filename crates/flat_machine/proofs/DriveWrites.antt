@@ -8,7 +8,7 @@ use Rattle.blk_graph.specs.declared.edge.Parent.TheVariants.{Node}
 use Rattle.blk_graph.specs.declared.edge.Role.TheVariants.{File}
 use Rattle.blk_graph.proofs.Members.{find-Some}
 use Rattle.qmp_rules.specs.declared.rows.NodeRecord.{NodeRecord}
-use Rattle.qmp_rules.specs.declared.rows.Device.{Device}
+use Rattle.qmp_rules.specs.declared.rows.DeviceRow.{DeviceRow}
 use Rattle.qmp_rules.specs.Table.{node_by_id, child, has_name}
 use Rattle.qmp_rules.specs.Chains.{filter_role, disk_node}
 use Rattle.blk_history.specs.Fold.{With}
@@ -21,7 +21,7 @@ use Rattle.flat_machine.proofs.Kept.{own_disk}
 use Rattle.flat_machine.proofs.WritingKept.{role_edge, WritesFileUnder, writes_file}
 
 -- A guest on a node writes what may be written, where a `file` node has its flat disk and was used.
-pub drive_may : (s : State) (device : Device) (row : NodeRecord) → Stands s → Contains s.table.nodes row → device.read_only ≡ row.read_only
+pub drive_may : (s : State) (device : DeviceRow) (row : NodeRecord) → Stands s → Contains s.table.nodes row → device.read_only ≡ row.read_only
     → (IsSome row.filename → row.is_settled ≡ true) → ((name : List ℕ) → row.filename ≡ Some name → content_in s.files name ≡ Some Unknown)
     → MayGuestWrite s device row.id
 drive_may s device row h there same settled known writes = by_disk (node_by_id s.table disk) refl (h.table.reads row.id row (h.table.apart row there))

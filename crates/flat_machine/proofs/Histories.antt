@@ -22,7 +22,7 @@ use Rattle.qmp_rules.specs.declared.change.Change.{Change}
 use Rattle.qmp_rules.specs.declared.change.Change.TheVariants as change
 use Rattle.qmp_rules.specs.declared.refusal.Refusal.{Refusal}
 use Rattle.qmp_rules.specs.declared.rows.NodeRecord.{NodeRecord}
-use Rattle.qmp_rules.specs.declared.rows.Device.{Device}
+use Rattle.qmp_rules.specs.declared.rows.DeviceRow.{DeviceRow}
 use Rattle.qmp_rules.specs.declared.told.Told.{Told}
 use Rattle.qmp_rules.specs.Table.{RunTable, device_named, node_named, job_at}
 use Rattle.qmp_rules.specs.Chains.{disk_node, written_under}
@@ -143,7 +143,7 @@ plain_device t c None = tt
 plain_device t c (Some row) = plain_append (device_uses row) (change.AddDevice (new_device t c row) row.id ∷ [])
     (plain_device_uses row (is_file row)) (tt, tt)
 
-plain_gone : (found : Option Device) → ArePlain (elim found as (λ _. List Change) [ None ↦ [] | Some device ↦ change.RemoveDevice device.number ∷ [] ])
+plain_gone : (found : Option DeviceRow) → ArePlain (elim found as (λ _. List Change) [ None ↦ [] | Some device ↦ change.RemoveDevice device.number ∷ [] ])
 plain_gone None = tt
 plain_gone (Some device) = (tt, tt)
 

@@ -35,7 +35,7 @@ use Rattle.flat_machine.proofs.Finds.{find-filter}
 use Rattle.flat_machine.proofs.Fresh.{found-new}
 use Rattle.flat_machine.proofs.Kept.{change_keeps}
 use Rattle.flat_machine.proofs.Wired.{Grows, NoRow, NoEdge}
-use Rattle.flat_machine.proofs.TablesKept.{IsOther, child-role, file_grow, IsNewEdge, format_grow, found_row, format_child, IsFilterEdge, filter_grow, removed_grow}
+use Rattle.flat_machine.proofs.TablesKept.{IsOther, child-role, file_grow, IsNewEdge, format_grow, found_row, format_child, IsNewFilterEdge, filter_grow, removed_grow}
 use Rattle.flat_machine.proofs.WritingKept.{file_same}
 use Rattle.flat_machine.proofs.StandingKept.{stands_keep}
 use Rattle.flat_machine.proofs.Mapping.{found_maps}
@@ -210,7 +210,7 @@ add_filter_images s row below old new suits stands held h =
     kinds = kinds_of (s.table.nodes ++ row ∷ [])
 
     New : Edge → Type 0
-    New = IsFilterEdge s.table now.table row below suits refl kinds refl stands
+    New = IsNewFilterEdge s.table now.table row below suits refl kinds refl stands
 
     grow : Grows s.table now.table (IsThere s.table) (λ r. r ≡ row) New
     grow = filter_grow s.table now.table row below suits refl kinds refl stands

@@ -28,7 +28,7 @@ use Rattle.qmp_rules.specs.Asks.{name_of_file}
 use Rattle.blk_history.specs.Fold.{With}
 use Rattle.blk_history.specs.Disk.{piece, done_in}
 use Rattle.blk_history.specs.Machine.{Flight, done_by}
-use Rattle.blk_history.specs.Legal.{IsNextPiece, IsOver, Tells}
+use Rattle.blk_history.specs.Legal.{IsNextPiece, IsFlightOver, Tells}
 use Rattle.blk_history.specs.Names.{RowNames}
 use Rattle.blk_history.specs.Transcript.{op_words, refused_word, outcome_words, actor_word, entry_line, transcript}
 use Rattle.blk_history.specs.declared.entry.Refused.{Refused}
@@ -39,7 +39,7 @@ use Rattle.blk_history.specs.Small.{IsSmall}
 use Rattle.blk_history.proofs.Folds.{with-some, with-at, length-change, slice-there}
 use Rattle.blk_history.proofs.Lines.{IsLine, IsWord, words_then, after-verb, first-word, same-word, last-word, name-word, text-line}
 use Rattle.blk_history.proofs.Outcomes.{one-outcome, one-told}
-use Rattle.blk_history.proofs.Verbs.{IsOfNoJob, verb_of, verb_in, verb-told, line-there}
+use Rattle.blk_history.proofs.Verbs.{IsOfNoJob, event_verb, verb_in, verb-told, line-there}
 use Rattle.flat_machine.specs.State.{State, Guest, Content, Unknown, Left, Mapped, guest_at, drive_of, disk_of_guest, content_in, filename_of}
 use Rattle.flat_machine.specs.Contents.{file_bytes, mapped_in}
 use Rattle.flat_machine.specs.Changed.{stepped, all_stepped, name_if, leave, know_if, note_image, add_file, put, name_file, content_under, bytes_by_format, left_disk, overlay_file}
@@ -283,9 +283,9 @@ module _ (o : Opening) (guests : AreGuests o.guests) (s : State) (c : Course) (a
   done-same (suc g) (suc i) r q h k e =
       ap suc (same-guest o guests g i [] [] r q (is-guest g (λ row. row.flight ≡ None) h.1) (is-guest i (λ row. row.flight ≡ None) k.1) e).0
 
-  same-entry : (e f : Event) → verb_of e ≡ verb_of f → IsOfNoJob e → Fits s e → Fits s f → IsOwn c e → IsOwn c f → IsSmall e → IsSmall f
+  same-entry : (e f : Event) → event_verb e ≡ event_verb f → IsOfNoJob e → Fits s e → Fits s f → IsOwn c e → IsOwn c f → IsSmall e → IsSmall f
       → (r q : List ℕ) → entry_line names e ++ r ≡ entry_line names f ++ q → e ≡ f
-  unfolding verb_of actor-word
+  unfolding event_verb actor-word
   same-entry (Start job) f verbs plain fe ff oe of se sf r q e = absurd plain
   same-entry (Ready job) f verbs plain fe ff oe of se sf r q e = absurd plain
   same-entry (End job outcome offset) f verbs plain fe ff oe of se sf r q e = absurd plain
@@ -340,10 +340,10 @@ module _ (o : Opening) (guests : AreGuests o.guests) (s : State) (c : Course) (a
   same-entry (Retire g n) (Retire g2 n2) verbs plain fe ff oe of se sf r q e =
       let words = after-verb (codes "retire") (word_of o guests g ∷ decimal n ∷ []) (word_of o guests g2 ∷ decimal n2 ∷ []) r q e in
       let w = same-guest o guests g g2 (decimal n ∷ []) (decimal n2 ∷ []) r q
-      (is-guest g (λ row. (n ≡ row.done) × With row.flight IsOver) fe.1) (is-guest g2 (λ row. (n2 ≡ row.done) × With row.flight IsOver) ff.1) words in
-      let a = with-some (λ row. (n ≡ row.done) × With row.flight IsOver) (guest_at s g) fe.1 in
-      let b = with-at (λ row. (n2 ≡ row.done) × With row.flight IsOver) (guest_at s g) a.0 a.1.0
-      (subst (λ x. With (guest_at s x) (λ row. (n2 ≡ row.done) × With row.flight IsOver)) (sym w.0) ff.1) in
+      (is-guest g (λ row. (n ≡ row.done) × With row.flight IsFlightOver) fe.1) (is-guest g2 (λ row. (n2 ≡ row.done) × With row.flight IsFlightOver) ff.1) words in
+      let a = with-some (λ row. (n ≡ row.done) × With row.flight IsFlightOver) (guest_at s g) fe.1 in
+      let b = with-at (λ row. (n2 ≡ row.done) × With row.flight IsFlightOver) (guest_at s g) a.0 a.1.0
+      (subst (λ x. With (guest_at s x) (λ row. (n2 ≡ row.done) × With row.flight IsFlightOver)) (sym w.0) ff.1) in
       let number : n ≡ n2 = a.1.1.0 ∙ sym b.0 in
       let same = w.0 in
       cc
@@ -392,7 +392,7 @@ all-same o guests (x ∷ es) (f ∷ fs) s c as_many lh lk oh ok sh sk runs e =
     let plain_f = of_no_job s f lk.0 runs in
     let r = flat_map (entry_line N) es in
     let q = flat_map (entry_line N) fs in
-    let verbs : verb_of x ≡ verb_of f = sym (verb-told N x r plain) ∙ ap verb_in e ∙ verb-told N f q plain_f in
+    let verbs : event_verb x ≡ event_verb f = sym (verb-told N x r plain) ∙ ap verb_in e ∙ verb-told N f q plain_f in
     let same : x ≡ f =
     same-entry o guests s c as_many x f verbs plain lh.0 lk.0 oh.0 ok.0 (All-head IsSmall x es sh) (All-head IsSmall f fs sk) r q e in
     let rest : r ≡ q = append_cancel_left (entry_line N x) r q (e ∙ ap (λ y. entry_line N y ++ q) (sym same)) in

@@ -9,7 +9,7 @@ use Rattle.blk_graph.specs.declared.edge.Role.TheVariants.{File}
 use Rattle.blk_graph.specs.declared.kind.Kind.{Kind}
 use Rattle.blk_graph.specs.declared.kind.Kind.TheVariants.{Protocol, Raw, Qcow2, CopyOnRead, BeforeWrite, Mirror, Commit}
 use Rattle.qmp_rules.specs.declared.rows.NodeRecord.{NodeRecord}
-use Rattle.qmp_rules.specs.declared.rows.Device.{Device}
+use Rattle.qmp_rules.specs.declared.rows.DeviceRow.{DeviceRow}
 use Rattle.qmp_rules.specs.Table.{node_by_id, child}
 use Rattle.qmp_rules.specs.Chains.{disk_node}
 use Rattle.blk_history.specs.Fold.{With}
@@ -132,7 +132,7 @@ module _ (s : State) (es : List Edge) (node overlay : NodeRecord) (to : ℕ → 
   ]
 
   -- a device that may write its disk may write it where its drive leads
-  on_node : (device : Device) → MayGuestWrite s device node.id → MayGuestWrite led_state device node.id
+  on_node : (device : DeviceRow) → MayGuestWrite s device node.id → MayGuestWrite led_state device node.id
   on_node device may w =
       let found = node_found s.table es node overlay to over r h.table in
       let own = over.disk.own in
@@ -141,20 +141,20 @@ module _ (s : State) (es : List Edge) (node overlay : NodeRecord) (to : ℕ → 
       subst (IsGuestWritable led_state) (sym (own_disk led_state.table node.id node found own))
       (still_writable node.id (subst (IsGuestWritable s) (own_disk s.table node.id node found own) (may did)))
 
-  on_overlay : (device : Device) → to node.id ≡ overlay.id → MayGuestWrite led_state device overlay.id
+  on_overlay : (device : DeviceRow) → to node.id ≡ overlay.id → MayGuestWrite led_state device overlay.id
   on_overlay device over_it w =
       let found = overlay_found s.table es node overlay to over r h.table in
       let own = overlay_own s.table es node overlay to over r h.table in
       subst (IsGuestWritable led_state) (sym (own_disk led_state.table overlay.id overlay found own))
       (still_writable overlay.id (writes over_it))
 
-  elsewhere : (device : Device) (drive : ℕ) → drive ≢ node.id → MayGuestWrite s device drive → MayGuestWrite led_state device drive
+  elsewhere : (device : DeviceRow) (drive : ℕ) → drive ≢ node.id → MayGuestWrite s device drive → MayGuestWrite led_state device drive
   elsewhere device drive other may w =
       subst (IsGuestWritable led_state) (sym (disk_led s.table es node overlay to over r h.table drive other))
       (led_writable (disk_node s.table drive)
       (may (sym (writes_led s.table es node overlay to over r h.table device.read_only drive other) ∙ w)))
 
-  may_still : (device : Device) (drive : ℕ) → MayGuestWrite s device drive → MayGuestWrite led_state device (to drive)
+  may_still : (device : DeviceRow) (drive : ℕ) → MayGuestWrite s device drive → MayGuestWrite led_state device (to drive)
   may_still device drive may = elim (cases_eq drive node.id) [
     | inr other ↦ subst (MayGuestWrite led_state device) (sym (r.others drive other)) (elsewhere device drive other may)
     | inl at_it ↦ elim r.at_node [
@@ -163,7 +163,7 @@ module _ (s : State) (es : List Edge) (node overlay : NodeRecord) (to : ℕ → 
     ]
   ]
 
-  drives_still : (device : Device) (drive : Option ℕ) → With drive (MayGuestWrite s device) → With (option_map to drive) (MayGuestWrite led_state device)
+  drives_still : (device : DeviceRow) (drive : Option ℕ) → With drive (MayGuestWrite s device) → With (option_map to drive) (MayGuestWrite led_state device)
   drives_still device None may = may
   drives_still device (Some drive) may = may_still device drive may
 

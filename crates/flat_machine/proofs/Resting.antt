@@ -25,7 +25,7 @@ use Rattle.qmp_codec.specs.declared.nodes.Created.TheVariants as created
 use Rattle.qmp_rules.specs.declared.change.Change.{Change}
 use Rattle.qmp_rules.specs.declared.change.Change.TheVariants as change
 use Rattle.qmp_rules.specs.declared.rows.NodeRecord.{NodeRecord}
-use Rattle.qmp_rules.specs.declared.rows.Device.{Device}
+use Rattle.qmp_rules.specs.declared.rows.DeviceRow.{DeviceRow}
 use Rattle.qmp_rules.specs.declared.told.Told.{Told}
 use Rattle.qmp_rules.specs.Table.{RunTable, device_by_number, file_state, child, has_name}
 use Rattle.qmp_rules.specs.Chains.{filter_role, disk_node, chain, chain_from, backing, is_listed, chain_below, is_over, unsettled_over, written_under}
@@ -345,7 +345,7 @@ piece_rests s drive op outcome part h = by_op op
 -- ---- guests
 
 -- a guest whose device may write can write what it asks for
-pub guest_can : (s : State) (g : ℕ) (device : Device) (drive : ℕ) (op : Op) → StandsAtRest s → device_by_number s.table g ≡ Some device
+pub guest_can : (s : State) (g : ℕ) (device : DeviceRow) (drive : ℕ) (op : Op) → StandsAtRest s → device_by_number s.table g ≡ Some device
     → drive_of s.table g ≡ Some drive → (is_write op ≡ true → device.read_only ≡ false) → CanWrite s drive op
 guest_can s g device drive op h found is writes = by_op op writes
   where

@@ -16,7 +16,7 @@ use Rattle.blk_graph.proofs.Members.{find-Some, Contains-filter}
 use Rattle.blk_graph.proofs.CycleLemmas.{same_parent-true}
 use Rattle.blk_graph.proofs.EditLemmas.{Contains-with_edge_new}
 use Rattle.qmp_rules.specs.declared.rows.NodeRecord.{NodeRecord}
-use Rattle.qmp_rules.specs.declared.rows.Device.{Device}
+use Rattle.qmp_rules.specs.declared.rows.DeviceRow.{DeviceRow}
 use Rattle.qmp_rules.specs.declared.rows.FileState.{FileState}
 use Rattle.qmp_rules.specs.declared.rows.FileState.TheVariants.{Made, Formatted, Used}
 use Rattle.qmp_rules.specs.declared.change.Change.{Change}
@@ -343,7 +343,7 @@ table_stands s now nodes unders files contents table writing h = record {
     as_before name row (inr (inl image)) = inr (inl (state_same name ∙ image))
     as_before name row (inr (inr under)) = inr (inr (unders row.id under))
 
-device_stands : (s : State) (device : Device) (node : ℕ) → DeviceSuits s device node → Stands s → Stands (stepped s (change.AddDevice device node))
+device_stands : (s : State) (device : DeviceRow) (node : ℕ) → DeviceSuits s device node → Stands s → Stands (stepped s (change.AddDevice device node))
 unfolding changed
 device_stands s device node suits h =
     table_stands s now refl (λ file under. under-kept s now es file under) refl refl

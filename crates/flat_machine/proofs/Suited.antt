@@ -31,7 +31,7 @@ use Rattle.qmp_asks.specs.declared.ask.Drivers.TheVariants as drivers
 use Rattle.qmp_rules.specs.declared.change.Change.{Change}
 use Rattle.qmp_rules.specs.declared.change.Change.TheVariants as change
 use Rattle.qmp_rules.specs.declared.rows.NodeRecord.{NodeRecord}
-use Rattle.qmp_rules.specs.declared.rows.Device.{Device}
+use Rattle.qmp_rules.specs.declared.rows.DeviceRow.{DeviceRow}
 use Rattle.qmp_rules.specs.declared.rows.FileState.{FileState}
 use Rattle.qmp_rules.specs.declared.rows.FileState.TheVariants.{Used}
 use Rattle.qmp_rules.specs.declared.told.Told.{Told}
@@ -306,8 +306,8 @@ place-same k a b (other ∷ names) place is_a is_b =
         let same : k ≡ place = cc in let less = above_a is_a in absurd (omega arith)
     by_tests false e false f is_a is_b rest above_a above_b = rest is_a is_b
 
-numbers : List Device → List ℕ
-numbers devices = map (λ (d : Device). d.number) devices
+numbers : List DeviceRow → List ℕ
+numbers devices = map (λ (d : DeviceRow). d.number) devices
 
 eqb-turned : (a b : ℕ) → (a == b) ≡ nat_eq b a
 eqb-turned a b = by_test (nat_eq b a) refl
@@ -316,19 +316,19 @@ eqb-turned a b = by_test (nat_eq b a) refl
     by_test true e = eq-eqb a b (sym (eqb-true b a e))
     by_test false e = ne_eqb a b (λ same. let yes : nat_eq b a ≡ true = eq-eqb b a (sym same) in cc)
 
-any-number : (k : ℕ) (devices : List Device) → list_any (λ d. d.number == k) devices ≡ list_any (nat_eq k) (numbers devices)
+any-number : (k : ℕ) (devices : List DeviceRow) → list_any (λ d. d.number == k) devices ≡ list_any (nat_eq k) (numbers devices)
 unfolding numbers
 any-number k [] = refl
 any-number k (d ∷ devices) = ap (λ b. b || list_any (λ x. x.number == k) devices) (eqb-turned d.number k) ∙ ap (λ b. nat_eq k d.number || b) (any-number k devices)
 
-unused-lowest : (more k : ℕ) (devices : List Device) → unused_from more k devices ≡ lowest_from more k (numbers devices)
+unused-lowest : (more k : ℕ) (devices : List DeviceRow) → unused_from more k devices ≡ lowest_from more k (numbers devices)
 unused-lowest zero k devices = refl
 unused-lowest (suc more) k devices =
     ap (λ b. cond b (unused_from more (k + 1) devices) k) (any-number k devices)
     ∙ ap (λ n. cond (list_any (nat_eq k) (numbers devices)) n k) (unused-lowest more (k + 1) devices)
 
 -- of so many numbers from one on, not all are those of fewer devices
-unused-free : (k : ℕ) (devices : List Device) → length devices < 64
+unused-free : (k : ℕ) (devices : List DeviceRow) → length devices < 64
     → list_any (λ d. d.number == unused_from 64 k devices) devices ≡ false
 unfolding numbers
 unused-free k devices few =
@@ -362,20 +362,20 @@ fresh_number t told id h fresh room = by_place (place_from 0 id t.guests) refl
         le-false : (n : ℕ) → nat_le 64 n ≡ false → n < 64
         le-false n h = omega (arith, leb-false 64 n h)
 
-    no_device : (number : ℕ) → ((d : Device) → Contains t.devices d → d.number ≡ number → ⊥) → device_by_number t number ≡ None
+    no_device : (number : ℕ) → ((d : DeviceRow) → Contains t.devices d → d.number ≡ number → ⊥) → device_by_number t number ≡ None
     no_device number none = by_found (device_by_number t number) refl
       where
-        by_found : (found : Option Device) → device_by_number t number ≡ found → found ≡ None
+        by_found : (found : Option DeviceRow) → device_by_number t number ≡ found → found ≡ None
         by_found None e = refl
         by_found (Some d) e =
             let here = find-Some (λ x. x.number == number) t.devices d e in
             absurd (none d here.0 (eqb-true d.number number here.1))
 
-    other_id : (d : Device) → Contains t.devices d → d.id ≡ id → ⊥
+    other_id : (d : DeviceRow) → Contains t.devices d → d.id ≡ id → ⊥
     other_id d there same =
         by_found (device_named t id) refl (not-refused _ _ fresh)
       where
-        by_found : (found : Option Device) → device_named t id ≡ found → is_some found ≡ false → ⊥
+        by_found : (found : Option DeviceRow) → device_named t id ≡ found → is_some found ≡ false → ⊥
         by_found None e k = no-found (λ x. bytes_eq x.id id) t.devices d e there (subst (λ n. bytes_eq n id ≡ true) (sym same) (bytes_eq-same id))
         by_found (Some x) e k = cc
 
@@ -383,7 +383,7 @@ fresh_number t told id h fresh room = by_place (place_from 0 id t.guests) refl
         → device_by_number t (unwrap_or place (unused_from 64 (length t.guests) t.devices)) ≡ None
     by_place (Some guest) e = no_device guest (λ d there is. of_device d there is (place_from 0 d.id t.guests) refl (h.numbers d there))
       where
-        of_device : (d : Device) → Contains t.devices d → d.number ≡ guest → (place : Option ℕ) → place_from 0 d.id t.guests ≡ place
+        of_device : (d : DeviceRow) → Contains t.devices d → d.number ≡ guest → (place : Option ℕ) → place_from 0 d.id t.guests ≡ place
             → IsNumberBy (length t.guests) d.number place → ⊥
         of_device d there is None f above = let below = place-below 0 id t.guests guest e in omega arith
         of_device d there is (Some other) f same =
@@ -392,7 +392,7 @@ fresh_number t told id h fresh room = by_place (place_from 0 id t.guests) refl
         no_device (unused_from 64 (length t.guests) t.devices)
         (λ d there is. none_has d there (unused-free (length t.guests) t.devices few) is)
       where
-        none_has : (d : Device) → Contains t.devices d → list_any (λ x. x.number == unused_from 64 (length t.guests) t.devices) t.devices ≡ false
+        none_has : (d : DeviceRow) → Contains t.devices d → list_any (λ x. x.number == unused_from 64 (length t.guests) t.devices) t.devices ≡ false
             → d.number ≡ unused_from 64 (length t.guests) t.devices → ⊥
         none_has d there none is =
             let yes = list_any-there (λ x. x.number == unused_from 64 (length t.guests) t.devices) t.devices d there
@@ -599,7 +599,7 @@ del_suits s told name h asks = by_row (found-named s.table told name asks.1.0)
         let there = (named-row s.table told h.stands.table name row named.1).0 in
         rw named.1 (by_use row there (no_edge row.id s.table.edges (lone-node s.table told name row named.1 asks.1.1.1.0)) (file_under s.table row) refl)
 
-device_gone_suits : (s : State) (found : Option Device)
+device_gone_suits : (s : State) (found : Option DeviceRow)
     → AllSuit s (elim found as (λ _. List Change) [ None ↦ [] | Some device ↦ change.RemoveDevice device.number ∷ [] ])
 device_gone_suits s None = tt
 device_gone_suits s (Some device) = (tt, tt)

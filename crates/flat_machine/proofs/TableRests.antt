@@ -27,7 +27,7 @@ use Rattle.qmp_codec.specs.declared.nodes.DeviceAdd.{DeviceAdd}
 use Rattle.qmp_rules.specs.declared.change.Change.{Change}
 use Rattle.qmp_rules.specs.declared.change.Change.TheVariants as change
 use Rattle.qmp_rules.specs.declared.rows.NodeRecord.{NodeRecord}
-use Rattle.qmp_rules.specs.declared.rows.Device.{Device}
+use Rattle.qmp_rules.specs.declared.rows.DeviceRow.{DeviceRow}
 use Rattle.qmp_rules.specs.declared.told.Told.{Told}
 use Rattle.qmp_rules.specs.Table.{RunTable, device_named, node_by_id, node_named, id_named, child, kinds_of}
 use Rattle.qmp_rules.specs.Changes.{changed, all_changed, node_changed, unsettled, lost_with, with_unsettled, without_record, with_format_edges}
@@ -45,7 +45,7 @@ use Rattle.flat_machine.proofs.OwnNames.{goes-named}
 use Rattle.flat_machine.proofs.Tables.{HasLike, pushed-new, refreshed-new, with_edge-keeps}
 use Rattle.flat_machine.proofs.Rows.{SameRows, rows-same, rows-mapped, like_lost, like_unsettled, like_over}
 use Rattle.flat_machine.proofs.Wired.{OldRow, Grows, NoRow, NoEdge, at_with, with_at}
-use Rattle.flat_machine.proofs.TablesKept.{IsOther, rows_grow, rows_table, file_grow, file_table, IsNewEdge, format_grow, format_table, is_under, IsFilterEdge, filter_grow, filter_table, removed_grow, removed_table, IsDriveEdge, device_grow, device_table}
+use Rattle.flat_machine.proofs.TablesKept.{IsOther, rows_grow, rows_table, file_grow, file_table, IsNewEdge, format_grow, format_table, is_under, IsNewFilterEdge, filter_grow, filter_table, removed_grow, removed_table, IsDriveEdge, device_grow, device_table}
 use Rattle.flat_machine.proofs.DevicesGone.{gone_grow, gone_table}
 use Rattle.flat_machine.proofs.Asked.{none-both, NoneHolds, none-holds, found-named, lone-node}
 use Rattle.flat_machine.proofs.Accepted.{no_edge}
@@ -203,7 +203,7 @@ inline_keeps Q t (change.AddFormat row file backing) made suits h inline =
 inline_keeps Q t (change.AddFilter row child) made suits h inline =
     let now : RunTable = changed t (change.AddFilter row child) in
     let kinds : List NodeKind = kinds_of (t.nodes ++ row ∷ []) in
-    inline_stays t now (λ r. r ≡ row) (IsFilterEdge t now row child suits refl kinds refl h)
+    inline_stays t now (λ r. r ≡ row) (IsNewFilterEdge t now row child suits refl kinds refl h)
     (filter_grow t now row child suits refl kinds refl h) Q h
     (λ r over is with. absurd (let none = ap (λ x. x.made_with) is ∙ made in cc)) inline
 inline_keeps Q t (change.AddDevice device node) made suits h inline =
@@ -329,18 +329,18 @@ abbrev pub inline_change : Option NodeRecord → List Change
 inline_change found = elim found as (λ _. List Change) [ None ↦ [] | Some row ↦ change.RemoveNode row.id ∷ [] ]
 
 module _ (t : RunTable) (row : NodeRecord) (row_there : Contains t.nodes row) (alone : IsAlone t row.id) (h : TableStands t) (inline : InlineAreUnder t) where
-  abbrev pub without : RunTable
-  without = changed t (change.RemoveNode row.id)
+  abbrev pub table_without : RunTable
+  table_without = changed t (change.RemoveNode row.id)
 
   abbrev kinds_left : List NodeKind
   kinds_left = kinds_of (without_record row.id t.nodes)
 
-  without_stands : TableStands without
+  without_stands : TableStands table_without
   without_stands = table_keeps t (change.RemoveNode row.id) alone h
 
-  pub without_grow : Grows t without (IsOther t row.id) NoRow NoEdge
+  pub without_grow : Grows t table_without (IsOther t row.id) NoRow NoEdge
   unfolding changed
-  without_grow = removed_grow t without row.id alone refl kinds_left refl h
+  without_grow = removed_grow t table_without row.id alone refl kinds_left refl h
 
   -- a `file` node that was made with it is under it alone
   pub inline-file : (file : NodeRecord) → Contains t.nodes file → file.made_with ≡ Some row.id → LeadsToFile t row file
@@ -348,7 +348,7 @@ module _ (t : RunTable) (row : NodeRecord) (row_there : Contains t.nodes row) (a
       let k = inline file row.id there is in
       record { over_there = row_there; under_there = there; edge = k.edge; there = k.there; parent = k.parent; role = k.role; child = k.child }
 
-  pub inline-left : (file : NodeRecord) → Contains t.nodes file → file.made_with ≡ Some row.id → IsAlone without file.id
+  pub inline-left : (file : NodeRecord) → Contains t.nodes file → file.made_with ≡ Some row.id → IsAlone table_without file.id
   inline-left file there is e e_there to = elim (without_grow.edges e e_there) [
     | inl old ↦
         let taken = h.taken row file (inline-file file there is) (inline file row.id there is).file in
@@ -372,8 +372,8 @@ module _ (t : RunTable) (row : NodeRecord) (row_there : Contains t.nodes row) (a
       sym f.child ∙ same ∙ k.child
 
   -- all other nodes that were made with one are under that
-  without_inline : (Q : ℕ → Type 0) → ((file : NodeRecord) → Contains t.nodes file → file.made_with ≡ Some row.id → Q file.id) → InlineBut without Q
-  without_inline Q those = inline_grown t without (IsOther t row.id) NoRow NoEdge without_grow Q
+  without_inline : (Q : ℕ → Type 0) → ((file : NodeRecord) → Contains t.nodes file → file.made_with ≡ Some row.id → Q file.id) → InlineBut table_without Q
+  without_inline Q those = inline_grown t table_without (IsOther t row.id) NoRow NoEdge without_grow Q
       (λ r over never. absurd never)
       (λ r over there kept is other. (
         over-there t h r over (inline r over there is),
@@ -381,29 +381,29 @@ module _ (t : RunTable) (row : NodeRecord) (row_there : Contains t.nodes row) (a
       ))
       (λ r over there kept is other. inline r over there is)
 
-  last : (file : NodeRecord) → Contains t.nodes file → file.made_with ≡ Some row.id → (left : IsAlone without file.id)
-      → InlineAreUnder (changed without (change.RemoveNode file.id))
+  last : (file : NodeRecord) → Contains t.nodes file → file.made_with ≡ Some row.id → (left : IsAlone table_without file.id)
+      → InlineAreUnder (changed table_without (change.RemoveNode file.id))
   unfolding changed
   last file there with left r over r_there is =
-      inline_grown without now (IsOther without file.id) NoRow NoEdge grow (λ id. ⊥)
+      inline_grown table_without now (IsOther table_without file.id) NoRow NoEdge grow (λ id. ⊥)
       (λ x o never. absurd never)
       (λ x o x_there kept x_is other.
       let k = but x o x_there x_is kept.1 in
-      (over-there without without_stands x o k, λ same. no_parent k same))
+      (over-there table_without without_stands x o k, λ same. no_parent k same))
       (λ x o x_there kept x_is other. but x o x_there x_is kept.1)
       r over r_there is (λ never. never)
     where
       now : RunTable
-      now = changed without (change.RemoveNode file.id)
+      now = changed table_without (change.RemoveNode file.id)
 
-      grow : Grows without now (IsOther without file.id) NoRow NoEdge
-      grow = removed_grow without now file.id left refl (kinds_of (without_record file.id without.nodes)) refl without_stands
+      grow : Grows table_without now (IsOther table_without file.id) NoRow NoEdge
+      grow = removed_grow table_without now file.id left refl (kinds_of (without_record file.id table_without.nodes)) refl without_stands
 
-      but : InlineBut without (λ id. id ≡ file.id)
+      but : InlineBut table_without (λ id. id ≡ file.id)
       but = without_inline (λ id. id ≡ file.id) (λ x x_there x_is. one-inline x file x_there there x_is with)
 
       -- a `file` node leads to no other
-      no_parent : {x : NodeRecord} {o : ℕ} → IsInline without x o → o ≡ file.id → ⊥
+      no_parent : {x : NodeRecord} {o : ℕ} → IsInline table_without x o → o ≡ file.id → ⊥
       no_parent {x} {o} k same =
           by_name file.filename refl (inline file row.id there with).file
         where
@@ -419,7 +419,7 @@ module _ (t : RunTable) (row : NodeRecord) (row_there : Contains t.nodes row) (a
           ]
 
   gone_rests : (found : Option NodeRecord) → find (goes_with_node row.id) t.nodes ≡ found
-      → AllTableSuit without (inline_change found) × TableAtRest (all_changed without (inline_change found))
+      → AllTableSuit table_without (inline_change found) × TableAtRest (all_changed table_without (inline_change found))
   gone_rests None none = (
     tt,
     record {
@@ -436,7 +436,7 @@ module _ (t : RunTable) (row : NodeRecord) (row_there : Contains t.nodes row) (a
       let left = inline-left file here.0 with in (
         (left, tt),
         record {
-          stands = table_keeps without (change.RemoveNode file.id) left without_stands;
+          stands = table_keeps table_without (change.RemoveNode file.id) left without_stands;
           inline = last file here.0 with left;
         },
       )
@@ -531,7 +531,7 @@ device_rests t told c asks h =
     made None = tt
     made (Some row) = made-append (device_uses row) (change.AddDevice (new_device t c row) row.id ∷ []) (made_if row (is_file row)) (tt, tt)
 
-device_gone_rests : (t : RunTable) (found : Option Device) → TableAtRest t
+device_gone_rests : (t : RunTable) (found : Option DeviceRow) → TableAtRest t
     → BothRest t (elim found as (λ _. List Change) [ None ↦ [] | Some device ↦ change.RemoveDevice device.number ∷ [] ])
 device_gone_rests t None h = (tt, h)
 device_gone_rests t (Some device) h = both_rest t (change.RemoveDevice device.number ∷ []) (tt, tt) (tt, tt) h

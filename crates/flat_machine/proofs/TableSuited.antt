@@ -21,7 +21,7 @@ use Rattle.qmp_asks.specs.declared.ask.Ask.TheVariants as ask
 use Rattle.qmp_asks.specs.declared.ask.Drivers.TheVariants as drivers
 use Rattle.qmp_rules.specs.declared.change.Change.TheVariants as change
 use Rattle.qmp_rules.specs.declared.rows.NodeRecord.{NodeRecord}
-use Rattle.qmp_rules.specs.declared.rows.Device.{Device}
+use Rattle.qmp_rules.specs.declared.rows.DeviceRow.{DeviceRow}
 use Rattle.qmp_rules.specs.declared.told.Told.{Told}
 use Rattle.qmp_rules.specs.Table.{RunTable, node_by_id, node_named, id_named, kinds_of}
 use Rattle.qmp_rules.specs.Chains.{filter_role, is_settled}
@@ -345,24 +345,24 @@ module _ (t : RunTable) (told : Told) (h : TableStands t) where
 
   -- beside a node that was added
   module _ (row : NodeRecord) (id_is : row.id ≡ free_id t) (room : length t.nodes + 1 ≤ 64) where
-    abbrev pub with_node : RunTable
-    with_node = changed t (change.AddFile row)
+    abbrev pub with_file_added : RunTable
+    with_file_added = changed t (change.AddFile row)
 
-    pub inline-found : node_by_id with_node (free_id t) ≡ Some row
+    pub inline-found : node_by_id with_file_added (free_id t) ≡ Some row
     unfolding changed
     inline-found = found-new (λ r. r.id == free_id t) t.nodes row (free_fresh t room) (eq-eqb row.id (free_id t) id_is)
 
-    inline-alone : IsAlone with_node (free_id t)
+    inline-alone : IsAlone with_file_added (free_id t)
     unfolding changed
     inline-alone e there is =
         let old = refreshed-old (kinds_of (t.nodes ++ row ∷ [])) t.edges e there in
         not-there t (free_id t) (free_fresh t room) (subst (IsThere t) (old.same.child ∙ is) (h.edges old.edge old.there).child)
 
-    there-with : (r : NodeRecord) → Contains t.nodes r → node_by_id with_node r.id ≡ Some r
+    there-with : (r : NodeRecord) → Contains t.nodes r → node_by_id with_file_added r.id ≡ Some r
     unfolding changed
     there-with r there = found-longer (λ x. x.id == r.id) t.nodes row r (h.apart r there)
 
-    free-with : (r : NodeRecord) → Contains t.nodes r → IsUnderNoFormat t r.id → IsUnderNoFormat with_node r.id
+    free-with : (r : NodeRecord) → Contains t.nodes r → IsUnderNoFormat t r.id → IsUnderNoFormat with_file_added r.id
     unfolding changed
     free-with r there free other found some under =
         let at_row = there-with r there in
@@ -371,16 +371,16 @@ module _ (t : RunTable) (told : Told) (h : TableStands t) where
         (under-before (kinds_of (t.nodes ++ row ∷ [])) t.edges r.id under)
 
     backing-with : (new : NodeRecord) → has_role new.kind Backing ≡ true → (back : Option (List ℕ)) (node : ℕ) → NamedBacking back node
-        → SuitsBacking with_node new (free_id t) node
+        → SuitsBacking with_file_added new (free_id t) node
     backing-with new role back node b =
-        let found = subst (λ n. node_by_id with_node n ≡ Some b.row) b.id_is (there-with b.row b.there) in
+        let found = subst (λ n. node_by_id with_file_added n ≡ Some b.row) b.id_is (there-with b.row b.there) in
         record {
           role = role;
           there = subst IsSome (sym found) refl;
           other = λ same.
               not-there t (free_id t) (free_fresh t room) (subst (IsThere t) (b.id_is ∙ same) (subst IsSome (sym (h.apart b.row b.there)) refl));
-          free = subst (IsUnderNoFormat with_node) b.id_is (free-with b.row b.there (subst (IsUnderNoFormat t) (sym b.id_is) b.free));
-          plain = plain-row with_node b.row node b.own found;
+          free = subst (IsUnderNoFormat with_file_added) b.id_is (free-with b.row b.there (subst (IsUnderNoFormat t) (sym b.id_is) b.free));
+          plain = plain-row with_file_added b.row node b.own found;
         }
 
   writes-with : (ro_file read_only : Bool) → (not ro_file || read_only) ≡ true → read_only ≡ false → ro_file ≡ false
@@ -487,7 +487,7 @@ module _ (t : RunTable) (told : Told) (h : TableStands t) where
 
   -- ---- devices
 
-  unused-above : (more k : ℕ) (devices : List Device) → k ≤ unused_from more k devices
+  unused-above : (more k : ℕ) (devices : List DeviceRow) → k ≤ unused_from more k devices
   unused-above zero k devices = omega arith
   unused-above (suc more) k devices = by_test (list_any (λ device. device.number == k) devices) (unused-above more (k + 1) devices)
     where

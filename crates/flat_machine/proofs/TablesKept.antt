@@ -21,7 +21,7 @@ use Rattle.blk_graph.proofs.RoleLemmas.{takes_place-role}
 use Rattle.blk_graph.proofs.ChildLemmas.{child-edge, child-new, child-kept, child-without}
 use Rattle.blk_graph.proofs.RefreshLemmas.{child_of-refreshed}
 use Rattle.qmp_rules.specs.declared.rows.NodeRecord.{NodeRecord}
-use Rattle.qmp_rules.specs.declared.rows.Device.{Device}
+use Rattle.qmp_rules.specs.declared.rows.DeviceRow.{DeviceRow}
 use Rattle.qmp_rules.specs.Table.{RunTable, node_by_id, child}
 use Rattle.qmp_rules.specs.Chains.{filter_role, filtered, disk_from, disk_node}
 use Rattle.qmp_rules.specs.Changes.{node_changed, unsettled, with_unsettled, without_record, with_backing_edge, with_format_edges, device_edge}
@@ -533,52 +533,52 @@ over_own t node below over own = from_two 62 over own
 module _ (t now : RunTable) (row : NodeRecord) (child : ℕ) (suits : SuitsFilter t row child)
     (nodes : now.nodes ≡ t.nodes ++ row ∷ []) (kinds : List NodeKind)
     (derived : now.edges ≡ refreshed kinds (with_edge (node_edge row.id File child) t.edges)) (h : TableStands t) where
-  abbrev pub filter_edge : Edge
-  filter_edge = node_edge row.id File child
+  abbrev pub new_filter_edge : Edge
+  new_filter_edge = node_edge row.id File child
 
-  abbrev pub IsFilterEdge : Edge → Type 0
-  IsFilterEdge e = IsSameEdge filter_edge e
+  abbrev pub IsNewFilterEdge : Edge → Type 0
+  IsNewFilterEdge e = IsSameEdge new_filter_edge e
 
-  apart_from : (e : Edge) → Contains t.edges e → e.parent ≢ filter_edge.parent
+  apart_from : (e : Edge) → Contains t.edges e → e.parent ≢ new_filter_edge.parent
   apart_from e there same = new_parent t row.id h.edges suits.fresh e there (sym same)
 
-  abbrev filter_adds : Adds t t now row IsFilterEdge
+  abbrev filter_adds : Adds t t now row IsNewFilterEdge
   filter_adds = record {
     rows = rows-same t t refl h.apart;
     nodes = nodes;
     fresh = suits.fresh;
     kinds = kinds;
-    before = with_edge filter_edge t.edges;
+    before = with_edge new_filter_edge t.edges;
     derived = derived;
-    cases = λ e there. elim (Contains-with_edge filter_edge t.edges e there) [
-      | inl is ↦ inl (subst (IsSameEdge filter_edge) (sym is) (same-edge filter_edge))
+    cases = λ e there. elim (Contains-with_edge new_filter_edge t.edges e there) [
+      | inl is ↦ inl (subst (IsSameEdge new_filter_edge) (sym is) (same-edge new_filter_edge))
       | inr old ↦ inr old
     ];
-    like = λ a b same is_new. like-then filter_edge a b is_new same;
-    keeps = λ e there apart. with_edge-keeps filter_edge t.edges e (apart-parents filter_edge e apart) there;
-    children = λ node role apart. child-kept (Node node) role filter_edge t.edges apart;
+    like = λ a b same is_new. like-then new_filter_edge a b is_new same;
+    keeps = λ e there apart. with_edge-keeps new_filter_edge t.edges e (apart-parents new_filter_edge e apart) there;
+    children = λ node role apart. child-kept (Node node) role new_filter_edge t.edges apart;
   }
 
-  pub filter_grow : Grows t now (IsThere t) (λ r. r ≡ row) IsFilterEdge
-  filter_grow = adds_grow t t now row IsFilterEdge filter_adds h
+  pub filter_grow : Grows t now (IsThere t) (λ r. r ≡ row) IsNewFilterEdge
+  filter_grow = adds_grow t t now row IsNewFilterEdge filter_adds h
 
   filter_found : node_by_id now row.id ≡ Some row
-  filter_found = new_found t t now row IsFilterEdge filter_adds h
+  filter_found = new_found t t now row IsNewFilterEdge filter_adds h
 
   is_filter : (over : NodeRecord) → Contains now.nodes over → row.id ≡ over.id → over ≡ row
   is_filter over there same =
-      row_now t t now row IsFilterEdge filter_adds h over row there (find-Some (λ r. r.id == row.id) now.nodes row filter_found).0 (sym same)
+      row_now t t now row IsNewFilterEdge filter_adds h over row there (find-Some (λ r. r.id == row.id) now.nodes row filter_found).0 (sym same)
 
   child_found : node_by_id now child ≡ Some suits.under
-  child_found = later_found t t now row IsFilterEdge filter_adds h child suits.under suits.found
+  child_found = later_found t t now row IsNewFilterEdge filter_adds h child suits.under suits.found
 
   pub is_child : (under : NodeRecord) → Contains now.nodes under → child ≡ under.id → under ≡ suits.under
   is_child under there same =
       let here = find-Some (λ r. r.id == child) now.nodes suits.under child_found in
-      row_now t t now row IsFilterEdge filter_adds h under suits.under there here.0 (sym same ∙ sym (eqb-true suits.under.id child here.1))
+      row_now t t now row IsNewFilterEdge filter_adds h under suits.under there here.0 (sym same ∙ sym (eqb-true suits.under.id child here.1))
 
-  own_file : IsFileOf now filter_edge row.id
-  own_file = one_file t t now row IsFilterEdge filter_adds h [] filter_edge (child-new filter_edge t.edges apart_from) refl
+  own_file : IsFileOf now new_filter_edge row.id
+  own_file = one_file t t now row IsNewFilterEdge filter_adds h [] new_filter_edge (child-new new_filter_edge t.edges apart_from) refl
 
   filter_reads : With (node_by_id now (disk_node now row.id)) (IsDiskOf now row)
   filter_reads =
@@ -603,10 +603,10 @@ module _ (t now : RunTable) (row : NodeRecord) (child : ℕ) (suits : SuitsFilte
     reads = λ r is. subst (λ x. With (node_by_id now (disk_node now x.id)) (IsDiskOf now x)) (sym is) filter_reads;
   }
 
-  over_is : (e : Edge) (node : ℕ) → IsFilterEdge e → e.parent ≡ Node node → row.id ≡ node
+  over_is : (e : Edge) (node : ℕ) → IsNewFilterEdge e → e.parent ≡ Node node → row.id ≡ node
   over_is e node is_new from = let own = is_new.parent in cc
 
-  filter_new_edges : NewEdges t now IsFilterEdge
+  filter_new_edges : NewEdges t now IsNewFilterEdge
   filter_new_edges = record {
     ends = λ e is_new. record {
       parent = λ node is. subst (IsThere now) (over_is e node is_new is) (subst IsSome (sym filter_found) refl);
@@ -635,7 +635,7 @@ module _ (t now : RunTable) (row : NodeRecord) (child : ℕ) (suits : SuitsFilte
 
   pub filter_table : now.guests ≡ t.guests → now.devices ≡ t.devices → TableStands now
   filter_table guests devices =
-      grown_stands t now (IsThere t) (λ r. r ≡ row) IsFilterEdge filter_grow filter_rows filter_new_edges h
+      grown_stands t now (IsThere t) (λ r. r ≡ row) IsNewFilterEdge filter_grow filter_rows filter_new_edges h
       (same_numbers t now guests devices h.numbers)
 
 -- ---- a node that goes
@@ -726,7 +726,7 @@ module _ (t now : RunTable) (node : ℕ) (alone : IsAlone t node) (nodes : now.n
 
 -- ---- a device
 
-module _ (t now : RunTable) (device : Device) (node : ℕ) (suits : SuitsDevice t device node) (nodes : now.nodes ≡ t.nodes)
+module _ (t now : RunTable) (device : DeviceRow) (node : ℕ) (suits : SuitsDevice t device node) (nodes : now.nodes ≡ t.nodes)
     (kinds : List NodeKind) (derived : now.edges ≡ refreshed kinds (with_edge (device_edge device node) t.edges)) (h : TableStands t) where
   abbrev pub drive : Edge
   drive = device_edge device node

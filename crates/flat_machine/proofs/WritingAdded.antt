@@ -21,7 +21,7 @@ use Rattle.blk_graph.proofs.RefreshLemmas.{child_of-refreshed}
 use Rattle.blk_graph.proofs.Members.{find-Some}
 use Rattle.qmp_rules.specs.declared.change.Change.TheVariants as change
 use Rattle.qmp_rules.specs.declared.rows.NodeRecord.{NodeRecord}
-use Rattle.qmp_rules.specs.declared.rows.Device.{Device}
+use Rattle.qmp_rules.specs.declared.rows.DeviceRow.{DeviceRow}
 use Rattle.qmp_rules.specs.declared.rows.FileState.TheVariants.{Used}
 use Rattle.qmp_rules.specs.Table.{RunTable, node_by_id, child, device_by_number, file_state, has_name, kinds_of}
 use Rattle.qmp_rules.specs.Chains.{filter_role}
@@ -37,7 +37,7 @@ use Rattle.flat_machine.specs.Suiting.{IsThere, FileSuits, FormatSuits, SuitsFil
 use Rattle.flat_machine.proofs.Finds.{find-filter, find-push, bytes_eq-same, cases_name, content_in-with, content_in-with_other}
 use Rattle.flat_machine.proofs.Kept.{with_format, left_alone}
 use Rattle.flat_machine.proofs.Wired.{OldEdge, Grows, NoRow, NoEdge}
-use Rattle.flat_machine.proofs.TablesKept.{IsOther, file_grow, IsNewEdge, format_grow, is_under, of_file, IsFilterEdge, filter_grow, is_child, kept_row, removed_grow, IsDriveEdge, device_grow}
+use Rattle.flat_machine.proofs.TablesKept.{IsOther, file_grow, IsNewEdge, format_grow, is_under, of_file, IsNewFilterEdge, filter_grow, is_child, kept_row, removed_grow, IsDriveEdge, device_grow}
 use Rattle.flat_machine.proofs.WritingKept.{role_edge, IsEntered, WritesFileUnder, writes_file, may_still, grown_writing, left_still}
 
 -- ---- names, bytes and drives
@@ -109,7 +109,7 @@ drive_there t ends g node is = let e = role_edge (Guest g) Drive t.edges node is
 
 -- devices that stay, with their drives
 pub same_devices : (s now : State) → now.table.devices ≡ s.table.devices → ((g : ℕ) → drive_of now.table g ≡ drive_of s.table g)
-    → (number : ℕ) (device : Device) → device_by_number now.table number ≡ Some device
+    → (number : ℕ) (device : DeviceRow) → device_by_number now.table number ≡ Some device
     → ((device_by_number s.table number ≡ Some device) × (drive_of now.table number ≡ drive_of s.table number))
     ⊎ With (drive_of now.table number) (MayGuestWrite now device)
 same_devices s now devices drives number device found =
@@ -320,7 +320,7 @@ filter_writing s row child suits h =
     kinds = kinds_of (s.table.nodes ++ row ∷ [])
 
     New : Edge → Type 0
-    New = IsFilterEdge s.table now.table row child suits refl kinds refl h.table
+    New = IsNewFilterEdge s.table now.table row child suits refl kinds refl h.table
 
     grow : Grows s.table now.table (IsThere s.table) (λ r. r ≡ row) New
     grow = filter_grow s.table now.table row child suits refl kinds refl h.table
@@ -554,7 +554,7 @@ with_edge-child new edges single = ap (option_map (λ (e : Edge). e.child)) (fou
         by_place false e true f rest = let taken = takes old f in absurd cc
         by_place false e false f rest = rw f rest
 
-pub device_writing : (s : State) (device : Device) (node : ℕ) → DeviceSuits s device node → Stands s
+pub device_writing : (s : State) (device : DeviceRow) (node : ℕ) → DeviceSuits s device node → Stands s
     → WritingStands (stepped s (change.AddDevice device node))
 unfolding changed
 device_writing s device node suits h =
@@ -596,7 +596,7 @@ device_writing s device node suits h =
     drive_now : (g : ℕ) → drive_of now.table g ≡ child_of (Guest g) Drive (with_edge (device_edge device node) s.table.edges)
     drive_now g = child_of-refreshed kinds (Guest g) Drive (with_edge (device_edge device node) s.table.edges)
 
-    by_other : (number : ℕ) (other : Device) → device_by_number s.table number ≡ Some other → drive_of now.table number ≡ drive_of s.table number
+    by_other : (number : ℕ) (other : DeviceRow) → device_by_number s.table number ≡ Some other → drive_of now.table number ≡ drive_of s.table number
     by_other number other was =
         drive_now number
         ∙ child-kept (Guest number) Drive (device_edge device node) s.table.edges (λ same. (

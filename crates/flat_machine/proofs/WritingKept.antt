@@ -16,7 +16,7 @@ use Rattle.blk_graph.specs.Edits.{is_edge, child_of}
 use Rattle.blk_graph.proofs.CycleLemmas.{and-left, and-right, same_parent-true}
 use Rattle.blk_graph.proofs.RoleLemmas.{same_role-true}
 use Rattle.qmp_rules.specs.declared.rows.NodeRecord.{NodeRecord}
-use Rattle.qmp_rules.specs.declared.rows.Device.{Device}
+use Rattle.qmp_rules.specs.declared.rows.DeviceRow.{DeviceRow}
 use Rattle.qmp_rules.specs.declared.rows.FileState.TheVariants.{Used}
 use Rattle.qmp_rules.specs.Table.{RunTable, node_by_id, child, device_by_number, file_state, has_name}
 use Rattle.qmp_rules.specs.Chains.{filter_role, filtered, disk_node}
@@ -212,7 +212,7 @@ module _ (s now : State) (P : ℕ → Type 0) (IsNewRow : NodeRecord → Type 0)
       of_file : (name : List ℕ) → written_file now.table node ≡ Some name → WritesFileUnder s.table node name
       of_file name is = writes_file s.table node name (sym (file_same node here) ∙ is)
 
-  pub may_still : (device : Device) (drive : ℕ) → P drive → LeavesFile (disk_node s.table drive) → MayGuestWrite s device drive
+  pub may_still : (device : DeviceRow) (drive : ℕ) → P drive → LeavesFile (disk_node s.table drive) → MayGuestWrite s device drive
       → MayGuestWrite now device drive
   may_still device drive here leaves may writes =
       let disk = same_disk s.table now.table P IsNewRow IsNewEdge g drive here in
@@ -223,7 +223,7 @@ module _ (s now : State) (P : ℕ → Type 0) (IsNewRow : NodeRecord → Type 0)
 
   -- ---- all of it
 
-  pub record Leaves : Type 0 where
+  pub record KeepsWritable : Type 0 where
     -- what was named stays named, and what is new is
     pub names : (name : List ℕ) → has_name name s.named ≡ true → has_name name now.named ≡ true
     pub names_new : (name : List ℕ) (row : NodeRecord) → IsNewRow row → row.filename ≡ Some name → row.read_only ≡ false
@@ -244,12 +244,12 @@ module _ (s now : State) (P : ℕ → Type 0) (IsNewRow : NodeRecord → Type 0)
     pub emptied : (node : ℕ) (name : List ℕ) → P node → IsEntered s.table node → WritesFileUnder s.table node name
         → All (λ l. l.file ≢ name) s.left → All (λ l. l.file ≢ name) now.left
     -- a device was there, with its drive, or it may write as it does
-    pub devices : (number : ℕ) (device : Device) → device_by_number now.table number ≡ Some device
+    pub devices : (number : ℕ) (device : DeviceRow) → device_by_number now.table number ≡ Some device
         → ((device_by_number s.table number ≡ Some device) × (drive_of now.table number ≡ drive_of s.table number))
         ⊎ With (drive_of now.table number) (MayGuestWrite now device)
     pub drives : (number drive : ℕ) → drive_of s.table number ≡ Some drive → P drive
 
-  drive_still : Leaves → HaveDistinctIds s.table → (device : Device) (number : ℕ) (found : Option ℕ) → drive_of s.table number ≡ found
+  drive_still : KeepsWritable → HaveDistinctIds s.table → (device : DeviceRow) (number : ℕ) (found : Option ℕ) → drive_of s.table number ≡ found
       → With found (MayGuestWrite s device) → With found (MayGuestWrite now device)
   drive_still keeps apart device number None is may = may
   drive_still keeps apart device number (Some drive) is may =
@@ -266,7 +266,7 @@ module _ (s now : State) (P : ℕ → Type 0) (IsNewRow : NodeRecord → Type 0)
       })
       may
 
-  pub grown_writing : Leaves → HaveDistinctIds s.table → WritingStands s → WritingStands now
+  pub grown_writing : KeepsWritable → HaveDistinctIds s.table → WritingStands s → WritingStands now
   grown_writing keeps apart h = record {
     named = λ name row over writes. elim (g.rows row over.there) [
       | inl old ↦

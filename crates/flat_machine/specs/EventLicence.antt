@@ -29,7 +29,7 @@ use Rattle.blk_history.specs.Fold.{With}
 use Rattle.flat_machine.specs.State.{State, drive_of}
 use Rattle.flat_machine.specs.Machine.{path}
 use Rattle.flat_machine.specs.Replies.{command_read, desc_of}
-use Rattle.flat_machine.specs.Licence.{Counts, IsBetween, fault_at, fault_source, named_in}
+use Rattle.flat_machine.specs.Licence.{Counts, IsBetweenCounts, fault_at, fault_source, named_in}
 use Rattle.blk_history.specs.declared.entry.Cause.TheVariants.{Group}
 use Rattle.blk_history.specs.declared.entry.JobEnd.{JobEnd}
 use Rattle.blk_history.specs.declared.entry.JobEnd.TheVariants.{Failed, Cancelled}
@@ -114,7 +114,7 @@ IsDoneFor t (PieceOn drive op) row =
 -- those before the event, and of a device that it opened the one at the opening, and those after it.
 abbrev pub HasFaultCause : Counts → Counts → (ℕ → Type 0) → Fault → Type 0
 HasFaultCause opened now would_pass (faults.Io dev count) =
-    IsBetween opened now (fault_at (Dev dev) count)
+    IsBetweenCounts opened now (fault_at (Dev dev) count)
 HasFaultCause opened now would_pass (faults.NoSpace dev) = would_pass dev.0
 
 -- A job meets a fault once, in what is done for it, of a device that one of its nodes reaches.
@@ -138,7 +138,7 @@ EndsAsMet sources job outcome = sources.met_by job ≡ None
 
 abbrev pub RoseIn : Counts → Counts → Option FaultAt → Type 0
 RoseIn opened now None = Unit {0}
-RoseIn opened now (Some fault) = IsBetween opened now fault
+RoseIn opened now (Some fault) = IsBetweenCounts opened now fault
 
 abbrev pub IsCommandsFault : RunTable → Sources → Counts → Option FaultAt → Option Cmd → Type 0
 IsCommandsFault t sources before None c = Unit {0}

@@ -5,7 +5,7 @@ use Rattle.trace_codec.specs.declared.op.Op.{Op}
 use Rattle.trace_codec.specs.declared.awaiting.Await.{Await}
 use Rattle.trace_codec.specs.declared.awaiting.Await.TheVariants as await
 use Rattle.qmp_codec.specs.declared.event.JobKind.TheVariants.{Mirror}
-use Rattle.qmp_rules.specs.declared.rows.Asked.TheVariants as asked
+use Rattle.qmp_rules.specs.declared.rows.AskedEnd.TheVariants as asked
 use Rattle.qmp_rules.specs.declared.rows.JobRecord.{JobRecord}
 use Rattle.qmp_rules.specs.Table.{device_by_number, job_at, job_named}
 use Rattle.qmp_rules.specs.Queries.{bytes_of_node}
@@ -13,7 +13,7 @@ use Rattle.blk_history.specs.Fold.{Each, With}
 use Rattle.blk_history.specs.Disk.{span_of, is_write}
 use Rattle.flat_machine.specs.State.{State, Guest, Ending, guest_at, flat_disk_of, disk_of_guest}
 use Rattle.blk_history.specs.Machine.{Flight}
-use Rattle.blk_history.specs.Legal.{IsNextPiece, IsOver}
+use Rattle.blk_history.specs.Legal.{IsNextPiece, IsFlightOver}
 use Rattle.flat_machine.specs.Jobs.{can_be_ready, is_success, is_cause, has_others, had_cause}
 use Rattle.flat_machine.specs.Replies.{IsAnswer}
 use Rattle.flat_machine.specs.Machine.{after}
@@ -146,7 +146,7 @@ MayHappen s (Refuse g r op why) =
     IsNextJudged s g r (λ read_only size. IsRefusedFor op read_only size why)
 MayHappen s (Piece g r k outcome got) =
     IsInFlight s g r (λ f. IsNextPiece f k outcome (guest_disk s g) got)
-MayHappen s (Retire g r) = IsInFlight s g r IsOver
+MayHappen s (Retire g r) = IsInFlight s g r IsFlightOver
 MayHappen s (Reply line given command text) = IsNotDone s 0 × IsAnswer s given command text
 MayHappen s (Reached line what) = IsNotDone s 0 × IsMet s what
 MayHappen s (Start job) = IsSome (job_at s.table job)

@@ -77,7 +77,7 @@ abbrev pub faults_of : List Event → List FaultAt
 faults_of h = filter_map named_in h
 
 -- the count lies above the one at the opening, and is at most the one at the end
-pub record IsBetween (opening closing : Counts) (fault : FaultAt) : Type 0 where
+pub record IsBetweenCounts (opening closing : Counts) (fault : FaultAt) : Type 0 where
   pub risen : With (source_count opening fault.from) (λ before. HasFailedSince before fault.count)
   pub reached : With (source_count closing fault.from) (λ now. fault.count ≤ now)
 
@@ -87,5 +87,5 @@ Differ a b = a.from ≡ b.from → a.count ≡ b.count → a.count ≡ 184467440
 
 -- each fault that the history names is a rise, and no two entries name the same
 pub record AreLicensed (opening closing : Counts) (h : List Event) : Type 0 where
-  pub rises : All (IsBetween opening closing) (faults_of h)
+  pub rises : All (IsBetweenCounts opening closing) (faults_of h)
   pub once : AllPairs Differ (faults_of h)

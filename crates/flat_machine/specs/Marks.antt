@@ -7,8 +7,8 @@ use Rattle.qmp_codec.specs.declared.command.Action.TheVariants as action
 use Rattle.qmp_codec.specs.declared.command.Command.TheVariants as command
 use Rattle.qmp_codec.specs.declared.event.JobKind.{JobKind}
 use Rattle.qmp_codec.specs.declared.event.JobKind.TheVariants.{Commit, Mirror, Backup}
-use Rattle.qmp_rules.specs.declared.rows.Asked.{Asked}
-use Rattle.qmp_rules.specs.declared.rows.Asked.TheVariants as asked
+use Rattle.qmp_rules.specs.declared.rows.AskedEnd.{AskedEnd}
+use Rattle.qmp_rules.specs.declared.rows.AskedEnd.TheVariants as asked
 use Rattle.qmp_rules.specs.declared.rows.JobRecord.{JobRecord}
 use Rattle.qmp_rules.specs.Table.{RunTable, id_named, device_named, job_at}
 use Rattle.qmp_rules.specs.declared.told.Told.{Told}
@@ -105,7 +105,7 @@ drained_by t (command.DeviceDel id) = device_disk t id
 drained_by t c = []
 
 -- a job is asked to end, and not cancelled for good
-abbrev pub ends_by : Asked → Bool
+abbrev pub ends_by : AskedEnd → Bool
 ends_by asked.Complete = true
 ends_by asked.Leave = true
 ends_by asked.Nothing = false

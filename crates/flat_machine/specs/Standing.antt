@@ -1,7 +1,7 @@
 -- What holds of every state that a run comes to.
 use Rattle.std.specs.Prelude.{◌≡◌, ◌⊎◌, ℕ, true, false, ◌==◌, List, Contains, All, find, Option, Some, None, IsSome}
 use Rattle.qmp_rules.specs.declared.rows.NodeRecord.{NodeRecord}
-use Rattle.qmp_rules.specs.declared.rows.Device.{Device}
+use Rattle.qmp_rules.specs.declared.rows.DeviceRow.{DeviceRow}
 use Rattle.qmp_rules.specs.declared.rows.FileState.{FileState}
 use Rattle.qmp_rules.specs.declared.rows.FileState.TheVariants.{Made, Formatted, Used}
 use Rattle.qmp_rules.specs.Table.{RunTable, device_by_number, file_state, has_name}
@@ -95,14 +95,14 @@ pub record IsUsedUp (s : State) (left : Left) : Type 0 where
 -- ---- devices
 
 -- a device has a drive; where it may write its disk, or its reads do, that may be written
-abbrev pub MayGuestWrite : State → Device → ℕ → Type 0
+abbrev pub MayGuestWrite : State → DeviceRow → ℕ → Type 0
 MayGuestWrite s device drive =
     writes_through s.table device.read_only drive ≡ true
     → IsGuestWritable s (disk_node s.table drive)
 
 abbrev pub WritersStand : State → Type 0
 WritersStand s =
-    (g : ℕ) (device : Device) → device_by_number s.table g ≡ Some device
+    (g : ℕ) (device : DeviceRow) → device_by_number s.table g ≡ Some device
     → With (drive_of s.table g) (MayGuestWrite s device)
 
 -- ---- all of it

@@ -8,7 +8,7 @@ use Rattle.blk_graph.specs.Permissions.{has_role}
 use Rattle.qmp_rules.specs.declared.change.Change.{Change}
 use Rattle.qmp_rules.specs.declared.change.Change.TheVariants as change
 use Rattle.qmp_rules.specs.declared.rows.NodeRecord.{NodeRecord}
-use Rattle.qmp_rules.specs.declared.rows.Device.{Device}
+use Rattle.qmp_rules.specs.declared.rows.DeviceRow.{DeviceRow}
 use Rattle.qmp_rules.specs.declared.rows.FileState.TheVariants.{Used}
 use Rattle.qmp_rules.specs.Table.{RunTable, node_by_id, device_by_number, file_state}
 use Rattle.qmp_rules.specs.Chains.{filter_role}
@@ -82,7 +82,7 @@ pub record SuitsFilter (t : RunTable) (row : NodeRecord) (child : ℕ) : Type 0 
   pub no_file : under.filename ≡ None
   pub writable : under.read_only ≡ false
 
-pub record SuitsDevice (t : RunTable) (device : Device) (node : ℕ) : Type 0 where
+pub record SuitsDevice (t : RunTable) (device : DeviceRow) (node : ℕ) : Type 0 where
   pub there : IsThere t node
   pub free : IsUnderNoFormat t node
   pub number : HasDeviceNumber t.guests device
@@ -147,7 +147,7 @@ pub record FormattingSuits (t : RunTable) (node : ℕ) (name : List ℕ) : Type 
   pub alone : IsAlone t node
 
 -- a device with a number of its own, on a node that it may use so
-pub record DeviceSuits (s : State) (device : Device) (node : ℕ) : Type 0 where
+pub record DeviceSuits (s : State) (device : DeviceRow) (node : ℕ) : Type 0 where
   pub suits : SuitsDevice s.table device node
   pub fresh : device_by_number s.table device.number ≡ None
   pub writes : MayGuestWrite s device node

@@ -6,7 +6,7 @@ use Rattle.blk_graph.specs.declared.edge.Role.TheVariants.{File}
 use Rattle.blk_graph.specs.declared.kind.Kind.TheVariants.{Protocol, CopyOnRead}
 use Rattle.blk_graph.specs.Permissions.{has_role}
 use Rattle.qmp_rules.specs.declared.rows.NodeRecord.{NodeRecord}
-use Rattle.qmp_rules.specs.declared.rows.Device.{Device}
+use Rattle.qmp_rules.specs.declared.rows.DeviceRow.{DeviceRow}
 use Rattle.qmp_rules.specs.Table.{RunTable, node_by_id, child}
 use Rattle.qmp_rules.specs.Chains.{filter_role, disk_node}
 use Rattle.qmp_rules.specs.Edits.{place_from}
@@ -137,12 +137,12 @@ abbrev pub IsNumberBy : ℕ → ℕ → Option ℕ → Type 0
 IsNumberBy count number None = count ≤ number
 IsNumberBy count number (Some guest) = number ≡ guest
 
-abbrev pub HasDeviceNumber : List (List ℕ) → Device → Type 0
+abbrev pub HasDeviceNumber : List (List ℕ) → DeviceRow → Type 0
 HasDeviceNumber guests device =
     IsNumberBy (length guests) device.number (place_from 0 device.id guests)
 
 abbrev pub AreNumbered : RunTable → Type 0
-AreNumbered t = (device : Device) → Contains t.devices device → HasDeviceNumber t.guests device
+AreNumbered t = (device : DeviceRow) → Contains t.devices device → HasDeviceNumber t.guests device
 
 -- ---- all of it
 

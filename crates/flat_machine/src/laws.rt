@@ -15,7 +15,7 @@ ghost use Rattle.trace_codec.specs.Script.{Order};
 ghost use Rattle.qmp_codec.specs.Commands.{Cmd};
 ghost use Rattle.qmp_codec.specs.declared.nodes.Created.{Created};
 ghost use Rattle.qmp_rules.specs.declared.told.Told.{Told};
-ghost use Rattle.qmp_rules.specs.declared.rows.Device.{Device};
+ghost use Rattle.qmp_rules.specs.declared.rows.DeviceRow.{DeviceRow};
 ghost use Rattle.qmp_asks.specs.Naming.{inline_name, is_name};
 ghost use Rattle.qmp_rules.specs.Table.{RunTable, device_by_number, node_named};
 ghost use Rattle.qmp_rules.specs.Chains.{disk_node, written_under};
@@ -118,7 +118,7 @@ pub fn transcripts_have_one_history()
 /// Where a request that writes comes of a guest whose device may, its drive is one whose disk it can write; and a read through
 /// `copy-on-read` goes in at a drive into whose image it may put what it reads.
 pub fn guests_can_write()
-    ensures { (s : State) (g : ℕ) (device : Device) (drive : ℕ) (op : Op) → StandsAtRest s
+    ensures { (s : State) (g : ℕ) (device : DeviceRow) (drive : ℕ) (op : Op) → StandsAtRest s
         → device_by_number s.table g ≡ Some device → drive_of s.table g ≡ Some drive
         → (is_write op ≡ true → device.read_only ≡ false) → CanWrite s drive op }
 {}

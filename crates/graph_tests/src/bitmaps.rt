@@ -1,7 +1,7 @@
 //! Bitmaps of nodes: what writes mark, merges, and what is refused.
 
 use blk_base::{Span, Text};
-use blk_bitmaps::{BitmapStop, Bitmaps, MOST_BITMAPS, Source, Sources};
+use blk_bitmaps::{BitmapStop, Bitmaps, MOST_BITMAPS, SourceBitmap, Sources};
 use blk_graph::{Graph, NO_KIND, NodeId};
 use std::alloc::Global;
 use std::test::Fail;
@@ -80,7 +80,7 @@ fn merge(
     let mut sources = Vec::new(alloc);
     for name in names.split(' ') {
         let name = Text::copied(alloc, name)?;
-        sources.push(Source { node, name })?;
+        sources.push(SourceBitmap { node, name })?;
     }
     Ok(table.merge(target.0, target.1, &Sources::from_vec(sources)))
 }

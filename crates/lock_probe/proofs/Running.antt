@@ -8,13 +8,13 @@ use Rattle.blk_lock.specs.Stamps.{has_actor, made_by_actor, OthersAdd}
 use Rattle.blk_lock.specs.Plays.{after_split, split_off, after_join}
 use Rattle.blk_lock.proofs.Tests.{has_actor-left, has_actor-right, or_left}
 use Rattle.blk_lock.proofs.Callers.{done_by_others, kept_without}
-use Rattle.lock_probe.specs.declared.register.Entry.{Entry}
-use Rattle.lock_probe.specs.declared.register.Opening.{Opening}
+use Rattle.lock_probe.specs.declared.register.RegisterWrite.{RegisterWrite}
+use Rattle.lock_probe.specs.declared.register.InitialValue.{InitialValue}
 use Rattle.lock_probe.specs.Replay.{actor_of, script}
 use Rattle.lock_probe.specs.Runs.{MayRun, HasRun, MayWrite, HasWritten}
 
 abbrev pub V : Type 0
-V = View Entry Opening
+V = View RegisterWrite InitialValue
 
 abbrev turns_of_one : ℕ → Room
 turns_of_one rounds = record { entries = rounds; bytes = 0 }

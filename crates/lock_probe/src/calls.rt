@@ -8,7 +8,7 @@ ghost use Rattle.lock_probe.specs.Face.{one_entry};
 ghost use Rattle.lock_probe.specs.Replay.{script, written_by, Makes};
 ghost use Rattle.lock_probe.specs.Runs.{IsFirstPass, MayRun, HasRun, MayWrite, HasWritten};
 
-use crate::register::{Entry, Register};
+use crate::register::{Register, RegisterWrite};
 use blk_base::{NoMemory, Room};
 use blk_lock::{Pass, Turns};
 use std::alloc::Global;
@@ -36,7 +36,7 @@ pub fn exchange<R: Wait>(
     rt: &R,
     turns: &Turns<Register>,
     pass: &mut Pass<Register>,
-    entry: Entry,
+    entry: RegisterWrite,
 ) -> u64
     requires lock { lock_of pass.old ≡ lock_id turns.now }
     requires free { (view pass.old).turn ≡ None }
@@ -70,7 +70,7 @@ fn write_script<R: Wait>(
     ensures written { HasWritten (view pass) (view result) actor rounds }
 {
     for value in 0..rounds {
-        exchange(rt, turns, &mut pass, Entry { actor, value });
+        exchange(rt, turns, &mut pass, RegisterWrite { actor, value });
     }
     pass
 }

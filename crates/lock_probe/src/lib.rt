@@ -7,4 +7,4 @@ mod register;
 mod tests;
 
 pub use calls::{exchange, open, play, run_actors};
-pub use register::{Entry, Opening, Register};
+pub use register::{InitialValue, Register, RegisterWrite};

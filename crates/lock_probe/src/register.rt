@@ -11,14 +11,14 @@ use std::marker::Model;
 
 /// An actor wrote a value.
 #[derive(Clone, Copy)]
-pub struct Entry {
+pub struct RegisterWrite {
     pub actor: u32,
     pub value: u64,
 }
 
 /// What the register had before its history.
 #[derive(Clone, Copy)]
-pub struct Opening {
+pub struct InitialValue {
     pub value: u64,
 }
 
@@ -26,7 +26,7 @@ pub struct Opening {
 #[derive(Drop)]
 pub struct Register {
     value: u64,
-    log: Vec<Entry>,
+    log: Vec<RegisterWrite>,
 }
 
 impl Model for Register {
@@ -43,9 +43,9 @@ impl Model for Register {
 }
 
 impl Logged for Register {
-    type Entry = Entry;
+    type Entry = RegisterWrite;
 
-    type Opening = Opening;
+    type Opening = InitialValue;
 
     ghost history = { λ r. r.log };
 
@@ -75,14 +75,14 @@ impl Register {
         self.value
     }
 
-    pub fn log(&self) -> &[Entry]
+    pub fn log(&self) -> &[RegisterWrite]
         ensures { result.now ≡ self.now.log }
     {
         self.log.as_slice()
     }
 
     /// Writes, and gives what was there.
-    pub fn swap(&mut self, entry: Entry) -> u64
+    pub fn swap(&mut self, entry: RegisterWrite) -> u64
         requires { 0 < self.old.spare.entries }
         ensures answer { result ≡ self.old.value }
         ensures new { self.new

@@ -1,4 +1,4 @@
-use crate::{Entry, exchange, open, run_actors};
+use crate::{RegisterWrite, exchange, open, run_actors};
 use blk_base::Room;
 use std::test::Fail;
 
@@ -7,7 +7,7 @@ const ACTORS: u32 = 8;
 const ROUNDS: u64 = 1000;
 
 // Whether the entries of each actor are the numbers from 0 on, in their order.
-fn is_in_order(log: &[Entry]) -> bool {
+fn is_in_order(log: &[RegisterWrite]) -> bool {
     let mut next = [0u64; 8];
     for entry in log {
         let Some(value) = next.get_mut(entry.actor as usize) else {
@@ -43,7 +43,7 @@ fn two_passes_make_an_entry_each(rt: HostRuntime) -> Result<(), Fail> {
         &rt,
         &turns,
         &mut first,
-        Entry {
+        RegisterWrite {
             actor: 0,
             value: 40,
         },
@@ -52,7 +52,7 @@ fn two_passes_make_an_entry_each(rt: HostRuntime) -> Result<(), Fail> {
         &rt,
         &turns,
         &mut second,
-        Entry {
+        RegisterWrite {
             actor: 1,
             value: 50,
         },

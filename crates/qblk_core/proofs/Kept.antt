@@ -13,7 +13,7 @@ use Rattle.blk_history.specs.Disk.{piece}
 use Rattle.blk_pieces.proofs.Told.{shown_none}
 use Rattle.qblk_core.specs.Pieces.{IsPieceOn}
 use Rattle.blk_history.specs.Machine.{IoState, IoGuest, Flight, io_after, io_replay}
-use Rattle.blk_history.specs.Legal.{FitsIo, IsOver}
+use Rattle.blk_history.specs.Legal.{FitsIo, IsFlightOver}
 use Rattle.blk_history.specs.Fold.{With}
 use Rattle.blk_history.specs.Licence.{Named, device_fault_in, device_fault_by, last_named, RoseSince}
 use Rattle.blk_history.specs.declared.entry.Refused.{Refused}
@@ -157,11 +157,11 @@ admission-kept w op None idle judged first comes = comes-push first w _ _ comes 
 admission-kept w op (Some why) idle judged first comes = comes-push first w _ _ comes (adds-refusal first w op why comes idle judged)
 
 -- the request in flight, where one is over
-over : (flight : Option Flight) → With flight IsOver → (f : Flight) × (flight ≡ Some f) × IsOver f
+over : (flight : Option Flight) → With flight IsFlightOver → (f : Flight) × (flight ≡ Some f) × IsFlightOver f
 over None is = absurd is
 over (Some f) is = (f, refl, is)
 
-adds-retirement : (w : SessionSeen) → With w.guest.flight IsOver → Adds w (after_retirement w) (Retire 0 w.guest.done)
+adds-retirement : (w : SessionSeen) → With w.guest.flight IsFlightOver → Adds w (after_retirement w) (Retire 0 w.guest.done)
 adds-retirement w is =
     let found = over w.guest.flight is in
     record {
@@ -179,7 +179,7 @@ adds-retirement w is =
       fits = λ disk is. rw found.1 (refl, found.2);
     }
 
-pub retirement-kept : (w : SessionSeen) → With w.guest.flight IsOver → (first : Nodes) → ComesFrom first w → ComesFrom first (after_retirement w)
+pub retirement-kept : (w : SessionSeen) → With w.guest.flight IsFlightOver → (first : Nodes) → ComesFrom first w → ComesFrom first (after_retirement w)
 retirement-kept w is first comes = comes-push first w _ _ comes (adds-retirement w is)
 
 licensed-piece : (before now : ℕ) (outcome : Outcome) → CountsOutcome before now outcome → IsLicensed before now (device_fault_by outcome)

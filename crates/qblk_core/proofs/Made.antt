@@ -4,7 +4,7 @@ use Rattle.std.specs.Prelude.{Contains, IsSome, slice_get, slice_set, option_map
 use Rattle.std.proofs.lemmas.Bool.{ne_eqb}
 use Rattle.std.proofs.lemmas.List.{ext_get_or}
 use Rattle.q2_format.proofs.ByPlace.{length-bytes_at, get_or-bytes_at}
-use Rattle.blk_graph.specs.Edges.{IsWithin}
+use Rattle.blk_graph.specs.Edges.{ArePermsWithin}
 use Rattle.blk_graph.specs.Edits.{child_of, with_edge, is_edge}
 use Rattle.blk_graph.specs.Graph.{Graph, HasName, ids}
 use Rattle.blk_graph.specs.Ids.{IsLowestFree}

@@ -6,8 +6,8 @@ use Rattle.trace_codec.specs.Line.{line_of}
 use Rattle.trace_codec.specs.Reading.{Reading}
 use Rattle.trace_codec.specs.Request.{with_op, passes_total}
 use Rattle.trace_codec.specs.Trace.{◌>>=◌, next_line, after_line, after_lines, lines_of, trace_of, ops_of}
-use Rattle.trace_codec.specs.declared.line.Line.{Line}
-use Rattle.trace_codec.specs.declared.line.Line.TheVariants.{Passed, Asks, Bad}
+use Rattle.trace_codec.specs.declared.line.TraceLine.{TraceLine}
+use Rattle.trace_codec.specs.declared.line.TraceLine.TheVariants.{Passed, Asks, Bad}
 use Rattle.trace_codec.specs.declared.op.Op.{Op}
 use Rattle.trace_codec.specs.declared.stop.TraceStop.{TraceStop}
 use Rattle.trace_codec.specs.declared.stop.TraceStop.TheVariants.{BadLine, TooMany, NoMemory}
@@ -23,7 +23,7 @@ abbrev IsNumbered : Result Reading TraceStop → Type 0
 IsNumbered (Ok r) = 0 < r.line
 IsNumbered (Err stop) = NamesLine stop
 
-numbered-line : (r : Reading) (line : Line) → 0 < r.line → IsNumbered (after_line r line)
+numbered-line : (r : Reading) (line : TraceLine) → 0 < r.line → IsNumbered (after_line r line)
 numbered-line r Passed pos = omega arith
 numbered-line r Bad pos = pos
 numbered-line r (Asks op) pos = by_count (nat_lt 65536 (length r.ops + 1) || passes_total (with_op r.asked op))

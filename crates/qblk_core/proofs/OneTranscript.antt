@@ -19,7 +19,7 @@ use Rattle.trace_codec.specs.declared.op.Op.{Op}
 use Rattle.trace_codec.specs.declared.op.Op.TheVariants.{Read, Write, Zero, Flush, Discard}
 use Rattle.blk_history.specs.Fold.{With, change}
 use Rattle.blk_history.specs.Disk.{piece}
-use Rattle.blk_history.specs.Legal.{IsNextIo, CanAdmitIo, IsRefusedIo, IsOver}
+use Rattle.blk_history.specs.Legal.{IsNextIo, CanAdmitIo, IsRefusedIo, IsFlightOver}
 use Rattle.blk_history.specs.Machine.{IoState, IoTable, IoGuest, Flight, io_guest_at, node_at, with_io_piece, piece_done, io_admitted, io_finished, io_past_piece, io_after}
 use Rattle.blk_history.specs.Owned.{asked_by}
 use Rattle.blk_history.specs.Small.{IsSmall}
@@ -31,7 +31,7 @@ use Rattle.blk_history.specs.declared.event.Event.TheVariants.{Admit, Refuse, Pi
 use Rattle.blk_history.proofs.Folds.{with-some, with-at}
 use Rattle.blk_history.proofs.Lines.{in_line, in_word, IsLine, IsWord, all-append, words_then, sentence-then, after-verb, first-word, same-word, last-word, decimal-word}
 use Rattle.blk_history.proofs.Outcomes.{one-outcome}
-use Rattle.blk_history.proofs.Verbs.{IsOfNoJob, verb_of, verb_in, verb-told, line-there}
+use Rattle.blk_history.proofs.Verbs.{IsOfNoJob, event_verb, verb_in, verb-told, line-there}
 use Rattle.blk_pieces.specs.Pieces.{shows_in}
 use Rattle.qblk_core.specs.Along.{ShowsOf, IsInTurn, FitsUnread, GoesInTurn}
 use Rattle.qblk_core.specs.Printed.{PrintsInTurn}
@@ -302,9 +302,9 @@ module _ (s t : IoState) (row : IoGuest) (left : s.table.guests ≡ row ∷ []) 
       let bytes : got ≡ shown = one-shown outcome f.op (piece f.op k) got shown r q (shows-block f.op k) fa.shown told same-words in
       rw (outcomes, bytes) refl
 
-  same-entry : (e f : Event) (es fs : List Event) → verb_of e ≡ verb_of f → FitsUnread s e → FitsUnread t f → asked_by 0 (e ∷ es) ≡ asked_by 0 (f ∷ fs) → IsSmall e → IsSmall f
+  same-entry : (e f : Event) (es fs : List Event) → event_verb e ≡ event_verb f → FitsUnread s e → FitsUnread t f → asked_by 0 (e ∷ es) ≡ asked_by 0 (f ∷ fs) → IsSmall e → IsSmall f
       → (r q : List ℕ) → entry_line guest_names e ++ r ≡ entry_line guest_names f ++ q → e ≡ f
-  unfolding verb_of
+  unfolding event_verb
   same-entry (Admit g n op) (Admit g2 n2 op2) es fs verbs fe ff asked se sf r q e =
       let a = the-row s row g (λ row. With (node_at s row.node) (λ node. IsNextIo row n × CanAdmitIo op row node)) left fe in
       let b = the-row t row g2 (λ row. With (node_at t row.node) (λ node. IsNextIo row n2 × CanAdmitIo op2 row node)) right ff in
@@ -344,9 +344,9 @@ module _ (s t : IoState) (row : IoGuest) (left : s.table.guests ≡ row ∷ []) 
       ap (λ (x : ℕ). Piece x n k outcome got) a.0 ∙ same ∙ ap (λ (x : ℕ). Piece 0 x k outcome2 got2) (sym number) ∙ ap (λ (x : ℕ). Piece 0 n2 x outcome2 got2) (sym place)
       ∙ ap (λ (x : ℕ). Piece x n2 k2 outcome2 got2) (sym b.0)
   same-entry (Retire g n) (Retire g2 n2) es fs verbs fe ff asked se sf r q e =
-      let a = the-row s row g (λ row. With row.flight (λ f. (n ≡ row.done) × IsOver f)) left fe in
-      let b = the-row t row g2 (λ row. With row.flight (λ f. (n2 ≡ row.done) × IsOver f)) right ff in
-      let flight = both-at row.flight (λ f. (n ≡ row.done) × IsOver f) (λ f. (n2 ≡ row.done) × IsOver f) a.1 b.1 in
+      let a = the-row s row g (λ row. With row.flight (λ f. (n ≡ row.done) × IsFlightOver f)) left fe in
+      let b = the-row t row g2 (λ row. With row.flight (λ f. (n2 ≡ row.done) × IsFlightOver f)) right ff in
+      let flight = both-at row.flight (λ f. (n ≡ row.done) × IsFlightOver f) (λ f. (n2 ≡ row.done) × IsFlightOver f) a.1 b.1 in
       let number : n ≡ n2 = flight.1.0.0 ∙ sym flight.1.1.0 in
       rw (a.0, b.0, number) refl
   same-entry (Reply line given command text) f es fs verbs fe ff asked se sf r q e = absurd fe
@@ -367,7 +367,7 @@ all-same (x ∷ es) [] s t row left right lh lk asked sh sk e = absurd (line-the
 all-same (x ∷ es) (f ∷ fs) s t row left right lh lk asked sh sk e =
     let r = flat_map (entry_line guest_names) es in
     let q = flat_map (entry_line guest_names) fs in
-    let verbs : verb_of x ≡ verb_of f = sym (verb-told guest_names x r (of-no-job s x lh.0)) ∙ ap verb_in e ∙ verb-told guest_names f q (of-no-job t f lk.0) in
+    let verbs : event_verb x ≡ event_verb f = sym (verb-told guest_names x r (of-no-job s x lh.0)) ∙ ap verb_in e ∙ verb-told guest_names f q (of-no-job t f lk.0) in
     let same : x ≡ f = same-entry s t row left right x f es fs verbs lh.0 lk.0 asked (All-head IsSmall x es sh) (All-head IsSmall f fs sk) r q e in
     let rest : r ≡ q = append_cancel_left (entry_line guest_names x) r q (e ∙ ap (λ y. entry_line guest_names y ++ q) (sym same)) in
     let asked-on : asked_by 0 es ≡ asked_by 0 fs = asked-rest x es fs (subst (λ y. asked_by 0 (x ∷ es) ≡ asked_by 0 (y ∷ fs)) (sym same) asked) in

@@ -12,7 +12,7 @@ use Rattle.trace_codec.specs.Request.{pieces_of}
 use Rattle.blk_history.specs.Disk.{piece}
 use Rattle.blk_history.specs.Fold.{With}
 use Rattle.blk_history.specs.Machine.{Flight, IoGuest, one_further, io_past_piece}
-use Rattle.blk_history.specs.Legal.{IsOver}
+use Rattle.blk_history.specs.Legal.{IsFlightOver}
 use Rattle.blk_history.specs.Owned.{asked_by}
 use Rattle.blk_history.specs.Recorded.{Recorded}
 use Rattle.blk_history.specs.declared.event.Event.{Event}
@@ -63,8 +63,8 @@ at-with : {A : Type 0} (x : Option A) (a : A) (P : A → Type 0) → x ≡ Some 
 at-with None a P is holds = let bad : ⊥ = cc is in bad
 at-with (Some b) a P is holds = let same : b ≡ a = cc is in subst P (sym same) holds
 
-over-with : (flight : Option Flight) (f : Flight) → flight ≡ Some f → IsOver f → With flight IsOver
-over-with flight f is over = at-with flight f IsOver is over
+over-with : (flight : Option Flight) (f : Flight) → flight ≡ Some f → IsFlightOver f → With flight IsFlightOver
+over-with flight f is over = at-with flight f IsFlightOver is over
 
 -- the flight after a piece
 flight-after : (outcome : Outcome) (now v : SessionSeen) (f : Flight) → now.guest.flight ≡ Some f → v.guest ≡ io_past_piece outcome now.guest → v.guest.flight ≡ Some (one_further outcome f)

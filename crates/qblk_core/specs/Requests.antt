@@ -5,7 +5,7 @@ use Rattle.trace_codec.specs.declared.op.Op.{Op}
 use Rattle.trace_codec.specs.Request.{pieces_of, read_bytes_of}
 use Rattle.blk_history.specs.Fold.{With}
 use Rattle.blk_history.specs.Machine.{Flight}
-use Rattle.blk_history.specs.Legal.{IsOver}
+use Rattle.blk_history.specs.Legal.{IsFlightOver}
 use Rattle.blk_history.specs.Owned.{asked_by}
 use Rattle.blk_nodes.specs.Nodes.{Nodes}
 use Rattle.blk_pieces.specs.Pieces.{shown_before}
@@ -32,7 +32,7 @@ pub record AtPiece (old now : SessionSeen) (k : ℕ) (f : Flight) : Type 0 where
 
 -- all its pieces are done, or the last wasn't good
 pub record PiecesDone (old new : SessionSeen) (f : Flight) : Type 0 where
-  pub over : With new.guest.flight IsOver
+  pub over : With new.guest.flight IsFlightOver
   pub done : new.guest.done ≡ old.guest.done
   pub asked : asked_by 0 new.log.events ≡ asked_by 0 old.log.events
   pub room : old.log.room ≤ new.log.room + pieces_of f.op

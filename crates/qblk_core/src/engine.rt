@@ -15,7 +15,7 @@ use crate::flight::InFlight;
 use crate::transfer::transfer;
 use blk_base::{Device, FaultAt, Outcome};
 use blk_graph::NodeId;
-use blk_history::{Asked, Entry, History, Refused};
+use blk_history::{Entry, History, KeptRequest, Refused};
 use blk_nodes::Nodes;
 use blk_pieces::{request_piece, request_span, shown_part};
 use std::marker::Model;
@@ -60,7 +60,7 @@ fn note_admission(history: &mut History, request: u32, op: Op) -> u64
     history.push(Entry::Admit {
         guest: 0,
         request,
-        op: Asked::new(op),
+        op: KeptRequest::new(op),
     });
     place
 }
@@ -73,7 +73,7 @@ fn note_refusal(history: &mut History, request: u32, op: Op, why: Refused)
     history.push(Entry::Refuse {
         guest: 0,
         request,
-        op: Asked::new(op),
+        op: KeptRequest::new(op),
         why,
     });
 }
@@ -148,7 +148,7 @@ impl<D: Device> Engine<D> {
     ghost use Rattle.qblk_core.specs.Face.{SessionSeen};
     ghost use Rattle.qblk_core.specs.Steps.{admitted_or_refused, IsRequestJudged, after_retirement, PutsPiece, CanPiece};
     ghost use Rattle.blk_history.specs.Fold.{With};
-    ghost use Rattle.blk_history.specs.Legal.{IsOver};
+    ghost use Rattle.blk_history.specs.Legal.{IsFlightOver};
     ghost use Rattle.qblk_core.specs.Comes.{ComesFrom};
 
     /// A guest that has asked for nothing yet, on the nodes of an image.
@@ -237,7 +237,7 @@ impl<D: Device> Engine<D> {
 
     /// Ends the request in flight.
     fn put_retirement(&mut self)
-        requires over { With self.old.guest.flight IsOver }
+        requires over { With self.old.guest.flight IsFlightOver }
         requires room { 0 < self.old.log.room }
         requires numbered { self.old.guest.done + 1 < 2 ^ 32 }
         ensures { self.new ≡ after_retirement self.old }
@@ -271,7 +271,7 @@ impl<D: Device> Engine<D> {
 
     /// Ends the request in flight.
     pub(crate) fn retire(&mut self)
-        requires over { With self.old.guest.flight IsOver }
+        requires over { With self.old.guest.flight IsFlightOver }
         requires room { 0 < self.old.log.room }
         requires numbered { self.old.guest.done + 1 < 2 ^ 32 }
         ensures kept { self.new ≡ after_retirement self.old }

@@ -7,8 +7,8 @@ use Rattle.trace_codec.specs.Line.{line_of}
 use Rattle.trace_codec.specs.Request.{with_op, passes_total}
 use Rattle.trace_codec.specs.Trace.{◌>>=◌, lines_of}
 use Rattle.trace_codec.specs.Wishes.{Wishing, nothing_read, next_wish_line, after_wish_line, after_wish_lines, wishes_in}
-use Rattle.trace_codec.specs.declared.line.Line.{Line}
-use Rattle.trace_codec.specs.declared.line.Line.TheVariants.{Passed, Asks, Bad}
+use Rattle.trace_codec.specs.declared.line.TraceLine.{TraceLine}
+use Rattle.trace_codec.specs.declared.line.TraceLine.TheVariants.{Passed, Asks, Bad}
 use Rattle.trace_codec.specs.declared.wish.Wish.{Wish}
 use Rattle.trace_codec.specs.declared.wish.Wish.TheVariants.{Ask}
 use Rattle.trace_codec.specs.declared.stop.TraceStop.{TraceStop}
@@ -28,7 +28,7 @@ GoesAtLine (Err stop) = IsAtLine stop
 on_line : (r : Wishing) → 0 < r.line → 0 < (next_wish_line r).line
 on_line r pos = omega arith
 
-at_line : (r : Wishing) (line : Line) (waits : Option ℕ) → 0 < r.line → GoesAtLine (after_wish_line r line waits)
+at_line : (r : Wishing) (line : TraceLine) (waits : Option ℕ) → 0 < r.line → GoesAtLine (after_wish_line r line waits)
 at_line r Passed waits pos = on_line r pos
 at_line r Bad None pos = pos
 at_line r Bad (Some n) pos = on_line r pos

@@ -17,7 +17,7 @@ use Rattle.flat_machine.specs.Machine.{replay}
 use Rattle.flat_machine.specs.Opening.{start}
 use Rattle.flat_machine.specs.Agreement.{Contents, IsLeftAs}
 use Rattle.flat_machine.specs.Final.{bytes_named, IsDiskIn, IsLeftIn, AreDisks}
-use Rattle.flat_machine.specs.Licence.{Counts, IsBetween, AreLicensed, faults_of, source_count}
+use Rattle.flat_machine.specs.Licence.{Counts, IsBetweenCounts, AreLicensed, faults_of, source_count}
 use Rattle.flat_machine.specs.declared.opening.Opening.{Opening}
 use Rattle.flat_machine.proofs.ImagesKept.{sound_same}
 use Rattle.world_commands.specs.Comes.{Comes}
@@ -67,7 +67,7 @@ behind-back (o ∷ earlier) made none name = behind-back earlier made (λ n. or-
 
 -- ---- counts
 
-between-later : (a b c : Counts) → b.store ≤ c.store → HaveNotFallen b.devices c.devices → (fault : FaultAt) → IsBetween a b fault → IsBetween a c fault
+between-later : (a b c : Counts) → b.store ≤ c.store → HaveNotFallen b.devices c.devices → (fault : FaultAt) → IsBetweenCounts a b fault → IsBetweenCounts a c fault
 between-later a b c store devices fault is = record { risen = is.risen; reached = by_source fault.from is.reached }
   where
     by_source : (from : FaultFrom) → With (source_count b from) (λ now. fault.count ≤ now) → With (source_count c from) (λ now. fault.count ≤ now)
@@ -79,12 +79,12 @@ between-later a b c store devices fault is = record { risen = is.risen; reached 
 
 pub licensed-later : (a b c : Counts) (h : List Event) → b.store ≤ c.store → HaveNotFallen b.devices c.devices → AreLicensed a b h → AreLicensed a c h
 licensed-later a b c h store devices is = record {
-  rises = all-weaker (IsBetween a b) (IsBetween a c) (between-later a b c store devices) (faults_of h) is.rises;
+  rises = all-weaker (IsBetweenCounts a b) (IsBetweenCounts a c) (between-later a b c store devices) (faults_of h) is.rises;
   once = is.once;
 }
 
 -- where no count has risen none is named
-none-between : (a b : Counts) (fault : FaultAt) → HaveStood a b → IsBetween a b fault → ⊥
+none-between : (a b : Counts) (fault : FaultAt) → HaveStood a b → IsBetweenCounts a b fault → ⊥
 none-between a b fault stood is =
     let first = with-some (source_count a fault.from) (λ before. HasFailedSince before fault.count) is.risen in
     let same = stood fault.from first.0 first.1 in
@@ -98,7 +98,7 @@ none-between a b fault stood is =
     some-same : {x y : ℕ} → Some x ≡ Some y → x ≡ y
     some-same e = cc
 
-no-faults : (a b : Counts) (faults : List FaultAt) → HaveStood a b → All (IsBetween a b) faults → faults ≡ []
+no-faults : (a b : Counts) (faults : List FaultAt) → HaveStood a b → All (IsBetweenCounts a b) faults → faults ≡ []
 no-faults a b [] stood all = refl
 no-faults a b (f ∷ faults) stood all = absurd (none-between a b f stood (all 0 f (omega arith)))
 

@@ -18,7 +18,7 @@ use Rattle.qmp_rules.specs.declared.change.Change.TheVariants as change
 use Rattle.qmp_rules.specs.declared.refusal.Refusal.{Refusal}
 use Rattle.qmp_rules.specs.declared.refusal.Refusal.TheVariants as refusal
 use Rattle.qmp_rules.specs.Refusals.{refusal_class, refusal_text}
-use Rattle.qmp_rules.specs.declared.rows.Device.{Device}
+use Rattle.qmp_rules.specs.declared.rows.DeviceRow.{DeviceRow}
 use Rattle.qmp_rules.specs.declared.rows.NodeRecord.{NodeRecord}
 use Rattle.qmp_rules.specs.declared.told.Told.{Told}
 use Rattle.qmp_rules.specs.Answers.{Answer, accepted, refused_so, out_of_turn, refusal_behind, unbuilt, answer, answer_for, command_edits, left_by, line_answer, line_refusal, line_text, refusal_to, returned}
@@ -96,7 +96,7 @@ place-same k a b (other ∷ names) place is_a is_b =
         let same : k ≡ place = cc in let less = above_a is_a in absurd (omega arith)
     by_tests false e false f is_a is_b rest above_a above_b = rest is_a is_b
 
-unused-above : (n k : ℕ) (devices : List Device) → k ≤ unused_from n k devices
+unused-above : (n k : ℕ) (devices : List DeviceRow) → k ≤ unused_from n k devices
 unused-above zero k devices = omega arith
 unused-above (suc n) k devices = by_test (list_any (λ d. d.number == k) devices) (unused-above n (k + 1) devices)
   where
@@ -131,7 +131,7 @@ number-is guests number id name g named is = by_place (place_from 0 id guests) r
             ne_eqb number g (λ is. past (sym same ∙ is))
             ∙ sym (apart (λ is. let at : Some place ≡ Some g = sym some ∙ ap (λ (n : List ℕ). place_from 0 n guests) is ∙ named in let no : place ≡ g = cc at in past no))
 
-found-push : (number : ℕ) (devices : List Device) (d : Device) → is_some (find (λ x. x.number == number) (devices ++ d ∷ [])) ≡ ((d.number == number) || is_some (find (λ x. x.number == number) devices))
+found-push : (number : ℕ) (devices : List DeviceRow) (d : DeviceRow) → is_some (find (λ x. x.number == number) (devices ++ d ∷ [])) ≡ ((d.number == number) || is_some (find (λ x. x.number == number) devices))
 found-push number [] d = by_test (d.number == number)
   where
     by_test : (b : Bool) → is_some (if b then Some d else None) ≡ (b || false)
@@ -145,7 +145,7 @@ found-push number (x ∷ devices) d = by_test (x.number == number) (d.number == 
     by_test true false rest = refl
     by_test false c rest = rest
 
-found-gone : (gone number : ℕ) (devices : List Device) → is_some (find (λ x. x.number == number) (without_device gone devices)) ≡ (not (gone == number) && is_some (find (λ x. x.number == number) devices))
+found-gone : (gone number : ℕ) (devices : List DeviceRow) → is_some (find (λ x. x.number == number) (without_device gone devices)) ≡ (not (gone == number) && is_some (find (λ x. x.number == number) devices))
 found-gone gone number [] = by_test (gone == number)
   where
     by_test : (b : Bool) → false ≡ (not b && false)
@@ -153,7 +153,7 @@ found-gone gone number [] = by_test (gone == number)
     by_test false = refl
 found-gone gone number (x ∷ devices) = by_test (x.number == gone) refl (gone == number) refl (found-gone gone number devices)
   where
-    found : List Device → Bool
+    found : List DeviceRow → Bool
     found ds = is_some (find (λ y. y.number == number) ds)
 
     kept : (c : Bool) → (x.number == gone) ≡ false → (gone == number) ≡ c → found (without_device gone devices) ≡ (not c && found devices)
@@ -190,7 +190,7 @@ same-devices : (guests : List (List ℕ)) (h : List Event) (e : Event) (t u : Ru
 same-devices guests h e t u same silent was = record {
   names = same.guests ∙ was.names;
   have = λ name g named.
-      ap (λ (ds : List Device). is_some (find (λ d. d.number == g) ds)) same.devices ∙ was.have name g named
+      ap (λ (ds : List DeviceRow). is_some (find (λ d. d.number == g) ds)) same.devices ∙ was.have name g named
       ∙ sym (run-push (has_after name) false h e ∙ silent name (has_device name h));
 }
 
@@ -285,14 +285,14 @@ module _ (guests : List (List ℕ)) (h : List Event) (line : ℕ) (given text : 
 
       have : (name : List ℕ) (g : ℕ) → place_from 0 name guests ≡ Some g → is_some (device_by_number u g) ≡ has_device name (h ++ Reply line given command' text ∷ [])
       have name g named =
-          ap (λ (ds : List Device). is_some (find (λ d. d.number == g) ds)) devices
+          ap (λ (ds : List DeviceRow). is_some (find (λ d. d.number == g) ds)) devices
           ∙ found-push g t.devices (new_device t c row)
           ∙ ap (λ (b : Bool). b || is_some (device_by_number t g)) (number-is guests (device_number t c.id) c.id name g named number)
           ∙ ap (λ (b : Bool). bytes_eq c.id name || b) (was.have name g named)
           ∙ sym (run-push (has_after name) false h (Reply line given command' text) ∙ rw (accepted, is) refl)
 
   -- and one less
-  gone-devices : (id : List ℕ) (u : RunTable) (device : Device) → command_at given ≡ Ok (command.DeviceDel id) → bytes_eq text (plain_reply given) ≡ true
+  gone-devices : (id : List ℕ) (u : RunTable) (device : DeviceRow) → command_at given ≡ Ok (command.DeviceDel id) → bytes_eq text (plain_reply given) ≡ true
       → Contains t.devices device → device.id ≡ id → u.devices ≡ without_device device.number t.devices → u.guests ≡ t.guests → AreDevices guests (h ++ Reply line given command' text ∷ []) u
   gone-devices id u device is accepted there called devices names = record { names = names ∙ was.names; have = have }
     where
@@ -301,7 +301,7 @@ module _ (guests : List (List ℕ)) (h : List Event) (line : ℕ) (given text : 
 
       have : (name : List ℕ) (g : ℕ) → place_from 0 name guests ≡ Some g → is_some (device_by_number u g) ≡ has_device name (h ++ Reply line given command' text ∷ [])
       have name g named =
-          ap (λ (ds : List Device). is_some (find (λ d. d.number == g) ds)) devices
+          ap (λ (ds : List DeviceRow). is_some (find (λ d. d.number == g) ds)) devices
           ∙ found-gone device.number g t.devices
           ∙ ap (λ (b : Bool). not b && is_some (device_by_number t g)) (number-is guests device.number id name g named number)
           ∙ ap (λ (b : Bool). not (bytes_eq id name) && b) (was.have name g named)
@@ -327,13 +327,13 @@ drive-there t told c none =
     let asks = asks-met t told (command.DeviceAdd c) none in
     found-named t told c.drive asks.1.1.1.1.0
 
-device-there : (t : RunTable) (told : Told) (id : List ℕ) → refusal_to t told (command.DeviceDel id) ≡ None → (device : Device) × (device_named t id ≡ Some device)
+device-there : (t : RunTable) (told : Told) (id : List ℕ) → refusal_to t told (command.DeviceDel id) ≡ None → (device : DeviceRow) × (device_named t id ≡ Some device)
 unfolding asks_of holds
 device-there t told id none =
     let asks = asks-met t told (command.DeviceDel id) none in
     by_device (device_named t id) refl (not-refused (is_none (device_named t id)) (refusal.NotFound id true) asks.1.0)
   where
-    by_device : (found : Option Device) → device_named t id ≡ found → is_none found ≡ false → (device : Device) × (device_named t id ≡ Some device)
+    by_device : (found : Option DeviceRow) → device_named t id ≡ found → is_none found ≡ false → (device : DeviceRow) × (device_named t id ≡ Some device)
     by_device None e k = absurd cc
     by_device (Some device) e k = (device, e)
 
@@ -346,11 +346,11 @@ device-added t told c row found =
     let used = all-leave t (device_uses row) (leave-device-uses row) in
     let edits : command_edits t told (command.DeviceAdd c) ≡ device_uses row ++ change.AddDevice (new_device t c row) row.id ∷ [] = rw found refl in
     let split = all-then t (device_uses row) (change.AddDevice (new_device t c row) row.id ∷ []) in (
-      rw (edits, split) (ap (λ (ds : List Device). ds ++ new_device t c row ∷ []) used.devices),
+      rw (edits, split) (ap (λ (ds : List DeviceRow). ds ++ new_device t c row ∷ []) used.devices),
       rw (edits, split) used.guests,
     )
 
-device-gone : (t : RunTable) (told : Told) (id : List ℕ) (device : Device) → device_named t id ≡ Some device
+device-gone : (t : RunTable) (told : Told) (id : List ℕ) (device : DeviceRow) → device_named t id ≡ Some device
     → ((all_changed t (command_edits t told (command.DeviceDel id))).devices ≡ without_device device.number t.devices)
     × ((all_changed t (command_edits t told (command.DeviceDel id))).guests ≡ t.guests)
 unfolding edits_of changed
@@ -358,10 +358,10 @@ device-gone t told id device found =
     let edits : command_edits t told (command.DeviceDel id) ≡ change.RemoveDevice device.number ∷ [] = by_device (device_named t id) found in
     (rw edits refl, rw edits refl)
   where
-    by_device : (x : Option Device) → x ≡ Some device
+    by_device : (x : Option DeviceRow) → x ≡ Some device
         → elim x as (λ _. List Change) [ None ↦ [] | Some d ↦ change.RemoveDevice d.number ∷ [] ] ≡ change.RemoveDevice device.number ∷ []
     by_device None is = let bad : ⊥ = cc is in absurd bad
-    by_device (Some d) is = let same : d ≡ device = cc is in ap (λ (x : Device). change.RemoveDevice x.number ∷ []) same
+    by_device (Some d) is = let same : d ≡ device = cc is in ap (λ (x : DeviceRow). change.RemoveDevice x.number ∷ []) same
 
 -- ---- a reply
 

@@ -14,7 +14,7 @@ use Rattle.trace_codec.specs.declared.waits.Waits.{Waits}
 use Rattle.trace_codec.specs.declared.waits.Waits.TheVariants.{Attached}
 use Rattle.blk_history.specs.Disk.{piece}
 use Rattle.blk_history.specs.Fold.{With, change}
-use Rattle.blk_history.specs.Legal.{IsOver}
+use Rattle.blk_history.specs.Legal.{IsFlightOver}
 use Rattle.blk_history.specs.Machine.{Flight, one_further}
 use Rattle.blk_history.specs.declared.entry.Refused.{Refused}
 use Rattle.blk_history.specs.declared.event.Event.{Event}
@@ -64,8 +64,8 @@ flight-of p g left task is flying =
     let f = flies-by task.left left row.0.flight flying row.2.flying in
     (f.0, ap (option_and_then (λ (r : Guest). r.flight)) row.1 ∙ f.1, f.2)
 
-pub is-over : (p : Progress) (g : ℕ) (task : Task) → IsTaskIn p g task → task.left ≡ Some 0 → With (flight_at p.guests g) IsOver
-is-over p g task is flying = let f = flight-of p g 0 task is flying in at-with (flight_at p.guests g) f.0 IsOver f.1 f.2
+pub is-over : (p : Progress) (g : ℕ) (task : Task) → IsTaskIn p g task → task.left ≡ Some 0 → With (flight_at p.guests g) IsFlightOver
+is-over p g task is flying = let f = flight-of p g 0 task is flying in at-with (flight_at p.guests g) f.0 IsFlightOver f.1 f.2
 
 has-next : (left : ℕ) (f : Flight) → 0 < left → HasPiecesLeft left f → HasNext f
 has-next zero f more is = absurd (omega arith)

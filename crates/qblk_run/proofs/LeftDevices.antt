@@ -13,7 +13,7 @@ use Rattle.qmp_rules.specs.declared.change.Change.{Change}
 use Rattle.qmp_rules.specs.declared.change.Change.TheVariants as change
 use Rattle.qmp_rules.specs.declared.refusal.Refusal.{Refusal}
 use Rattle.qmp_rules.specs.declared.refusal.Refusal.TheVariants as refusal
-use Rattle.qmp_rules.specs.declared.rows.Asked.{Asked}
+use Rattle.qmp_rules.specs.declared.rows.AskedEnd.{AskedEnd}
 use Rattle.qmp_rules.specs.declared.rows.JobRecord.{JobRecord}
 use Rattle.qmp_rules.specs.declared.rows.NodeRecord.{NodeRecord}
 use Rattle.qmp_rules.specs.declared.told.Told.{Told}
@@ -24,7 +24,7 @@ use Rattle.qmp_rules.specs.Table.{RunTable, job_named, node_by_id, node_named}
 use Rattle.qmp_rules.specs.Asks.{is_file}
 use Rattle.qmp_asks.specs.NodeAsks.{backing_name, is_read_only}
 use Rattle.qmp_asks.specs.Values.{flag_or_false}
-use Rattle.qmp_rules.specs.declared.rows.Asked.TheVariants as asked
+use Rattle.qmp_rules.specs.declared.rows.AskedEnd.TheVariants as asked
 use Rattle.blk_graph.specs.declared.kind.Kind.{Kind}
 use Rattle.blk_graph.specs.declared.kind.Kind.TheVariants as kind
 use Rattle.blk_graph.specs.declared.kind.JobUse.TheVariants.{CommitTop, CommitBetween, CommitBase, StreamTop, StreamBelow}
@@ -140,7 +140,7 @@ leave-gone t row = leave-both (file_uses (file_under t row)) (change.RemoveNode 
     by_found None = tt
     by_found (Some r) = (tt, tt)
 
-leave-ask : (t : RunTable) (id : List ℕ) (ask' : JobRecord → Asked) → AllLeave (ask_edits t id ask')
+leave-ask : (t : RunTable) (id : List ℕ) (ask' : JobRecord → AskedEnd) → AllLeave (ask_edits t id ask')
 leave-ask t id ask' = by_job (job_named t id)
   where
     by_job : (found : Option JobRecord) → AllLeave (elim found as (λ _. List Change) [ None ↦ [] | Some job ↦ change.AskJob job.number (ask' job) ∷ [] ])

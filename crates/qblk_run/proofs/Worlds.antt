@@ -17,7 +17,7 @@ use Rattle.flat_machine.specs.Courses.{Course, course_after, answered_line, onwa
 use Rattle.flat_machine.specs.Legal.{IsNextJudged, IsMet, IsNext, IsNotDone, CanAdmit}
 use Rattle.flat_machine.specs.State.{Guest}
 use Rattle.blk_history.specs.Fold.{With}
-use Rattle.blk_history.specs.Legal.{IsOver}
+use Rattle.blk_history.specs.Legal.{IsFlightOver}
 use Rattle.world_parts.specs.declared.admission.Admission.TheVariants.{Admitted, Refused as NotAdmitted}
 use Rattle.world_parts.specs.declared.executed.Executed.{Executed}
 use Rattle.world_parts.specs.declared.executed.Executed.TheVariants.{Replied, Later}
@@ -205,7 +205,7 @@ module _ (o : Opening) (c : Course) (first w v : WorldSeen) (before : List Order
         left = record { flight = f; there = there; made = made.0; licence = made.1 };
       }) has.left
 
-  pub come-retired : (g : ℕ) → With (flight_at w.progress.guests g) IsOver → v ≡ with_history w (with_retirement g) → HasCome o c first v before
+  pub come-retired : (g : ℕ) → With (flight_at w.progress.guests g) IsFlightOver → v ≡ with_history w (with_retirement g) → HasCome o c first v before
   come-retired g over kept =
       come-event o c first w v before has (comes has.comes) (Retire g (requests_done w.progress.guests g)) before
       (record { may = over; adds = rw kept refl; left = kept }) has.left

@@ -7,7 +7,7 @@ use Rattle.trace_codec.specs.Request.{pieces_of}
 use Rattle.trace_codec.specs.Script.{Order}
 use Rattle.qmp_rules.specs.Chains.{is_listed}
 use Rattle.blk_history.specs.Fold.{With}
-use Rattle.blk_history.specs.Legal.{IsOver}
+use Rattle.blk_history.specs.Legal.{IsFlightOver}
 use Rattle.blk_history.specs.Line.{IsActorNamed, shown_by}
 use Rattle.blk_history.specs.Machine.{Flight}
 use Rattle.blk_history.specs.Names.{RowNames}
@@ -79,7 +79,7 @@ steps_of_tasks tasks = entries_of_script tasks.script + steps_of_all tasks.guest
 
 -- so many pieces of a request in flight are left
 abbrev pub HasPiecesLeft : ℕ → Flight → Type 0
-HasPiecesLeft zero f = IsOver f
+HasPiecesLeft zero f = IsFlightOver f
 HasPiecesLeft (suc n) f = (f.is_stopped ≡ false) × (f.next + suc n ≡ pieces_of f.op)
 
 abbrev pub IsFlying : Option ℕ → Option Flight → Type 0

@@ -3,7 +3,7 @@ use Rattle.std.specs.Prelude.{◌≡◌, ◌⊎◌, ℕ, Bool, true, false, List
 use Rattle.trace_codec.specs.declared.order.Order.TheVariants.{Give}
 use Rattle.trace_codec.specs.Script.{Order}
 use Rattle.blk_history.specs.Fold.{With}
-use Rattle.blk_history.specs.Legal.{IsOver}
+use Rattle.blk_history.specs.Legal.{IsFlightOver}
 use Rattle.blk_history.specs.Machine.{Flight}
 use Rattle.blk_history.specs.declared.event.Event.{Event}
 use Rattle.blk_history.specs.declared.event.Event.TheVariants.{Admit, Refuse, Piece, Retire, Reply, Reached, Done}
@@ -50,7 +50,7 @@ IsLeftBy w v e = ⊥
 -- What the call asks of the world that it is made in. Of a request that is asked for, its answer says it.
 abbrev pub MayCome : WorldSeen → Event → Type 0
 MayCome w (Piece g r k outcome got) = With (flight_at w.progress.guests g) HasNext
-MayCome w (Retire g r) = With (flight_at w.progress.guests g) IsOver
+MayCome w (Retire g r) = With (flight_at w.progress.guests g) IsFlightOver
 MayCome w (Reply line given command text) = IsNotDone (seen_state w) 0
 MayCome w (Reached line what) = IsNotDone (seen_state w) 0 × IsMet (seen_state w) what
 MayCome w (Done actor) = IsNotDone (seen_state w) actor × IsActorIdle w.progress.guests actor

@@ -1,7 +1,7 @@
 //! What rounds ask of a world.
 ghost use Rattle.std.specs.Prelude.{◌≡◌, ◌↔◌, ◌+◌, ◌^◌, ◌<◌, ◌≤◌, ℕ, List, length, slice_get, Some, IsTrue, IsNone, IfOk, IfSome, OnErr, Contains, is_none};
 ghost use Rattle.blk_history.specs.Fold.{With};
-ghost use Rattle.blk_history.specs.Legal.{IsOver};
+ghost use Rattle.blk_history.specs.Legal.{IsFlightOver};
 ghost use Rattle.blk_history.specs.Machine.{Flight};
 ghost use Rattle.trace_codec.specs.Awaits.{seen_await};
 ghost use Rattle.qmp_codec.specs.Lines.{command_at};
@@ -48,7 +48,7 @@ pub(crate) trait Events {
 
     /// Ends a request.
     fn retire(&mut self, guest: u32)
-        requires { With (flight_at (face self.old).progress.guests guest) IsOver }
+        requires { With (flight_at (face self.old).progress.guests guest) IsFlightOver }
         ensures kept { face self.new ≡ with_history (face self.old) (with_retirement guest) }
         ensures stays { StaysIn (face self.old) (face self.new) }
         ensures comes { (o : Opening) → Comes o (face self.old) → Comes o (face self.new) };

@@ -11,7 +11,7 @@ use Rattle.qmp_codec.specs.declared.fields.Amount.{Amount}
 use Rattle.qmp_codec.specs.declared.nodes.NodeOptions.{NodeOptions}
 use Rattle.qmp_codec.specs.declared.nodes.FileRef.{FileRef}
 use Rattle.qmp_codec.specs.declared.nodes.FileRef.TheVariants as file_ref
-use Rattle.qmp_codec.specs.declared.nodes.Backing.{Backing}
+use Rattle.qmp_codec.specs.declared.nodes.BackingRef.{BackingRef}
 use Rattle.qmp_codec.specs.declared.nodes.Added.{Added}
 use Rattle.qmp_codec.specs.declared.nodes.Added.TheVariants as added
 use Rattle.qmp_codec.specs.declared.nodes.AddRaw.{AddRaw}
@@ -21,8 +21,8 @@ use Rattle.qmp_codec.specs.declared.nodes.BlockdevCreate.{BlockdevCreate}
 use Rattle.qmp_codec.specs.declared.nodes.Created.{Created}
 use Rattle.qmp_codec.specs.declared.nodes.Created.TheVariants as created
 use Rattle.qmp_codec.specs.declared.bitmaps.BitmapMerge.{BitmapMerge}
-use Rattle.qmp_codec.specs.declared.bitmaps.Source.{Source}
-use Rattle.qmp_codec.specs.declared.bitmaps.Source.TheVariants as source
+use Rattle.qmp_codec.specs.declared.bitmaps.MergeSource.{MergeSource}
+use Rattle.qmp_codec.specs.declared.bitmaps.MergeSource.TheVariants as source
 use Rattle.qmp_codec.specs.Commands.{Act, Cmd, SeenSources}
 use Rattle.qmp_asks.specs.declared.ask.Ask.TheVariants.{Good, BitmapFree}
 use Rattle.qmp_asks.specs.Asking.{Asking, place}
@@ -74,7 +74,7 @@ ascends-append a m (x ∷ xs) ys le h below then =
 
 -- ---- merges
 
-source_names_at : (s : Source (List ℕ)) → AllAt 8 (source_names s)
+source_names_at : (s : MergeSource (List ℕ)) → AllAt 8 (source_names s)
 source_names_at (source.Name name) = (refl, tt)
 source_names_at (source.Of bitmap) = (refl, (refl, tt))
 
@@ -134,7 +134,7 @@ raw_ascends : (name : List ℕ) (options : NodeOptions) (file : FileRef (List �
 raw_ascends name options (file_ref.Name file) offset size = refl
 raw_ascends name options (file_ref.Inline file) offset size = refl
 
-qcow2_ascends : (name : List ℕ) (options : NodeOptions) (file : FileRef (List ℕ)) (back : Option (Backing (List ℕ)))
+qcow2_ascends : (name : List ℕ) (options : NodeOptions) (file : FileRef (List ℕ)) (back : Option (BackingRef (List ℕ)))
     → Ascends (add_asks (record {
       node_name = name;
       options = options;

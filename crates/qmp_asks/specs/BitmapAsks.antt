@@ -3,8 +3,8 @@ use Rattle.std.specs.Prelude.{ℕ, List, [], ◌∷◌, ◌++◌, codes, Some}
 use Rattle.qmp_codec.specs.declared.bitmaps.BitmapAdd.{BitmapAdd}
 use Rattle.qmp_codec.specs.declared.bitmaps.BitmapName.{BitmapName}
 use Rattle.qmp_codec.specs.declared.bitmaps.BitmapMerge.{BitmapMerge}
-use Rattle.qmp_codec.specs.declared.bitmaps.Source.{Source}
-use Rattle.qmp_codec.specs.declared.bitmaps.Source.TheVariants as source
+use Rattle.qmp_codec.specs.declared.bitmaps.MergeSource.{MergeSource}
+use Rattle.qmp_codec.specs.declared.bitmaps.MergeSource.TheVariants as source
 use Rattle.qmp_codec.specs.Commands.{SeenSources}
 use Rattle.qmp_asks.specs.declared.ask.Ask.TheVariants.{Good, Named, Found, BitmapFound, FreshBitmap, RoomForBitmap, BitmapFree, SameSize}
 use Rattle.qmp_asks.specs.Asking.{Asking}
@@ -35,15 +35,15 @@ bitmap_rest c =
 -- ---- block-dirty-bitmap-merge
 
 -- a source's node and name: that of the command, where it names none
-abbrev pub source_node : List ℕ → Source (List ℕ) → List ℕ
+abbrev pub source_node : List ℕ → MergeSource (List ℕ) → List ℕ
 source_node node (source.Name name) = node
 source_node node (source.Of bitmap) = bitmap.node
 
-abbrev pub source_name : Source (List ℕ) → List ℕ
+abbrev pub source_name : MergeSource (List ℕ) → List ℕ
 source_name (source.Name name) = name
 source_name (source.Of bitmap) = bitmap.name
 
-abbrev pub source_names : Source (List ℕ) → List Asking
+abbrev pub source_names : MergeSource (List ℕ) → List Asking
 source_names (source.Name name) = Named (codes "bitmaps") (Some name) ∷ []
 source_names (source.Of bitmap) = bitmap_names bitmap
 

@@ -6,8 +6,8 @@ use Rattle.qmp_codec.specs.declared.nodes.NodeOptions.{NodeOptions}
 use Rattle.qmp_codec.specs.declared.nodes.InlineFile.{InlineFile}
 use Rattle.qmp_codec.specs.declared.nodes.FileRef.{FileRef}
 use Rattle.qmp_codec.specs.declared.nodes.FileRef.TheVariants as file_ref
-use Rattle.qmp_codec.specs.declared.nodes.Backing.{Backing}
-use Rattle.qmp_codec.specs.declared.nodes.Backing.TheVariants as backing
+use Rattle.qmp_codec.specs.declared.nodes.BackingRef.{BackingRef}
+use Rattle.qmp_codec.specs.declared.nodes.BackingRef.TheVariants as backing
 use Rattle.qmp_codec.specs.declared.nodes.AddRaw.{AddRaw}
 use Rattle.qmp_codec.specs.declared.nodes.AddQcow2.{AddQcow2}
 use Rattle.qmp_codec.specs.declared.nodes.Added.{Added}
@@ -124,7 +124,7 @@ is_added added.Unknown = false
 is_added _ = true
 
 -- the backing node's name
-abbrev pub backing_name : Option (Backing (List ℕ)) → Option (List ℕ)
+abbrev pub backing_name : Option (BackingRef (List ℕ)) → Option (List ℕ)
 backing_name (Some (backing.Name name)) = Some name
 backing_name _ = None
 

@@ -8,7 +8,7 @@ use crate::ask::Ask;
 use crate::asks::{Asks, put};
 use crate::values::{is_false, is_granularity};
 use blk_base::NoMemory;
-use qmp_codec::{BitmapAdd, BitmapMerge, BitmapName, Source};
+use qmp_codec::{BitmapAdd, BitmapMerge, BitmapName, MergeSource};
 
 /// What `block-dirty-bitmap-add` asks of the values of its members.
 pub(crate) fn put_bitmap_add_values<'x>(
@@ -109,42 +109,42 @@ pub(crate) fn put_bitmap_rest<'x>(asks: &mut Asks<'x>, c: &'x BitmapName) -> Res
 }
 
 /// The node of a source: that of the command, where it names none.
-pub fn source_node<'x>(node: &'x str, source: &'x Source) -> &'x str
+pub fn source_node<'x>(node: &'x str, source: &'x MergeSource) -> &'x str
     ensures { result.now ≡ source_node node.now (seen_source source.now) }
 {
     match source {
-        Source::Name(_) => node,
-        Source::Of(bitmap) => bitmap.node.as_str(),
+        MergeSource::Name(_) => node,
+        MergeSource::Of(bitmap) => bitmap.node.as_str(),
     }
 }
 
 /// The name of the bitmap that a source is.
-pub fn source_name(source: &Source) -> &str
+pub fn source_name(source: &MergeSource) -> &str
     ensures { result.now ≡ source_name (seen_source source.now) }
 {
     match source {
-        Source::Name(name) => name.as_str(),
-        Source::Of(bitmap) => bitmap.name.as_str(),
+        MergeSource::Name(name) => name.as_str(),
+        MergeSource::Of(bitmap) => bitmap.name.as_str(),
     }
 }
 
-fn put_source_names<'x>(asks: &mut Asks<'x>, source: &'x Source) -> Result<(), NoMemory>
+fn put_source_names<'x>(asks: &mut Asks<'x>, source: &'x MergeSource) -> Result<(), NoMemory>
     ensures { OnOk result (seen_asks asks.new.items
         ≡ seen_asks asks.old.items ++ source_names (seen_source source.now)) }
 {
     match source {
-        Source::Name(name) => put(
+        MergeSource::Name(name) => put(
             asks,
             &[Ask::Named {
                 member: "bitmaps",
                 text: Some(name.as_str()),
             }],
         ),
-        Source::Of(bitmap) => put_bitmap_names(asks, bitmap),
+        MergeSource::Of(bitmap) => put_bitmap_names(asks, bitmap),
     }
 }
 
-fn put_all_source_names<'x>(asks: &mut Asks<'x>, sources: &'x [Source]) -> Result<(), NoMemory>
+fn put_all_source_names<'x>(asks: &mut Asks<'x>, sources: &'x [MergeSource]) -> Result<(), NoMemory>
     ensures { OnOk result (seen_asks asks.new.items
         ≡ seen_asks asks.old.items ++ all_source_names (map seen_source sources.now)) }
 {
@@ -157,7 +157,7 @@ fn put_all_source_names<'x>(asks: &mut Asks<'x>, sources: &'x [Source]) -> Resul
 fn put_sources_found<'x>(
     asks: &mut Asks<'x>,
     node: &'x str,
-    sources: &'x [Source],
+    sources: &'x [MergeSource],
 ) -> Result<(), NoMemory>
     ensures { OnOk result (seen_asks asks.new.items
         ≡ seen_asks asks.old.items ++ sources_found node.now (map seen_source sources.now)) }
@@ -181,7 +181,7 @@ fn put_sources_found<'x>(
 fn put_sources_free<'x>(
     asks: &mut Asks<'x>,
     node: &'x str,
-    sources: &'x [Source],
+    sources: &'x [MergeSource],
 ) -> Result<(), NoMemory>
     ensures { OnOk result (seen_asks asks.new.items
         ≡ seen_asks asks.old.items ++ sources_free node.now (map seen_source sources.now)) }
@@ -202,7 +202,7 @@ fn put_sources_free<'x>(
 fn put_sources_equal<'x>(
     asks: &mut Asks<'x>,
     node: &'x str,
-    sources: &'x [Source],
+    sources: &'x [MergeSource],
 ) -> Result<(), NoMemory>
     ensures { OnOk result (seen_asks asks.new.items
         ≡ seen_asks asks.old.items ++ sources_equal node.now (map seen_source sources.now)) }

@@ -13,7 +13,7 @@ use crate::values::{
 };
 use blk_base::NoMemory;
 use qmp_codec::{
-    AddQcow2, AddRaw, Added, Backing, BlockdevAdd, BlockdevCreate, CreateFile, CreateQcow2,
+    AddQcow2, AddRaw, Added, BackingRef, BlockdevAdd, BlockdevCreate, CreateFile, CreateQcow2,
     Created, DeviceAdd, FileRef, InlineFile, NodeOptions, Snapshot,
 };
 
@@ -25,12 +25,12 @@ pub fn is_read_only(options: &NodeOptions) -> bool
 }
 
 /// The backing node that is named.
-pub fn backing_name(backing: &Option<Backing>) -> Option<&str>
+pub fn backing_name(backing: &Option<BackingRef>) -> Option<&str>
     ensures { seen_text result ≡ backing_name (option_map seen_backing backing.now) }
 {
     match backing {
-        Some(Backing::Name(name)) => Some(name.as_str()),
-        Some(Backing::Null) | None => None,
+        Some(BackingRef::Name(name)) => Some(name.as_str()),
+        Some(BackingRef::Null) | None => None,
     }
 }
 

@@ -7,9 +7,9 @@ use Rattle.qmp_codec.specs.Forms.{text_in}
 use Rattle.qmp_codec.specs.Fields.{flag_if, amount_if}
 use Rattle.qmp_codec.specs.declared.bitmaps.BitmapAdd.{BitmapAdd}
 use Rattle.qmp_codec.specs.declared.bitmaps.BitmapName.{BitmapName}
-use Rattle.qmp_codec.specs.declared.bitmaps.Source.{Source}
+use Rattle.qmp_codec.specs.declared.bitmaps.MergeSource.{MergeSource}
 use Rattle.qmp_codec.specs.declared.bitmaps.BitmapMerge.{BitmapMerge}
-use Rattle.qmp_codec.specs.declared.bitmaps.Source.TheVariants as source
+use Rattle.qmp_codec.specs.declared.bitmaps.MergeSource.TheVariants as source
 
 abbrev pub bitmap_add_in : Data → BitmapAdd (List ℕ)
 bitmap_add_in d = record {
@@ -42,31 +42,32 @@ seen_bitmap_name c = record {
 }
 
 -- a bitmap of the command's node by its name, or with its node
-abbrev pub bitmap_source_in : Data → Source (List ℕ)
+abbrev pub bitmap_source_in : Data → MergeSource (List ℕ)
 bitmap_source_in (string name) = source.Name name
 bitmap_source_in d = source.Of (bitmap_name_in d)
 
-abbrev pub sources_of : Items → List (Source (List ℕ))
+abbrev pub sources_of : Items → List (MergeSource (List ℕ))
 sources_of no_items = []
 sources_of (item d ds) = bitmap_source_in d ∷ sources_of ds
 
-abbrev pub sources_or : Option Data → List (Source (List ℕ))
+abbrev pub sources_or : Option Data → List (MergeSource (List ℕ))
 sources_or (Some (array ds)) = sources_of ds
 sources_or _ = []
 
-abbrev pub seen_source : Source (String Global) → Source (List ℕ)
+abbrev pub seen_source : MergeSource (String Global) → MergeSource (List ℕ)
 seen_source (source.Name name) = source.Name (string_bytes name)
 seen_source (source.Of bitmap) = source.Of (seen_bitmap_name bitmap)
 
-abbrev pub bitmap_merge_in : Data → BitmapMerge (List ℕ) (List (Source (List ℕ)))
+abbrev pub bitmap_merge_in : Data → BitmapMerge (List ℕ) (List (MergeSource (List ℕ)))
 bitmap_merge_in d = record {
   node = text_in (codes "node") d;
   target = text_in (codes "target") d;
   bitmaps = sources_or (get (codes "bitmaps") d);
 }
 
-abbrev pub seen_bitmap_merge : BitmapMerge (String Global) (Vec (Source (String Global)) Global)
-    → BitmapMerge (List ℕ) (List (Source (List ℕ)))
+abbrev pub seen_bitmap_merge :
+    BitmapMerge (String Global) (Vec (MergeSource (String Global)) Global)
+    → BitmapMerge (List ℕ) (List (MergeSource (List ℕ)))
 seen_bitmap_merge c = record {
   node = string_bytes c.node;
   target = string_bytes c.target;

@@ -12,7 +12,7 @@ use Rattle.qmp_codec.specs.declared.verb.Verb.TheVariants as verb
 use Rattle.qmp_codec.specs.declared.verb.Deed.{Deed}
 use Rattle.qmp_codec.specs.declared.verb.Deed.TheVariants as deed
 use Rattle.qmp_codec.specs.Verbs.{deed_of}
-use Rattle.qmp_codec.specs.declared.bitmaps.Source.{Source}
+use Rattle.qmp_codec.specs.declared.bitmaps.MergeSource.{MergeSource}
 use Rattle.qmp_codec.specs.declared.command.Action.{Action}
 use Rattle.qmp_codec.specs.declared.command.Action.TheVariants as action
 use Rattle.qmp_codec.specs.declared.command.Transaction.{Transaction}
@@ -25,7 +25,7 @@ use Rattle.qmp_codec.specs.Nodes.{blockdev_add_in, blockdev_create_in, device_ad
 -- ---- values of the code, and the values that contracts compare: texts as bytes, vectors as lists
 
 abbrev pub SeenSources : Type 0
-SeenSources = List (Source (List ℕ))
+SeenSources = List (MergeSource (List ℕ))
 
 abbrev pub Act : Type 0
 Act = Action (List ℕ) SeenSources
@@ -35,7 +35,7 @@ abbrev pub Cmd : Type 0
 Cmd = Command (List ℕ) (List (List ℕ)) SeenSources (List Act)
 
 abbrev pub MadeSources : Type 0
-MadeSources = Vec (Source (String Global)) Global
+MadeSources = Vec (MergeSource (String Global)) Global
 
 abbrev pub MadeAction : Type 0
 MadeAction = Action (String Global) MadeSources

@@ -6,7 +6,7 @@ use Rattle.qmp_codec.specs.declared.event.EventName.{EventName}
 use Rattle.qmp_codec.specs.declared.event.EventName.TheVariants.{Ready, Completed, Cancelled}
 use Rattle.qmp_codec.specs.declared.event.JobKind.{JobKind}
 use Rattle.qmp_codec.specs.declared.event.JobKind.TheVariants.{Stream, Commit, Mirror, Backup}
-use Rattle.qmp_codec.specs.declared.event.Event.{Event}
+use Rattle.qmp_codec.specs.declared.event.JobEvent.{JobEvent}
 
 abbrev pub event_text : EventName → List ℕ
 event_text Ready = codes "BLOCK_JOB_READY"
@@ -25,7 +25,7 @@ error_before None ms = ms
 error_before (Some text) ms = member (codes "error") (string text.bytes) ms
 
 -- how far the job is
-abbrev pub progress : Event → Members
+abbrev pub progress : JobEvent → Members
 progress e =
     member (codes "len") (number (unsigned e.len))
     (member (codes "offset") (number (unsigned e.offset))
@@ -38,11 +38,11 @@ timestamp =
     object (member (codes "microseconds") (number (negative (negsuc 0)))
     (member (codes "seconds") (number (negative (negsuc 0))) no_members))
 
-abbrev pub job_data : Event → Data
+abbrev pub job_data : JobEvent → Data
 job_data e =
     object (member (codes "device") (string e.device.bytes) (error_before e.error (progress e)))
 
-abbrev pub event_data : Event → Data
+abbrev pub event_data : JobEvent → Data
 event_data e =
     object (member (codes "data") (job_data e)
     (member (codes "event") (string (event_text e.name))

@@ -23,11 +23,11 @@ use Rattle.qmp_codec.specs.declared.nodes.BlockdevCreate.{BlockdevCreate}
 use Rattle.qmp_codec.specs.declared.nodes.Snapshot.{Snapshot}
 use Rattle.qmp_codec.specs.declared.nodes.DeviceAdd.{DeviceAdd}
 use Rattle.qmp_codec.specs.declared.nodes.FileRef.{FileRef}
-use Rattle.qmp_codec.specs.declared.nodes.Backing.{Backing}
+use Rattle.qmp_codec.specs.declared.nodes.BackingRef.{BackingRef}
 use Rattle.qmp_codec.specs.declared.nodes.Added.{Added}
 use Rattle.qmp_codec.specs.declared.nodes.Created.{Created}
 use Rattle.qmp_codec.specs.declared.nodes.FileRef.TheVariants as file_ref
-use Rattle.qmp_codec.specs.declared.nodes.Backing.TheVariants as backing
+use Rattle.qmp_codec.specs.declared.nodes.BackingRef.TheVariants as backing
 use Rattle.qmp_codec.specs.declared.nodes.Added.TheVariants as added
 use Rattle.qmp_codec.specs.declared.nodes.Created.TheVariants as created
 
@@ -78,12 +78,12 @@ seen_file_ref (file_ref.Name name) = file_ref.Name (string_bytes name)
 seen_file_ref (file_ref.Inline file) = file_ref.Inline (seen_inline_file file)
 
 -- a backing node by name, or none
-abbrev pub backing_if : Option Data → Option (Backing (List ℕ))
+abbrev pub backing_if : Option Data → Option (BackingRef (List ℕ))
 backing_if (Some null) = Some backing.Null
 backing_if (Some (string name)) = Some (backing.Name name)
 backing_if _ = None
 
-abbrev pub seen_backing : Backing (String Global) → Backing (List ℕ)
+abbrev pub seen_backing : BackingRef (String Global) → BackingRef (List ℕ)
 seen_backing backing.Null = backing.Null
 seen_backing (backing.Name name) = backing.Name (string_bytes name)
 

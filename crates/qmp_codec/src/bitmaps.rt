@@ -28,14 +28,14 @@ pub struct BitmapName<T = String> {
 
 /// A bitmap that is merged: of the command's node, or of a node by its name.
 #[derive(Drop)]
-pub enum Source<T = String> {
+pub enum MergeSource<T = String> {
     Name(T),
     Of(BitmapName<T>),
 }
 
 /// `block-dirty-bitmap-merge`: the sources, in order, are merged into the target.
 #[derive(Drop)]
-pub struct BitmapMerge<T = String, S = Vec<Source>> {
+pub struct BitmapMerge<T = String, S = Vec<MergeSource>> {
     pub node: T,
     pub target: T,
     pub bitmaps: S,
@@ -62,17 +62,17 @@ pub(crate) fn read_bitmap_name(alloc: Global, object: &Value) -> Result<BitmapNa
     })
 }
 
-fn read_source(alloc: Global, item: &Value) -> Result<Source, AllocError>
+fn read_source(alloc: Global, item: &Value) -> Result<MergeSource, AllocError>
     ensures { IfOk result (λ s. seen_source s ≡ bitmap_source_in (view item.now)) }
 {
     match item {
-        Value::String(name) => Ok(Source::Name(name.clone()?)),
-        _ => Ok(Source::Of(read_bitmap_name(alloc, item)?)),
+        Value::String(name) => Ok(MergeSource::Name(name.clone()?)),
+        _ => Ok(MergeSource::Of(read_bitmap_name(alloc, item)?)),
     }
 }
 
 #[tactic(auto, using(crate::proofs::Items::items_step, crate::proofs::Items::items_end, crate::proofs::Items::map_push))]
-fn read_items(alloc: Global, items: &Vec<Value>) -> Result<Vec<Source>, AllocError>
+fn read_items(alloc: Global, items: &Vec<Value>) -> Result<Vec<MergeSource>, AllocError>
     ensures { IfOk result (λ v. map seen_source v.items ≡ sources_of (items_view items.now.items)) }
 {
     let mut sources = Vec::with_capacity(alloc, items.len())?;
@@ -82,7 +82,7 @@ fn read_items(alloc: Global, items: &Vec<Value>) -> Result<Vec<Source>, AllocErr
     Ok(sources)
 }
 
-fn read_sources(alloc: Global, object: &Value) -> Result<Vec<Source>, AllocError>
+fn read_sources(alloc: Global, object: &Value) -> Result<Vec<MergeSource>, AllocError>
     ensures { IfOk result
         (λ v. map seen_source v.items ≡ sources_or (get (codes "bitmaps") (view object.now))) }
 {

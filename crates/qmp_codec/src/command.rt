@@ -7,7 +7,7 @@ ghost use Rattle.qmp_codec.specs.Words.{completion_mode_of};
 ghost use Rattle.qmp_codec.specs.Commands.{seen_action, action_by, action_of, actions_of, actions_or, completion_in, seen_transaction, transaction_in, item_text, texts_of, texts_if, seen_command, command_of};
 
 use crate::bitmaps::{
-    BitmapAdd, BitmapMerge, BitmapName, Source, read_bitmap_add, read_bitmap_merge,
+    BitmapAdd, BitmapMerge, BitmapName, MergeSource, read_bitmap_add, read_bitmap_merge,
     read_bitmap_name,
 };
 use crate::fields::{maybe_flag, maybe_str, text_at};
@@ -26,7 +26,7 @@ use std::alloc::{AllocError, Global};
 
 /// An action of a transaction.
 #[derive(Drop)]
-pub enum Action<T = String, S = Vec<Source>> {
+pub enum Action<T = String, S = Vec<MergeSource>> {
     Abort,
     Snapshot(Snapshot<T>),
     Backup(Backup<T>),
@@ -49,7 +49,7 @@ pub struct Transaction<A = Vec<Action>> {
 
 /// A command with its members. Which values they may have is looked at elsewhere.
 #[derive(Drop)]
-pub enum Command<T = String, N = Vec<String>, S = Vec<Source>, A = Vec<Action>> {
+pub enum Command<T = String, N = Vec<String>, S = Vec<MergeSource>, A = Vec<Action>> {
     /// `qmp_capabilities`, with what is to be enabled.
     Capabilities(Option<N>),
     BlockdevCreate(BlockdevCreate<T>),

@@ -59,7 +59,7 @@ impl JobKind {
 
 /// What a job tells.
 #[derive(Drop)]
-pub struct Event {
+pub struct JobEvent {
     pub name: EventName,
     /// The job's id.
     pub device: Text,
@@ -73,7 +73,7 @@ pub struct Event {
 }
 
 /// What a job that failed tells of itself.
-fn failed_value(alloc: Global, event: &Event, error: &Text) -> Result<Value, AllocError>
+fn failed_value(alloc: Global, event: &JobEvent, error: &Text) -> Result<Value, AllocError>
     ensures { IfOk result
         (λ v. view v ≡ object (member (codes "device") (string event.now.device.bytes)
         (error_before (Some error.now) (progress event.now)))) }
@@ -86,7 +86,7 @@ fn failed_value(alloc: Global, event: &Event, error: &Text) -> Result<Value, All
 }
 
 /// What a job that didn't fail tells of itself.
-fn sound_value(alloc: Global, event: &Event) -> Result<Value, AllocError>
+fn sound_value(alloc: Global, event: &JobEvent) -> Result<Value, AllocError>
     ensures { IfOk result
         (λ v. view v ≡ object (member (codes "device") (string event.now.device.bytes)
         (error_before None (progress event.now)))) }
@@ -98,7 +98,7 @@ fn sound_value(alloc: Global, event: &Event) -> Result<Value, AllocError>
     json!(in alloc; {"device": device, "len": len, "offset": offset, "speed": 0u64, "type": kind})
 }
 
-fn job_value(alloc: Global, event: &Event) -> Result<Value, AllocError>
+fn job_value(alloc: Global, event: &JobEvent) -> Result<Value, AllocError>
     ensures { IfOk result (λ v. view v ≡ job_data event.now) }
 {
     match &event.error {
@@ -114,7 +114,7 @@ fn no_time(alloc: Global) -> Result<Value, AllocError>
     json!(in alloc; {"microseconds": -1i64, "seconds": -1i64})
 }
 
-fn event_value(alloc: Global, event: &Event) -> Result<Value, AllocError>
+fn event_value(alloc: Global, event: &JobEvent) -> Result<Value, AllocError>
     ensures { IfOk result (λ v. view v ≡ event_data event.now) }
 {
     let data = job_value(alloc, event)?;
@@ -124,7 +124,7 @@ fn event_value(alloc: Global, event: &Event) -> Result<Value, AllocError>
 }
 
 /// The line of an event, without an end of line: compact, members ascending. It reads back as the same value.
-pub fn print_event(alloc: Global, event: &Event) -> Result<Text, NoMemory>
+pub fn print_event(alloc: Global, event: &JobEvent) -> Result<Text, NoMemory>
     ensures text { IfOk result (λ t. t.bytes ≡ compact_text (event_data event.now)) }
     ensures reads_back { IfOk result (λ t. read t.bytes ≡ Some (event_data event.now)) }
 {

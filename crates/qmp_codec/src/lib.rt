@@ -18,15 +18,15 @@ mod verb;
 mod walk;
 mod words;
 
-pub use bitmaps::{BitmapAdd, BitmapMerge, BitmapName, Source};
+pub use bitmaps::{BitmapAdd, BitmapMerge, BitmapName, MergeSource};
 pub use command::{Action, Command, Transaction};
-pub use event::{Event, EventName, JobKind, print_event};
+pub use event::{EventName, JobEvent, JobKind, print_event};
 pub use fields::Amount;
 pub use jobs::{Backup, Commit, JobOptions, Mirror, Stream};
 pub use line::{asks_for_capabilities, read_command, read_id};
 pub use nodes::{
-    AddQcow2, AddRaw, Added, Backing, BlockdevAdd, BlockdevCreate, Cache, CreateFile, CreateQcow2,
-    Created, DeviceAdd, FileRef, InlineFile, NodeOptions, Snapshot,
+    AddQcow2, AddRaw, Added, BackingRef, BlockdevAdd, BlockdevCreate, Cache, CreateFile,
+    CreateQcow2, Created, DeviceAdd, FileRef, InlineFile, NodeOptions, Snapshot,
 };
 pub use reply::{Class, Reply, print_reply};
 pub use stop::CodecStop;

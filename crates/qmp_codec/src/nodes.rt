@@ -51,7 +51,7 @@ pub enum FileRef<T = String> {
 
 /// The backing member of a qcow2 node: a node, or that there is none.
 #[derive(Drop)]
-pub enum Backing<T = String> {
+pub enum BackingRef<T = String> {
     Null,
     Name(T),
 }
@@ -68,7 +68,7 @@ pub struct AddRaw<T = String> {
 #[derive(Drop)]
 pub struct AddQcow2<T = String> {
     pub file: FileRef<T>,
-    pub backing: Option<Backing<T>>,
+    pub backing: Option<BackingRef<T>>,
 }
 
 /// What is added, by its driver.
@@ -212,13 +212,13 @@ fn read_file_ref(alloc: Global, object: &Value) -> Result<FileRef, AllocError>
     }
 }
 
-fn maybe_backing(alloc: Global, object: &Value) -> Result<Option<Backing>, AllocError>
+fn maybe_backing(alloc: Global, object: &Value) -> Result<Option<BackingRef>, AllocError>
     ensures { IfOk result
         (λ c. option_map seen_backing c ≡ backing_if (get (codes "backing") (view object.now))) }
 {
     match object.get("backing") {
-        Some(Value::Null) => Ok(Some(Backing::Null)),
-        Some(Value::String(name)) => Ok(Some(Backing::Name(name.clone()?))),
+        Some(Value::Null) => Ok(Some(BackingRef::Null)),
+        Some(Value::String(name)) => Ok(Some(BackingRef::Name(name.clone()?))),
         _ => Ok(None),
     }
 }

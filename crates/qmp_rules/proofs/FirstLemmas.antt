@@ -11,32 +11,32 @@ use Rattle.qmp_asks.specs.Asking.{Asking}
 use Rattle.qmp_rules.specs.Asks.{holds, first_unmet_ask}
 use Rattle.qmp_asks.specs.Seen.{seen_ask, seen_asks}
 
-abbrev pub Given : Type 0
-Given = Ask (Bor (List ℕ))
+abbrev pub GivenAsk : Type 0
+GivenAsk = Ask (Bor (List ℕ))
 
 -- what is left of the list begins with this ask
-first_here : (t : RunTable) (told : Told) (asks : List Given) (i : ℕ) (a : Given) → i < length asks → a ≡ get_or asks i a
+first_here : (t : RunTable) (told : Told) (asks : List GivenAsk) (i : ℕ) (a : GivenAsk) → i < length asks → a ≡ get_or asks i a
     → first_unmet_ask t told (seen_asks (drop i asks))
     ≡ or_else (holds t told (seen_ask a)) (first_unmet_ask t told (seen_asks (drop (i + 1) asks)))
 first_here t told asks i a within is =
     at_drop_more (λ rest. first_unmet_ask t told (seen_asks rest)) asks i a within
     ∙ ap (λ b. or_else (holds t told (seen_ask b)) (first_unmet_ask t told (seen_asks (drop (i + 1) asks)))) (sym is)
 
-pub first_met : (t : RunTable) (told : Told) (asks : List Given) (i : ℕ) (a : Given) → i < length asks
+pub first_met : (t : RunTable) (told : Told) (asks : List GivenAsk) (i : ℕ) (a : GivenAsk) → i < length asks
     → a ≡ get_or asks i a → None ≡ holds t told (seen_ask a)
     → first_unmet_ask t told (seen_asks (drop i asks)) ≡ first_unmet_ask t told (seen_asks (drop (i + 1) asks))
 first_met t told asks i a within is looked =
     first_here t told asks i a within is
     ∙ ap (λ f. or_else f (first_unmet_ask t told (seen_asks (drop (i + 1) asks)))) (sym looked)
 
-pub first_unmet : (t : RunTable) (told : Told) (asks : List Given) (i : ℕ) (a : Given) (cause : Refusal) → i < length asks
+pub first_unmet : (t : RunTable) (told : Told) (asks : List GivenAsk) (i : ℕ) (a : GivenAsk) (cause : Refusal) → i < length asks
     → a ≡ get_or asks i a → Some cause ≡ holds t told (seen_ask a)
     → first_unmet_ask t told (seen_asks (drop i asks)) ≡ Some cause
 first_unmet t told asks i a cause within is looked =
     first_here t told asks i a within is
     ∙ ap (λ f. or_else f (first_unmet_ask t told (seen_asks (drop (i + 1) asks)))) (sym looked)
 
-pub first_end : (t : RunTable) (told : Told) (asks : List Given) (i : ℕ) → length asks ≤ i
+pub first_end : (t : RunTable) (told : Told) (asks : List GivenAsk) (i : ℕ) → length asks ≤ i
     → first_unmet_ask t told (seen_asks (drop i asks)) ≡ None
 first_end t told asks i past = at_drop_all (λ rest. first_unmet_ask t told (seen_asks rest)) asks i past
 

@@ -12,20 +12,20 @@ use Rattle.qmp_rules.proofs.ChainLemmas.{below_some}
 
 -- ---- rows of the same nodes, which are of the same kinds
 
-pub record IsAlike (a b : NodeRecord) : Type 0 where
+pub record IsNodeAlike (a b : NodeRecord) : Type 0 where
   pub id : b.id ≡ a.id
   pub kind : b.kind ≡ a.kind
 
-abbrev pub AreAlike : List NodeRecord → List NodeRecord → Type 0
-AreAlike [] [] = Unit {0}
-AreAlike (a ∷ old) (b ∷ new) = IsAlike a b × AreAlike old new
-AreAlike _ _ = ⊥
+abbrev pub AreNodesAlike : List NodeRecord → List NodeRecord → Type 0
+AreNodesAlike [] [] = Unit {0}
+AreNodesAlike (a ∷ old) (b ∷ new) = IsNodeAlike a b × AreNodesAlike old new
+AreNodesAlike _ _ = ⊥
 
-pub alike_itself : (rows : List NodeRecord) → AreAlike rows rows
+pub alike_itself : (rows : List NodeRecord) → AreNodesAlike rows rows
 alike_itself [] = tt
 alike_itself (row ∷ rows) = (record { id = refl; kind = refl }, alike_itself rows)
 
-pub alike_set : (old new : List NodeRecord) (at : ℕ) (row now : NodeRecord) → AreAlike old new → slice_get new at ≡ Some row → IsAlike row now → AreAlike old (set new at now)
+pub alike_set : (old new : List NodeRecord) (at : ℕ) (row now : NodeRecord) → AreNodesAlike old new → slice_get new at ≡ Some row → IsNodeAlike row now → AreNodesAlike old (set new at now)
 alike_set [] [] at row now all is one = tt
 alike_set (a ∷ old) (b ∷ new) zero row now all is one =
     let same : b ≡ row = same_Some b row is in
@@ -38,7 +38,7 @@ alike_set (a ∷ old) [] at row now all is one = absurd all
 abbrev pub role_in : Option NodeRecord → Option Role
 role_in found = option_and_then (λ (row : NodeRecord). filter_role row.kind) found
 
-role_alike : (old new : List NodeRecord) (id : ℕ) → AreAlike old new → role_in (find (λ row. row.id == id) new) ≡ role_in (find (λ row. row.id == id) old)
+role_alike : (old new : List NodeRecord) (id : ℕ) → AreNodesAlike old new → role_in (find (λ row. row.id == id) new) ≡ role_in (find (λ row. row.id == id) old)
 role_alike [] [] id all = refl
 role_alike (a ∷ old) (b ∷ new) id all =
     ap (λ n. role_in (cond (n == id) (Some b) (find (λ row. row.id == id) new))) all.0.id ∙ by_test (a.id == id) (role_alike old new id all.1)
@@ -52,7 +52,7 @@ role_alike (a ∷ old) [] id all = absurd all
 
 -- ---- chains over such rows
 
-module _ (t : RunTable) (rows : List NodeRecord) (all : AreAlike t.nodes rows) where
+module _ (t : RunTable) (rows : List NodeRecord) (all : AreNodesAlike t.nodes rows) where
   abbrev now : RunTable
   now = record t { nodes = rows }
 
@@ -100,10 +100,10 @@ module _ (t : RunTable) (rows : List NodeRecord) (all : AreAlike t.nodes rows) w
 
 -- ---- row by row
 
-pub like_over : (t : RunTable) (node : ℕ) (row : NodeRecord) → IsAlike row (unsettled_over t node row)
+pub like_over : (t : RunTable) (node : ℕ) (row : NodeRecord) → IsNodeAlike row (unsettled_over t node row)
 like_over t node row = by_test (is_over t node row.id)
   where
-    by_test : (b : Bool) → IsAlike row (cond b (record row { is_settled = false }) row)
+    by_test : (b : Bool) → IsNodeAlike row (cond b (record row { is_settled = false }) row)
     by_test true = record { id = refl; kind = refl }
     by_test false = record { id = refl; kind = refl }
 
@@ -116,7 +116,7 @@ step f (x ∷ rows) (suc at) row is = ap (λ rest. x ∷ rest) (step f rows at r
 -- the rows from a place on are still to be written
 pub record AreWrittenTo (t : RunTable) (node at : ℕ) (rows : List NodeRecord) : Type 0 where
   pub so_far : take at rows ++ map (unsettled_over t node) (drop at rows) ≡ map (unsettled_over t node) t.nodes
-  pub alike : AreAlike t.nodes rows
+  pub alike : AreNodesAlike t.nodes rows
   pub count : length rows ≡ length t.nodes
 
 pub written_none : (t : RunTable) (node : ℕ) → AreWrittenTo t node 0 t.nodes

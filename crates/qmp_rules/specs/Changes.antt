@@ -9,9 +9,9 @@ use Rattle.blk_graph.specs.Refreshed.{refreshed}
 use Rattle.qmp_rules.specs.declared.change.Change.{Change}
 use Rattle.qmp_rules.specs.declared.change.Change.TheVariants as change
 use Rattle.qmp_rules.specs.declared.rows.NodeRecord.{NodeRecord}
-use Rattle.qmp_rules.specs.declared.rows.Device.{Device}
-use Rattle.qmp_rules.specs.declared.rows.Asked.{Asked}
-use Rattle.qmp_rules.specs.declared.rows.Asked.TheVariants as asked
+use Rattle.qmp_rules.specs.declared.rows.DeviceRow.{DeviceRow}
+use Rattle.qmp_rules.specs.declared.rows.AskedEnd.{AskedEnd}
+use Rattle.qmp_rules.specs.declared.rows.AskedEnd.TheVariants as asked
 use Rattle.qmp_rules.specs.declared.rows.JobRecord.{JobRecord}
 use Rattle.qmp_rules.specs.declared.rows.UsedBitmap.{UsedBitmap}
 use Rattle.qmp_rules.specs.declared.rows.BitmapRow.{BitmapRow}
@@ -89,20 +89,20 @@ abbrev pub filtered_edges : ℕ → ℕ → List Edge → List Edge
 filtered_edges filter node edges = with_filter node filter idle_uses.perm idle_uses.shared edges
 
 -- what is still to follow of what a job is asked: once it is to end cancelled, no later command changes that
-abbrev pub followed : Asked → Asked → Asked
+abbrev pub followed : AskedEnd → AskedEnd → AskedEnd
 followed asked.Stop new = asked.Stop
 followed old new = new
 
-abbrev pub asked_for : ℕ → Asked → JobRecord → JobRecord
+abbrev pub asked_for : ℕ → AskedEnd → JobRecord → JobRecord
 asked_for number new job =
     if job.number == number then record job { asked = followed job.asked new } else job
 
 -- ---- devices and ids
 
-abbrev pub without_device : ℕ → List Device → List Device
+abbrev pub without_device : ℕ → List DeviceRow → List DeviceRow
 without_device number devices = filter (λ device. not (device.number == number)) devices
 
-abbrev pub device_edge : Device → ℕ → Edge
+abbrev pub device_edge : DeviceRow → ℕ → Edge
 device_edge device node = drive_edge device.number node (not device.read_only) device.share_rw
 
 abbrev pub without_name : List ℕ → List (List ℕ) → List (List ℕ)

@@ -40,9 +40,9 @@ use Rattle.qmp_codec.specs.Commands.{Act, Cmd, SeenSources}
 use Rattle.qmp_rules.specs.declared.change.Change.{Change}
 use Rattle.qmp_rules.specs.declared.change.Change.TheVariants.{Negotiate, KeepId, DropId, MakeFile, FormatFile, SpoilFile, UseFile, AddFile, AddFormat, AddFilter, RemoveNode, Unsettle, MakeWritable, PutFilter, UseNode, StartJob, AskJob, AddDevice, RemoveDevice, Attach, Move, AddBitmap, RemoveBitmap, TurnBitmap, ClearBitmap, MergeBitmap}
 use Rattle.qmp_rules.specs.declared.rows.NodeRecord.{NodeRecord}
-use Rattle.qmp_rules.specs.declared.rows.Device.{Device}
-use Rattle.qmp_rules.specs.declared.rows.Asked.{Asked}
-use Rattle.qmp_rules.specs.declared.rows.Asked.TheVariants as asked
+use Rattle.qmp_rules.specs.declared.rows.DeviceRow.{DeviceRow}
+use Rattle.qmp_rules.specs.declared.rows.AskedEnd.{AskedEnd}
+use Rattle.qmp_rules.specs.declared.rows.AskedEnd.TheVariants as asked
 use Rattle.qmp_rules.specs.declared.rows.BitmapRow.{BitmapRow}
 use Rattle.qmp_rules.specs.declared.rows.JobRecord.{JobRecord}
 use Rattle.qmp_rules.specs.declared.rows.MadeWritable.{MadeWritable}
@@ -78,7 +78,7 @@ place_from k name (other ∷ names) =
     if bytes_eq other name then Some k else place_from (k + 1) name names
 
 -- the lowest of so many numbers from one on that no device has
-abbrev pub unused_from : ℕ → ℕ → List Device → ℕ
+abbrev pub unused_from : ℕ → ℕ → List DeviceRow → ℕ
 unused_from zero k devices = k
 unused_from (suc more) k devices =
     if list_any (λ device. device.number == k) devices then unused_from more (k + 1) devices else k
@@ -241,7 +241,7 @@ del_edits t name = of_row (row_gone t) (node_named t name)
 
 -- ---- devices
 
-abbrev pub new_device : RunTable → DeviceAdd (List ℕ) → NodeRecord → Device
+abbrev pub new_device : RunTable → DeviceAdd (List ℕ) → NodeRecord → DeviceRow
 new_device t c row = record {
   id = c.id;
   number = device_number t c.id;
@@ -477,11 +477,11 @@ abbrev pub leaves_copy : Bool → Bool → JobKind → Bool
 leaves_copy false true job_kind.Mirror = true
 leaves_copy force is_ready what = false
 
-abbrev pub asked_by_cancel : Bool → JobRecord → Asked
+abbrev pub asked_by_cancel : Bool → JobRecord → AskedEnd
 asked_by_cancel force job =
     if leaves_copy force job.is_ready job.kind then asked.Leave else asked.Stop
 
-abbrev pub ask_edits : RunTable → List ℕ → (JobRecord → Asked) → List Change
+abbrev pub ask_edits : RunTable → List ℕ → (JobRecord → AskedEnd) → List Change
 ask_edits t id ask =
     elim (job_named t id) as (λ _. List Change) [
       | None ↦ []

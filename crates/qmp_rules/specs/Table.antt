@@ -10,7 +10,7 @@ use Rattle.blk_graph.specs.declared.kind.NodeKind.{NodeKind}
 use Rattle.blk_graph.specs.Edits.{child_of}
 use Rattle.blk_graph.specs.Refreshed.{no_kind}
 use Rattle.qmp_rules.specs.declared.rows.NodeRecord.{NodeRecord}
-use Rattle.qmp_rules.specs.declared.rows.Device.{Device}
+use Rattle.qmp_rules.specs.declared.rows.DeviceRow.{DeviceRow}
 use Rattle.qmp_rules.specs.declared.rows.JobRecord.{JobRecord}
 use Rattle.qmp_rules.specs.declared.rows.BitmapRow.{BitmapRow}
 use Rattle.qmp_rules.specs.declared.rows.FileRow.{FileRow}
@@ -23,7 +23,7 @@ pub record RunTable : Type 0 where
   pub nodes : List NodeRecord
   pub edges : List Edge
   pub guests : List (List ℕ)
-  pub devices : List Device
+  pub devices : List DeviceRow
   pub jobs : List JobRecord
   -- how many jobs were started so far
   pub started : ℕ
@@ -61,10 +61,10 @@ id_named t name = option_map (λ row. row.id) (node_named t name)
 abbrev pub node_by_id : RunTable → ℕ → Option NodeRecord
 node_by_id t id = find (λ row. row.id == id) t.nodes
 
-abbrev pub device_named : RunTable → List ℕ → Option Device
+abbrev pub device_named : RunTable → List ℕ → Option DeviceRow
 device_named t name = find (λ device. bytes_eq device.id name) t.devices
 
-abbrev pub device_by_number : RunTable → ℕ → Option Device
+abbrev pub device_by_number : RunTable → ℕ → Option DeviceRow
 device_by_number t number = find (λ device. device.number == number) t.devices
 
 abbrev pub job_named : RunTable → List ℕ → Option JobRecord

@@ -8,7 +8,7 @@ ghost use Rattle.qmp_rules.specs.Room.{HasRoomForChanges, TakesLittle};
 
 use crate::change::{Change, Edits};
 use crate::edges::{ALL, NOTHING, drive_edge, job_edge, node_edge};
-use crate::rows::{Device, FileState, JobRecord, NodeRecord};
+use crate::rows::{DeviceRow, FileState, JobRecord, NodeRecord};
 use crate::table::Names;
 use blk_graph::{JobUse, MOST_NODES, NodeId, Parent, Role};
 use qmp_asks::Name;
@@ -120,7 +120,7 @@ impl Names {
     }
 
     #[tactic(auto, unfolding(crate::specs::Changes::changed))]
-    fn add_device(&mut self, device: Device, node: NodeId)
+    fn add_device(&mut self, device: DeviceRow, node: NodeId)
         requires room { HasRoomForChanges 1 self.old }
         requires number { device.number < 80 }
         ensures table { self.new.table ≡ changed self.old.table (Change.AddDevice device node) }

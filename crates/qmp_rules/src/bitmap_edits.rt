@@ -10,7 +10,7 @@ use crate::table::Names;
 use blk_base::NoMemory;
 use blk_graph::NodeId;
 use qmp_asks::{Name, amount_or, flag_or_false, source_name, source_node};
-use qmp_codec::{BitmapAdd, BitmapMerge, BitmapName, Source};
+use qmp_codec::{BitmapAdd, BitmapMerge, BitmapName, MergeSource};
 use std::alloc::Global;
 
 fn bitmap_row(alloc: Global, node: NodeId, c: &BitmapAdd) -> Result<BitmapRow, NoMemory>
@@ -100,7 +100,7 @@ impl Names {
         alloc: Global,
         edits: &mut Vec<Change>,
         c: &BitmapMerge,
-        source: &Source,
+        source: &MergeSource,
     ) -> Result<(), NoMemory>
         ensures { OnOk result (edits.new.items ≡ edits.old.items
             ++ merges self.now.table (seen_bitmap_merge c.now).node (seen_bitmap_merge c.now).target

@@ -1,7 +1,7 @@
 //! What commands do to the table: one kind of change each.
 ghost use Rattle.std.specs.Prelude.{◌≡◌, ◌==◌, ◌∷◌, [], IfNone, IfSome, length};
 
-use crate::rows::{Asked, BitmapRow, Device, JobRecord, NodeRecord};
+use crate::rows::{AskedEnd, BitmapRow, DeviceRow, JobRecord, NodeRecord};
 use blk_graph::{JobUse, NodeId};
 use qmp_asks::Name;
 use qmp_codec::ImageFormat;
@@ -68,11 +68,11 @@ pub enum Change {
     /// The job of this number is asked for that, unless it was to end cancelled.
     AskJob {
         number: u32,
-        asked: Asked,
+        asked: AskedEnd,
     },
     /// A device is there, and uses the node as its drive.
     AddDevice {
-        device: Device,
+        device: DeviceRow,
         node: NodeId,
     },
     /// The device of this number goes, with its edge.

@@ -4,7 +4,7 @@ ghost use Rattle.qmp_rules.specs.Changes.{asked_for, bitmap_changed, bitmaps_but
 ghost use Rattle.qmp_rules.specs.Table.{has_file, row_in_state, kind_of_record, kinds_of, with_file};
 
 use crate::find;
-use crate::rows::{Asked, BitmapRow, Device, FileRow, FileState, JobRecord, NodeRecord};
+use crate::rows::{AskedEnd, BitmapRow, DeviceRow, FileRow, FileState, JobRecord, NodeRecord};
 use blk_graph::{MOST_NODES, NO_KIND, NodeId, NodeKind};
 use qmp_asks::Name;
 
@@ -107,7 +107,7 @@ pub(crate) fn kinds_of(rows: &[NodeRecord]) -> [NodeKind; MOST_NODES]
     kinds
 }
 
-pub(crate) fn drop_device(rows: &mut Vec<Device>, number: u32)
+pub(crate) fn drop_device(rows: &mut Vec<DeviceRow>, number: u32)
     ensures items { rows.new.items ≡ without_device number rows.old.items }
     ensures count { vec_len rows.new ≤ vec_len rows.old }
     ensures capacity { vec_capacity rows.new ≡ vec_capacity rows.old }
@@ -179,16 +179,16 @@ pub(crate) fn drop_name(names: &mut Vec<Name>, name: &str)
     names.retain(|other| other.as_str() != name);
 }
 
-fn followed(old: Asked, new: Asked) -> Asked
+fn followed(old: AskedEnd, new: AskedEnd) -> AskedEnd
     ensures { result ≡ followed old new }
 {
     match old {
-        Asked::Stop => Asked::Stop,
-        Asked::Nothing | Asked::Complete | Asked::Leave => new,
+        AskedEnd::Stop => AskedEnd::Stop,
+        AskedEnd::Nothing | AskedEnd::Complete | AskedEnd::Leave => new,
     }
 }
 
-fn ask_one(row: &mut JobRecord, number: u32, asked: Asked)
+fn ask_one(row: &mut JobRecord, number: u32, asked: AskedEnd)
     ensures { row.new ≡ asked_for number asked row.old }
 {
     if row.number == number {
@@ -196,7 +196,7 @@ fn ask_one(row: &mut JobRecord, number: u32, asked: Asked)
     }
 }
 
-pub(crate) fn ask_job(rows: &mut Vec<JobRecord>, number: u32, asked: Asked)
+pub(crate) fn ask_job(rows: &mut Vec<JobRecord>, number: u32, asked: AskedEnd)
     ensures items { rows.new.items ≡ map (asked_for number asked) rows.old.items }
     ensures count { vec_len rows.new ≡ vec_len rows.old }
     ensures capacity { vec_capacity rows.new ≡ vec_capacity rows.old }

@@ -10,7 +10,7 @@ ghost use Rattle.qmp_rules.specs.Edits.{create_edits, created_change, del_edits,
 ghost use Rattle.qmp_asks.specs.Seen.{seen_text};
 
 use crate::change::Change;
-use crate::rows::{Device, NodeRecord};
+use crate::rows::{DeviceRow, NodeRecord};
 use crate::table::Names;
 use crate::told::Told;
 use crate::unmet::{name_of_file, takes};
@@ -110,7 +110,7 @@ fn place_of(names: &[Name], name: &str) -> Option<usize>
     None
 }
 
-fn has_number(devices: &[Device], number: u128) -> bool
+fn has_number(devices: &[DeviceRow], number: u128) -> bool
     ensures { result ≡ list_any (λ device. device.number == number) devices.now }
 {
     devices
@@ -119,7 +119,7 @@ fn has_number(devices: &[Device], number: u128) -> bool
 }
 
 /// The lowest of 64 numbers from one on that no device has, or else the one behind them.
-fn unused_number(devices: &[Device], first: usize) -> u128
+fn unused_number(devices: &[DeviceRow], first: usize) -> u128
     ensures { result ≡ unused_from 64 first devices.now }
 {
     for k in 0..64u32 {
@@ -379,11 +379,16 @@ impl Names {
         }
     }
 
-    fn new_device(&self, alloc: Global, c: &DeviceAdd, row: &NodeRecord) -> Result<Device, NoMemory>
+    fn new_device(
+        &self,
+        alloc: Global,
+        c: &DeviceAdd,
+        row: &NodeRecord,
+    ) -> Result<DeviceRow, NoMemory>
         ensures { IfOk result
             (λ device. device ≡ new_device self.now.table (seen_device_add c.now) row.now) }
     {
-        Ok(Device {
+        Ok(DeviceRow {
             id: Name::copied(alloc, c.id.as_str())?,
             number: self.device_number(c.id.as_str())?,
             share_rw: shares(c.share_rw),

@@ -6,7 +6,7 @@ ghost use Rattle.qmp_rules.specs.Asks.{stands_for};
 ghost use Rattle.qmp_rules.specs.Chains.{holds_any, holds_so};
 ghost use Rattle.qmp_rules.specs.Table.{first_into, has_name, is_bitmap};
 
-use crate::rows::{BitmapRow, Device, FileRow, FileState, JobRecord, NodeRecord};
+use crate::rows::{BitmapRow, DeviceRow, FileRow, FileState, JobRecord, NodeRecord};
 use blk_graph::{Edge, NodeId};
 use qmp_asks::Name;
 
@@ -22,13 +22,13 @@ pub(crate) fn node_at(rows: &[NodeRecord], id: NodeId) -> Option<&NodeRecord>
     rows.iter().find(|row| row.id == id)
 }
 
-pub(crate) fn device_named<'x>(rows: &'x [Device], name: &str) -> Option<&'x Device>
+pub(crate) fn device_named<'x>(rows: &'x [DeviceRow], name: &str) -> Option<&'x DeviceRow>
     ensures { option_copied result ≡ find (λ device. bytes_eq device.id name.now) rows.now }
 {
     rows.iter().find(|device| device.id.as_str() == name)
 }
 
-pub(crate) fn device_at(rows: &[Device], number: u32) -> Option<&Device>
+pub(crate) fn device_at(rows: &[DeviceRow], number: u32) -> Option<&DeviceRow>
     ensures { option_copied result ≡ find (λ device. device.number == number) rows.now }
 {
     rows.iter().find(|device| device.number == number)

@@ -29,8 +29,8 @@ pub use judge::PrepareStop;
 pub use laws::{refusals_have_the_place_of_their_ask, told_refusals_have_the_place_of_their_look};
 pub use refusal::{Crowd, FileFault, Refusal};
 pub use rows::{
-    Asked, BitmapRow, Device, FileRow, FileState, JobRecord, MadeWritable, NodeList, NodeRecord,
-    UsedBitmap,
+    AskedEnd, BitmapRow, DeviceRow, FileRow, FileState, JobRecord, MadeWritable, NodeList,
+    NodeRecord, UsedBitmap,
 };
 pub use table::Names;
 pub use told::{Amounts, Stopped, Told};

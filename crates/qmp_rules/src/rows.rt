@@ -67,7 +67,7 @@ impl Clone for NodeRecord {
 
 /// A device that is there. It may be that of a guest.
 #[derive(Drop)]
-pub struct Device {
+pub struct DeviceRow {
     pub id: Name,
     /// The guest's number, or one that no guest has.
     pub number: u32,
@@ -76,13 +76,13 @@ pub struct Device {
     pub read_only: bool,
 }
 
-impl Clone for Device {
+impl Clone for DeviceRow {
     ghost use Rattle.std.specs.Prelude.{◌≡◌};
 
     ghost is_clone = { λ row copy. copy ≡ row };
 
     fn clone(&self) -> Result<Self, AllocError> {
-        Ok(Device {
+        Ok(DeviceRow {
             id: self.id.clone()?,
             number: self.number,
             share_rw: self.share_rw,
@@ -137,7 +137,7 @@ impl NodeList {
 
 /// What a job was asked, of what it still has to follow.
 #[derive(Clone, Copy)]
-pub enum Asked {
+pub enum AskedEnd {
     Nothing,
     /// To complete.
     Complete,
@@ -189,7 +189,7 @@ pub struct JobRecord {
     pub is_ready: bool,
     /// The number of the first job of its group, where it has one.
     pub group: Option<u32>,
-    pub asked: Asked,
+    pub asked: AskedEnd,
     /// The source, or the top.
     pub source: NodeId,
     /// The target, or the base.

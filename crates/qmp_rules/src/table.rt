@@ -13,7 +13,7 @@ mod room;
 mod writing;
 
 use crate::find;
-use crate::rows::{BitmapRow, Device, FileRow, FileState, JobRecord, NodeRecord};
+use crate::rows::{BitmapRow, DeviceRow, FileRow, FileState, JobRecord, NodeRecord};
 use blk_base::NoMemory;
 use blk_graph::{Conflict, Edge, EdgeList, NodeId, Parent, Role};
 use qmp_asks::Name;
@@ -28,7 +28,7 @@ pub struct Names {
     edges: EdgeList,
     // by their numbers
     guests: Vec<Name>,
-    devices: Vec<Device>,
+    devices: Vec<DeviceRow>,
     jobs: Vec<JobRecord>,
     // how many jobs were ever started
     started: u32,
@@ -100,7 +100,7 @@ impl Names {
         self.edges.as_slice()
     }
 
-    pub fn devices(&self) -> &[Device]
+    pub fn devices(&self) -> &[DeviceRow]
         ensures { result.now ≡ self.now.table.devices }
     {
         self.devices.as_slice()
@@ -151,13 +151,13 @@ impl Names {
         find::node_at(self.nodes.as_slice(), id)
     }
 
-    pub fn device_named(&self, name: &str) -> Option<&Device>
+    pub fn device_named(&self, name: &str) -> Option<&DeviceRow>
         ensures { option_copied result ≡ device_named self.now.table name.now }
     {
         find::device_named(self.devices.as_slice(), name)
     }
 
-    pub fn device_at(&self, number: u32) -> Option<&Device>
+    pub fn device_at(&self, number: u32) -> Option<&DeviceRow>
         ensures { option_copied result ≡ device_by_number self.now.table number }
     {
         find::device_at(self.devices.as_slice(), number)

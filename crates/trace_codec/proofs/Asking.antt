@@ -9,8 +9,8 @@ use Rattle.blk_base.specs.Pieces.{Extent}
 use Rattle.trace_codec.specs.declared.op.Op.{Op}
 use Rattle.trace_codec.specs.declared.op.Op.TheVariants.{Read, Write, Zero, Flush, Discard}
 use Rattle.trace_codec.specs.declared.op.Payload.TheVariants.{Fill, Raw}
-use Rattle.trace_codec.specs.declared.line.Line.{Line}
-use Rattle.trace_codec.specs.declared.line.Line.TheVariants.{Passed, Asks, Bad}
+use Rattle.trace_codec.specs.declared.line.TraceLine.{TraceLine}
+use Rattle.trace_codec.specs.declared.line.TraceLine.TheVariants.{Passed, Asks, Bad}
 use Rattle.trace_codec.specs.declared.stop.TraceStop.{TraceStop}
 use Rattle.trace_codec.specs.declared.stop.TraceStop.TheVariants.{TooMany}
 use Rattle.trace_codec.specs.Number.{◌>>=◌, number_of, below}
@@ -175,7 +175,7 @@ each_push : (ops : List Op) (op : Op) → AllByRecursion IsRequest ops → IsReq
 each_push [] op all one = (one, tt)
 each_push (o ∷ ops) op all one = (all.0, each_push ops op all.1 one)
 
-each_after : (r next : Reading) (line : List ℕ) (says : Line) → line_of line ≡ says → AllByRecursion IsRequest r.ops → after_line r says ≡ Ok next → AllByRecursion IsRequest next.ops
+each_after : (r next : Reading) (line : List ℕ) (says : TraceLine) → line_of line ≡ says → AllByRecursion IsRequest r.ops → after_line r says ≡ Ok next → AllByRecursion IsRequest next.ops
 each_after r next line Passed e all h = let same : next_line r ≡ next = cc in subst (λ (q : Reading). AllByRecursion IsRequest q.ops) same all
 each_after r next line Bad e all h = cc
 each_after r next line (Asks op) e all h = ⊎_elim

@@ -4,8 +4,8 @@ use Rattle.std.specs.List.{AllByRecursion, cons_option}
 use Rattle.std.proofs.lemmas.Bool.{cases_Bool, or_parts, or_from}
 use Rattle.std.proofs.lemmas.List.{length_push}
 use Rattle.trace_codec.specs.declared.op.Op.{Op}
-use Rattle.trace_codec.specs.declared.line.Line.{Line}
-use Rattle.trace_codec.specs.declared.line.Line.TheVariants.{Passed, Asks, Bad}
+use Rattle.trace_codec.specs.declared.line.TraceLine.{TraceLine}
+use Rattle.trace_codec.specs.declared.line.TraceLine.TheVariants.{Passed, Asks, Bad}
 use Rattle.trace_codec.specs.declared.stop.TraceStop.{TraceStop}
 use Rattle.trace_codec.specs.declared.stop.TraceStop.TheVariants.{BadLine, TooMany, NoMemory}
 use Rattle.trace_codec.specs.Amounts.{Amounts, nothing}
@@ -89,10 +89,10 @@ may_pass : (r : Reading) → MayGoOn r → MayGoOn (next_line r)
 may_pass r m = record { number = omega arith; few = m.few; within = m.within }
 
 -- what the lines behind one show of all, by what that line says
-abbrev Goes : Reading → List (List ℕ) → Reading → Type 0
-Goes r lines s = MayGoOn r → after_lines r lines ≡ Ok s → Behind r lines s
+abbrev TakesLines : Reading → List (List ℕ) → Reading → Type 0
+TakesLines r lines s = MayGoOn r → after_lines r lines ≡ Ok s → Behind r lines s
 
-taken_line : (r s : Reading) (line : List ℕ) (lines : List (List ℕ)) → ((q : Reading) → Goes q lines s) → (l : Line) → line_of line ≡ l → MayGoOn r →
+taken_line : (r s : Reading) (line : List ℕ) (lines : List (List ℕ)) → ((q : Reading) → TakesLines q lines s) → (l : TraceLine) → line_of line ≡ l → MayGoOn r →
     (after_line r l >>= (λ next. after_lines next lines)) ≡ Ok s → Behind r (line ∷ lines) s
 taken_line r s line lines ih Passed e m h = more_passed r s line lines e (ih (next_line r) (may_pass r m) h)
 taken_line r s line lines ih Bad e m h = cc
@@ -102,7 +102,7 @@ taken_line r s line lines ih (Asks op) e m h = ⊎_elim
     (cases_Bool (passes_with r op))
 
 -- lines that are read to their end
-pub taken : (lines : List (List ℕ)) (r s : Reading) → Goes r lines s
+pub taken : (lines : List (List ℕ)) (r s : Reading) → TakesLines r lines s
 taken [] r s m h = let same : r ≡ s = cc in subst (λ q. Behind r [] q) same (same_reading r m)
 taken (line ∷ lines) r s m h = taken_line r s line lines (λ q. taken lines q s) (line_of line) refl m h
 
@@ -137,13 +137,13 @@ stopped [] r stop h = cc
 stopped (line ∷ lines) r stop h = stopped_line r stop line lines (λ q. stopped lines q stop) (after_line r (line_of line)) refl h
 
 -- before the first line
-abbrev pub start : Amounts → Reading
-start before = record { line = 1; ops = []; asked = before }
+abbrev pub first_reading : Amounts → Reading
+first_reading before = record { line = 1; ops = []; asked = before }
 
-may_start : (before : Amounts) → passes_total before ≡ false → MayGoOn (start before)
+may_start : (before : Amounts) → passes_total before ≡ false → MayGoOn (first_reading before)
 may_start before h = record { number = omega arith; few = omega arith; within = h }
 
-taken_few : (before : Amounts) (lines : List (List ℕ)) (s : Reading) → Behind (start before) lines s → AreLinesTaken before lines
+taken_few : (before : Amounts) (lines : List (List ℕ)) (s : Reading) → Behind (first_reading before) lines s → AreLinesTaken before lines
 taken_few before lines s b = record {
   good = b.good;
   few = or_from (ltb 65536 (length (requests_of lines))) (passes_total (with_ops before (requests_of lines)))
@@ -155,11 +155,11 @@ with_ops-push before [] op = refl
 with_ops-push before (first ∷ ops) op = with_ops-push (with_op before first) ops op
 
 -- one request more is too many behind these lines, as it is behind the reading that took them
-too_many_with : (before : Amounts) (front : List (List ℕ)) (s : Reading) (op : Op) → Behind (start before) front s → passes_with s op ≡ true → are_too_many before (requests_of front ++ op ∷ []) ≡ true
+too_many_with : (before : Amounts) (front : List (List ℕ)) (s : Reading) (op : Op) → Behind (first_reading before) front s → passes_with s op ≡ true → are_too_many before (requests_of front ++ op ∷ []) ≡ true
 too_many_with before front s op b t =
     rw (length_push (requests_of front) op) (rw (with_ops-push before (requests_of front) op) (rw b.asked at (rw b.ops at t)))
 
-cause_at : (before : Amounts) (front : List (List ℕ)) (line : List ℕ) (stop : TraceStop) (s : Reading) → Behind (start before) front s → (l : Line) → line_of line ≡ l → after_line s l ≡ Err stop → IsCause before front line stop
+cause_at : (before : Amounts) (front : List (List ℕ)) (line : List ℕ) (stop : TraceStop) (s : Reading) → Behind (first_reading before) front s → (l : TraceLine) → line_of line ≡ l → after_line s l ≡ Err stop → IsCause before front line stop
 cause_at before front line stop s b Passed e h = cc
 cause_at before front line stop s b Bad e h =
     let same : BadLine s.line ≡ stop = cc in
@@ -173,10 +173,10 @@ cause_at before front line stop s b (Asks op) e h = ⊎_elim
     (cases_Bool (passes_with s op))
 
 -- a refusal has its cause at the first line that has one
-stops_at : (before : Amounts) (lines : List (List ℕ)) (stop : TraceStop) → passes_total before ≡ false → after_lines (start before) lines ≡ Err stop → StopsAt before lines stop
+stops_at : (before : Amounts) (lines : List (List ℕ)) (stop : TraceStop) → passes_total before ≡ false → after_lines (first_reading before) lines ≡ Err stop → StopsAt before lines stop
 stops_at before lines stop within h =
-    let t = stopped lines (start before) stop h in
-    let b = taken t.front (start before) t.reading (may_start before within) t.read in
+    let t = stopped lines (first_reading before) stop h in
+    let b = taken t.front (first_reading before) t.reading (may_start before within) t.read in
     record {
       front = t.front;
       line = t.line;
@@ -197,12 +197,12 @@ refused_by before stop (Err e) h = let same : e ≡ stop = cc in ap (λ d. Err d
 pub trace_stops : (before : Amounts) (text : List ℕ) (stop : TraceStop) → passes_total before ≡ false → trace_of before text ≡ Err stop → StopsAt before (lines_of text) stop
 unfolding trace_of
 trace_stops before text stop within h =
-    stops_at before (lines_of text) stop within (refused_by before stop (after_lines (start before) (lines_of text)) h)
+    stops_at before (lines_of text) stop within (refused_by before stop (after_lines (first_reading before) (lines_of text)) h)
 
-taken_by : (before : Amounts) (lines : List (List ℕ)) (ops : List Op) (asked : Amounts) → passes_total before ≡ false → (x : Result Reading TraceStop) → after_lines (start before) lines ≡ x →
+taken_by : (before : Amounts) (lines : List (List ℕ)) (ops : List Op) (asked : Amounts) → passes_total before ≡ false → (x : Result Reading TraceStop) → after_lines (first_reading before) lines ≡ x →
     (x >>= found) ≡ Ok (ops, asked) → IsTaken before lines ops asked
 taken_by before lines ops asked within (Ok r) now h =
-    let b = taken lines (start before) r (may_start before within) now in
+    let b = taken lines (first_reading before) r (may_start before within) now in
     let left : List Op × Amounts = (r.ops, r.asked) in
     let right : List Op × Amounts = (ops, asked) in
     let same : left ≡ right = cc in
@@ -216,7 +216,7 @@ taken_by before lines ops asked within (Err e) now h = cc
 
 pub trace_takes : (before : Amounts) (text : List ℕ) (ops : List Op) (asked : Amounts) → passes_total before ≡ false → trace_of before text ≡ Ok (ops, asked) → IsTaken before (lines_of text) ops asked
 unfolding trace_of
-trace_takes before text ops asked within h = taken_by before (lines_of text) ops asked within (after_lines (start before) (lines_of text)) refl h
+trace_takes before text ops asked within h = taken_by before (lines_of text) ops asked within (after_lines (first_reading before) (lines_of text)) refl h
 
 -- the same of what reading a first trace answered
 pub all_taken : (before : Amounts) (text : List ℕ) (asked : Amounts) (r : Result (List Op) TraceStop) → before ≡ nothing →

@@ -6,8 +6,8 @@ use Rattle.trace_codec.specs.Number.{◌>>=◌}
 use Rattle.trace_codec.specs.Hex.{byte_of, bytes_of_digits, payload_of}
 
 -- bytes behind others that were read
-abbrev pub behind : List ℕ → Option (List ℕ) → Option (List ℕ)
-behind front rest = option_map (λ bytes. front ++ bytes) rest
+abbrev pub joined_behind : List ℕ → Option (List ℕ) → Option (List ℕ)
+joined_behind front rest = option_map (λ bytes. front ++ bytes) rest
 
 -- the pair k of digits stands before those behind it
 pair_at : (digits : List ℕ) (k : ℕ) → 2 * k + 1 < length digits →
@@ -17,34 +17,34 @@ pair_at digits k h =
     drop_more digits (2 * k) 0 (omega arith)
     ∙ ap (λ rest. get_or digits (2 * k) 0 ∷ rest) (drop_more digits (2 * k + 1) 0 h ∙ ap (λ n. get_or digits (2 * k + 1) 0 ∷ drop n digits) (sym next))
 
-byte_more : (front : List ℕ) (byte : ℕ) (rest : Option (List ℕ)) → behind (front ++ byte ∷ []) rest ≡ behind front (rest >>= (λ bytes. Some (byte ∷ bytes)))
+byte_more : (front : List ℕ) (byte : ℕ) (rest : Option (List ℕ)) → joined_behind (front ++ byte ∷ []) rest ≡ joined_behind front (rest >>= (λ bytes. Some (byte ∷ bytes)))
 byte_more front byte None = refl
 byte_more front byte (Some bytes) = ap (λ (l : List ℕ). Some l) (append_assoc front (byte ∷ []) bytes)
 
 -- one pair more
 pub pair_read : (digits front : List ℕ) (k byte : ℕ) → 2 * k + 1 < length digits → byte_of (get_or digits (2 * k) 0) (get_or digits (2 * k + 1) 0) ≡ Some byte →
-    behind (front ++ byte ∷ []) (bytes_of_digits (drop (2 * (k + 1)) digits)) ≡ behind front (bytes_of_digits (drop (2 * k) digits))
+    joined_behind (front ++ byte ∷ []) (bytes_of_digits (drop (2 * (k + 1)) digits)) ≡ joined_behind front (bytes_of_digits (drop (2 * k) digits))
 pair_read digits front k byte h e = rw (pair_at digits k h) (rw e (byte_more front byte (bytes_of_digits (drop (2 * (k + 1)) digits))))
 
 -- a pair that is no byte
 pub pair_refused : (digits front : List ℕ) (k : ℕ) → 2 * k + 1 < length digits → byte_of (get_or digits (2 * k) 0) (get_or digits (2 * k + 1) 0) ≡ None →
-    behind front (bytes_of_digits (drop (2 * k) digits)) ≡ bytes_of_digits digits → bytes_of_digits digits ≡ None
+    joined_behind front (bytes_of_digits (drop (2 * k) digits)) ≡ bytes_of_digits digits → bytes_of_digits digits ≡ None
 pair_refused digits front k h e all = let none : bytes_of_digits (drop (2 * k) digits) ≡ None = rw (pair_at digits k h) (rw e refl) in rw none at (sym all)
 
 -- all pairs were read
-rest_even : (front rest : List ℕ) → length rest ≡ 0 → behind front (bytes_of_digits rest) ≡ Some front
+rest_even : (front rest : List ℕ) → length rest ≡ 0 → joined_behind front (bytes_of_digits rest) ≡ Some front
 rest_even front [] h = ap (λ (l : List ℕ). Some l) (append-nil front)
 rest_even front (d ∷ rest) h = absurd (omega arith)
 
-rest_odd : (front rest : List ℕ) → length rest ≡ 1 → behind front (bytes_of_digits rest) ≡ None
+rest_odd : (front rest : List ℕ) → length rest ≡ 1 → joined_behind front (bytes_of_digits rest) ≡ None
 rest_odd front [] h = absurd (omega arith)
 rest_odd front (d ∷ []) h = refl
 rest_odd front (d ∷ e ∷ rest) h = absurd (omega arith)
 
-pub pairs_end : (digits front : List ℕ) → length digits % 2 ≡ 0 → behind front (bytes_of_digits (drop (2 * (length digits / 2)) digits)) ≡ bytes_of_digits digits → Some front ≡ bytes_of_digits digits
+pub pairs_end : (digits front : List ℕ) → length digits % 2 ≡ 0 → joined_behind front (bytes_of_digits (drop (2 * (length digits / 2)) digits)) ≡ bytes_of_digits digits → Some front ≡ bytes_of_digits digits
 pairs_end digits front even all = sym (rest_even front (drop (2 * (length digits / 2)) digits) (omega (arith, length-drop (2 * (length digits / 2)) digits))) ∙ all
 
-pub digit_left : (digits front : List ℕ) → (length digits % 2 ≡ 0 → ⊥) → behind front (bytes_of_digits (drop (2 * (length digits / 2)) digits)) ≡ bytes_of_digits digits → bytes_of_digits digits ≡ None
+pub digit_left : (digits front : List ℕ) → (length digits % 2 ≡ 0 → ⊥) → joined_behind front (bytes_of_digits (drop (2 * (length digits / 2)) digits)) ≡ bytes_of_digits digits → bytes_of_digits digits ≡ None
 digit_left digits front odd all = sym all ∙ rest_odd front (drop (2 * (length digits / 2)) digits) (omega (arith, length-drop (2 * (length digits / 2)) digits))
 
 -- each byte takes two digits

@@ -9,7 +9,7 @@ use Rattle.blk_base.specs.Pieces.{Extent}
 use Rattle.trace_codec.specs.declared.op.Op.{Op}
 use Rattle.trace_codec.specs.declared.op.Op.TheVariants.{Read, Write, Zero, Flush, Discard}
 use Rattle.trace_codec.specs.declared.op.Payload.TheVariants.{Fill, Raw}
-use Rattle.trace_codec.specs.declared.line.Line.TheVariants.{Asks}
+use Rattle.trace_codec.specs.declared.line.TraceLine.TheVariants.{Asks}
 use Rattle.trace_codec.specs.Number.{◌>>=◌, number_of, below}
 use Rattle.trace_codec.specs.Hex.{hex, payload_of}
 use Rattle.trace_codec.specs.Line.{words_of, offset_of, span_in, request_in, asked, line_of}

@@ -3,8 +3,8 @@ use Rattle.std.proofs.Common.{◌≡◌, ℕ, ◌+◌, List, [], ◌∷◌, ◌+
 use Rattle.std.specs.List.{filter_map, cons_option}
 use Rattle.std.proofs.lemmas.Bool.{cases_Bool}
 use Rattle.trace_codec.specs.declared.op.Op.{Op}
-use Rattle.trace_codec.specs.declared.line.Line.{Line}
-use Rattle.trace_codec.specs.declared.line.Line.TheVariants.{Passed, Asks, Bad}
+use Rattle.trace_codec.specs.declared.line.TraceLine.{TraceLine}
+use Rattle.trace_codec.specs.declared.line.TraceLine.TheVariants.{Passed, Asks, Bad}
 use Rattle.trace_codec.specs.declared.wish.Wish.{Wish}
 use Rattle.trace_codec.specs.declared.wish.Wish.TheVariants.{Ask, Wait}
 use Rattle.trace_codec.specs.declared.stop.TraceStop.{TraceStop}
@@ -35,7 +35,7 @@ with_one r op = record r { asks = r.asks + 1; wishes = r.wishes ++ Ask op ∷ []
 abbrev passes_with : Wishing → Op → Bool
 passes_with r op = ltb 65536 (r.asks + 1) || passes_total (with_op r.asked op)
 
-by_line : (r s : Wishing) (lines : List (List ℕ)) → ((q : Wishing) → Takes q lines s) → (l : Line) (waits : Option ℕ)
+by_line : (r s : Wishing) (lines : List (List ℕ)) → ((q : Wishing) → Takes q lines s) → (l : TraceLine) (waits : Option ℕ)
     → (after_wish_line r l waits >>= (λ next. after_wish_lines next lines)) ≡ Ok s
     → s.wishes ≡ r.wishes ++ cons_option (wish_by l waits) (wishes_from lines)
 by_line r s lines ih Passed waits h = ih (next_wish_line r) h

@@ -2,8 +2,8 @@
 use Rattle.std.specs.Prelude.{◌≡◌, ◌≢◌, ℕ, ◌+◌, min, List, [], ◌∷◌, ◌++◌, length, nat_lt, ◌||◌, Bool, true, false, Option, Some, None}
 use Rattle.std.specs.List.{AllByRecursion, filter_map}
 use Rattle.trace_codec.specs.declared.op.Op.{Op}
-use Rattle.trace_codec.specs.declared.line.Line.{Line}
-use Rattle.trace_codec.specs.declared.line.Line.TheVariants.{Passed, Asks, Bad}
+use Rattle.trace_codec.specs.declared.line.TraceLine.{TraceLine}
+use Rattle.trace_codec.specs.declared.line.TraceLine.TheVariants.{Passed, Asks, Bad}
 use Rattle.trace_codec.specs.declared.stop.TraceStop.{TraceStop}
 use Rattle.trace_codec.specs.declared.stop.TraceStop.TheVariants.{BadLine, TooMany, NoMemory}
 use Rattle.trace_codec.specs.Amounts.{Amounts}
@@ -14,7 +14,7 @@ use Rattle.trace_codec.specs.Request.{with_op, passes_total}
 abbrev pub IsGood : List ℕ → Type 0
 IsGood line = line_of line ≢ Bad
 
-abbrev pub op_in : Line → Option Op
+abbrev pub op_in : TraceLine → Option Op
 op_in Passed = None
 op_in (Asks op) = Some op
 op_in Bad = None

@@ -6,8 +6,8 @@ use Rattle.blk_base.specs.Pieces.{Extent}
 use Rattle.trace_codec.specs.declared.op.Op.{Op}
 use Rattle.trace_codec.specs.declared.op.Op.TheVariants.{Read, Write, Zero, Flush, Discard}
 use Rattle.trace_codec.specs.declared.op.Payload.TheVariants.{Fill, Raw}
-use Rattle.trace_codec.specs.declared.line.Line.{Line}
-use Rattle.trace_codec.specs.declared.line.Line.TheVariants.{Passed, Asks, Bad}
+use Rattle.trace_codec.specs.declared.line.TraceLine.{TraceLine}
+use Rattle.trace_codec.specs.declared.line.TraceLine.TheVariants.{Passed, Asks, Bad}
 use Rattle.trace_codec.specs.Number.{◌>>=◌, number_of, below}
 use Rattle.trace_codec.specs.Hex.{payload_of}
 
@@ -91,11 +91,11 @@ request_in (name ∷ words) =
     else if bytes_eq name (codes "discard") then discard_in words
     else None
 
-abbrev pub asked : Option Op → Line
+abbrev pub asked : Option Op → TraceLine
 asked None = Bad
 asked (Some op) = Asks op
 
 -- An empty line and one that begins with `#` are passed over. Every other line asks for something, or is bad.
-abbrev pub line_of : List ℕ → Line
+abbrev pub line_of : List ℕ → TraceLine
 line_of [] = Passed
 line_of (b ∷ bytes) = if b == 35 then Passed else asked (request_in (words_of (b ∷ bytes)))

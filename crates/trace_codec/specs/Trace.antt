@@ -2,8 +2,8 @@
 use Rattle.std.specs.Prelude.{ℕ, ◌+◌, min, List, [], ◌∷◌, ◌++◌, length, nat_lt, ◌==◌, ◌||◌, if◌then◌else◌, Result, Ok, Err}
 use Rattle.std.specs.List.{slice_split}
 use Rattle.trace_codec.specs.declared.op.Op.{Op}
-use Rattle.trace_codec.specs.declared.line.Line.{Line}
-use Rattle.trace_codec.specs.declared.line.Line.TheVariants.{Passed, Asks, Bad}
+use Rattle.trace_codec.specs.declared.line.TraceLine.{TraceLine}
+use Rattle.trace_codec.specs.declared.line.TraceLine.TheVariants.{Passed, Asks, Bad}
 use Rattle.trace_codec.specs.declared.stop.TraceStop.{TraceStop}
 use Rattle.trace_codec.specs.declared.stop.TraceStop.TheVariants.{BadLine, TooMany}
 use Rattle.trace_codec.specs.Amounts.{Amounts, nothing}
@@ -30,7 +30,7 @@ with_request r op =
     else Ok (record r { ops = r.ops ++ op ∷ []; asked = with_op r.asked op })
 
 -- what a line leads to, or the refusal at it
-abbrev pub after_line : Reading → Line → Result Reading TraceStop
+abbrev pub after_line : Reading → TraceLine → Result Reading TraceStop
 after_line r Passed = Ok (next_line r)
 after_line r Bad = Err (BadLine r.line)
 after_line r (Asks op) = do

@@ -2,8 +2,8 @@
 use Rattle.std.specs.Prelude.{ℕ, ◌+◌, min, List, [], ◌∷◌, ◌++◌, nat_lt, ◌||◌, if◌then◌else◌, Option, Some, None, Result, Ok, Err}
 use Rattle.std.specs.List.{filter_map}
 use Rattle.trace_codec.specs.declared.op.Op.{Op}
-use Rattle.trace_codec.specs.declared.line.Line.{Line}
-use Rattle.trace_codec.specs.declared.line.Line.TheVariants.{Passed, Asks, Bad}
+use Rattle.trace_codec.specs.declared.line.TraceLine.{TraceLine}
+use Rattle.trace_codec.specs.declared.line.TraceLine.TheVariants.{Passed, Asks, Bad}
 use Rattle.trace_codec.specs.declared.wish.Wish.{Wish}
 use Rattle.trace_codec.specs.declared.wish.Wish.TheVariants.{Ask, Wait}
 use Rattle.trace_codec.specs.declared.stop.TraceStop.{TraceStop}
@@ -17,7 +17,7 @@ use Rattle.trace_codec.specs.Trace.{◌>>=◌, lines_of}
 -- ---- what a text says
 
 -- what a line says: to a reader of requests alone, and whether it waits for a line of the script
-abbrev pub wish_by : Line → Option ℕ → Option Wish
+abbrev pub wish_by : TraceLine → Option ℕ → Option Wish
 wish_by Passed waits = None
 wish_by (Asks op) waits = Some (Ask op)
 wish_by Bad None = None
@@ -62,7 +62,7 @@ with_wait r None = Err (BadLine r.line)
 with_wait r (Some line) = Ok (record r { wishes = r.wishes ++ Wait line ∷ [] })
 
 -- what a line leads to, or the refusal at it
-abbrev pub after_wish_line : Wishing → Line → Option ℕ → Result Wishing TraceStop
+abbrev pub after_wish_line : Wishing → TraceLine → Option ℕ → Result Wishing TraceStop
 after_wish_line r Passed waits = Ok (next_wish_line r)
 after_wish_line r (Asks op) waits = do
   more ← with_ask r op

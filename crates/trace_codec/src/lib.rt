@@ -20,7 +20,7 @@ mod wishing;
 mod writing;
 
 pub use awaiting::{Await, first_await, is_name, read_await};
-pub use line::Line;
+pub use line::TraceLine;
 pub use op::{Op, Payload};
 pub use ops::Ops;
 pub use order::Order;

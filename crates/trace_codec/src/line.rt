@@ -15,7 +15,7 @@ pub(crate) const MAX_LENGTH: u64 = 2 * 1024 * 1024;
 
 /// What a line says.
 #[derive(Debug, Drop)]
-pub enum Line {
+pub enum TraceLine {
     /// Nothing: it is empty, or a comment.
     Passed,
     /// It asks for this.
@@ -25,15 +25,15 @@ pub enum Line {
 }
 
 /// What a line says.
-pub(crate) fn read_line(alloc: Global, line: &[u8]) -> Result<Line, AllocError>
+pub(crate) fn read_line(alloc: Global, line: &[u8]) -> Result<TraceLine, AllocError>
     ensures { IfOk result (λ says. says ≡ line_of line.now) }
 {
     if line.is_empty() || line[0] == b'#' {
-        return Ok(Line::Passed);
+        return Ok(TraceLine::Passed);
     }
     match read_request(alloc, line)? {
-        Some(op) => Ok(Line::Asks(op)),
-        None => Ok(Line::Bad),
+        Some(op) => Ok(TraceLine::Asks(op)),
+        None => Ok(TraceLine::Bad),
     }
 }
 

@@ -2,7 +2,7 @@
 
 ghost use Rattle.std.specs.Prelude.{◌≡◌, ◌⊎◌, [], OnOk, IfErr};
 
-use crate::line::{Line, read_line};
+use crate::line::{TraceLine, read_line};
 use crate::op::Op;
 use crate::ops::Ops;
 use crate::stop::TraceStop;
@@ -53,9 +53,9 @@ impl Reading {
             ⊎ (after_line self.old (line_of line.now) ≡ Err stop)) }
     {
         match read_line(*self.ops.allocator(), line)? {
-            Line::Passed => {}
-            Line::Asks(op) => self.add(op)?,
-            Line::Bad => return Err(TraceStop::BadLine(self.line)),
+            TraceLine::Passed => {}
+            TraceLine::Asks(op) => self.add(op)?,
+            TraceLine::Bad => return Err(TraceStop::BadLine(self.line)),
         }
         self.line = self.line.saturating_add(1);
         Ok(())

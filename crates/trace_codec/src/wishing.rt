@@ -3,7 +3,7 @@
 ghost use Rattle.std.specs.Prelude.{◌≡◌, ◌⊎◌, [], OnOk, IfErr};
 
 use crate::awaiting::line_awaited;
-use crate::line::{Line, read_line};
+use crate::line::{TraceLine, read_line};
 use crate::op::Op;
 use crate::reading::MAX_REQUESTS;
 use crate::stop::TraceStop;
@@ -61,9 +61,9 @@ impl Wishing {
             ⊎ (after_wish_line self.old (line_of line.now) (trace_wait line.now) ≡ Err stop)) }
     {
         match read_line(*self.wishes.allocator(), line)? {
-            Line::Passed => {}
-            Line::Asks(op) => self.ask(op)?,
-            Line::Bad => self.wait(line_awaited(line))?,
+            TraceLine::Passed => {}
+            TraceLine::Asks(op) => self.ask(op)?,
+            TraceLine::Bad => self.wait(line_awaited(line))?,
         }
         self.line = self.line.saturating_add(1);
         Ok(())

@@ -23,7 +23,7 @@ use Rattle.qmp_asks.specs.NodeAsks.{device_add_asks}
 use Rattle.qmp_rules.specs.Table.{RunTable, device_by_number, device_named, id_named, kinds_of, node_by_id}
 use Rattle.qmp_rules.specs.declared.change.Change.{Change}
 use Rattle.qmp_rules.specs.declared.change.Change.TheVariants.{AddDevice}
-use Rattle.qmp_rules.specs.declared.rows.Device.{Device}
+use Rattle.qmp_rules.specs.declared.rows.DeviceRow.{DeviceRow}
 use Rattle.qmp_rules.specs.declared.rows.NodeRecord.{NodeRecord}
 use Rattle.flat_machine.specs.Wiring.{TableStands}
 use Rattle.flat_machine.proofs.Asked.{NoneHolds, none-both, not-refused}
@@ -43,14 +43,14 @@ use Rattle.world_parts.proofs.TableKinds.{kinds_alike}
 
 -- ---- one device more
 
-pub record IsWithDevice (t u : RunTable) (device : Device) (node : ℕ) : Type 0 where
+pub record IsWithDevice (t u : RunTable) (device : DeviceRow) (node : ℕ) : Type 0 where
   pub rows : u.nodes ≡ t.nodes
   pub edges : u.edges ≡ refreshed (kinds_of t.nodes) (with_edge (device_edge device node) t.edges)
   pub devices : u.devices ≡ t.devices ++ device ∷ []
   pub guests : u.guests ≡ t.guests
   pub jobs : u.jobs ≡ t.jobs
 
-with_device : (t : RunTable) (file : Option (List ℕ)) (device : Device) (node : ℕ) → IsWithDevice t (changed (table_with_use t file) (AddDevice device node)) device node
+with_device : (t : RunTable) (file : Option (List ℕ)) (device : DeviceRow) (node : ℕ) → IsWithDevice t (changed (table_with_use t file) (AddDevice device node)) device node
 unfolding changed
 with_device t file device node =
     let shape = shape_by t file in
@@ -59,7 +59,7 @@ with_device t file device node =
       edges =
           ap (λ (rows : List NodeRecord). refreshed (kinds_of rows) (with_edge (device_edge device node) (table_with_use t file).edges)) shape.nodes
           ∙ ap (λ (edges : List Edge). refreshed (kinds_of t.nodes) (with_edge (device_edge device node) edges)) shape.edges;
-      devices = ap (λ (devices : List Device). devices ++ device ∷ []) shape.devices;
+      devices = ap (λ (devices : List DeviceRow). devices ++ device ∷ []) shape.devices;
       guests = shape.guests;
       jobs = shape.jobs;
     }
@@ -83,7 +83,7 @@ module _ (t : RunTable) (h : TableStands t) (c : DeviceAdd (List ℕ)) (none : r
   abbrev pub row : NodeRecord
   row = of.row
 
-  abbrev pub device : Device
+  abbrev pub device : DeviceRow
   device = new_device t c of.row
 
   -- the file that is used, where the node is a `file` node
@@ -142,8 +142,8 @@ module _ (t : RunTable) (h : TableStands t) (c : DeviceAdd (List ℕ)) (none : r
 
   pub named_is : device_named table_then c.id ≡ Some device
   named_is =
-      ap (find (λ (d : Device). bytes_eq d.id c.id)) is_with.devices
-      ∙ found-new (λ (d : Device). bytes_eq d.id c.id) t.devices device unnamed (bytes_eq-same c.id)
+      ap (find (λ (d : DeviceRow). bytes_eq d.id c.id)) is_with.devices
+      ∙ found-new (λ (d : DeviceRow). bytes_eq d.id c.id) t.devices device unnamed (bytes_eq-same c.id)
 
   pub found_is : id_named table_then c.drive ≡ Some of.row.id
   found_is =
@@ -152,8 +152,8 @@ module _ (t : RunTable) (h : TableStands t) (c : DeviceAdd (List ℕ)) (none : r
 
   pub own_device : device_by_number table_then device.number ≡ Some device
   own_device =
-      ap (find (λ (d : Device). d.number == device.number)) is_with.devices
-      ∙ found-new (λ (d : Device). d.number == device.number) t.devices device fresh (eq-eqb device.number device.number refl)
+      ap (find (λ (d : DeviceRow). d.number == device.number)) is_with.devices
+      ∙ found-new (λ (d : DeviceRow). d.number == device.number) t.devices device fresh (eq-eqb device.number device.number refl)
 
   pub at_row : node_by_id t of.row.id ≡ Some of.row
   at_row = h.apart of.row of.there

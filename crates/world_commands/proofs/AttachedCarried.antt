@@ -30,7 +30,7 @@ use Rattle.qmp_rules.specs.Edits.{file_uses}
 use Rattle.qmp_rules.specs.Table.{RunTable, device_by_number, device_named, id_named, kinds_of, node_by_id}
 use Rattle.qmp_rules.specs.declared.change.Change.{Change}
 use Rattle.qmp_rules.specs.declared.change.Change.TheVariants.{AddDevice}
-use Rattle.qmp_rules.specs.declared.rows.Device.{Device}
+use Rattle.qmp_rules.specs.declared.rows.DeviceRow.{DeviceRow}
 use Rattle.qmp_rules.specs.declared.rows.NodeRecord.{NodeRecord}
 use Rattle.qmp_rules.specs.Queries.{bytes_of_node}
 use Rattle.flat_machine.specs.Agreement.{HasDisk}
@@ -87,7 +87,7 @@ module _ (w : WorldSeen) (whole : IsWholeWorld w) (joined : IsJoined w.nodes)
   abbrev row : NodeRecord
   row = (of w.table h c none).row
 
-  abbrev device : Device
+  abbrev device : DeviceRow
   device = device_of_table w.table h c none
 
   is : IsWithDevice w.table u device node
@@ -103,10 +103,10 @@ module _ (w : WorldSeen) (whole : IsWholeWorld w) (joined : IsJoined w.nodes)
 
   other_device : (g : ℕ) → g ≢ device.number → device_by_number u g ≡ device_by_number w.table g
   other_device g apart =
-      ap (find (λ (d : Device). d.number == g)) is.devices
-      ∙ find-past (λ (d : Device). d.number == g) w.table.devices device (ne_eqb device.number g (λ same. apart (sym same)))
+      ap (find (λ (d : DeviceRow). d.number == g)) is.devices
+      ∙ find-past (λ (d : DeviceRow). d.number == g) w.table.devices device (ne_eqb device.number g (λ same. apart (sym same)))
 
-  its_device : (d : Device) → device_by_number u device.number ≡ Some d → d ≡ device
+  its_device : (d : DeviceRow) → device_by_number u device.number ≡ Some d → d ≡ device
   its_device d there = same_Some d device (sym there ∙ own_device w.table h c none)
 
   same_at : (id : ℕ) → node_by_id u id ≡ node_by_id w.table id
@@ -220,7 +220,7 @@ module _ (w : WorldSeen) (whole : IsWholeWorld w) (joined : IsJoined w.nodes)
       | inl same ↦
           let its : other ≡ node = its_drive other (subst (λ (n : ℕ). drive_of u n ≡ Some other) same on) in
           let one : d ≡ device = its_device d (subst (λ (n : ℕ). device_by_number u n ≡ Some d) same there) in
-          let may : row.read_only ≡ false = ap (λ (x : Device). x.read_only) (sym one) ∙ writes in
+          let may : row.read_only ≡ false = ap (λ (x : DeviceRow). x.read_only) (sym one) ∙ writes in
           subst (λ (row' : Option NodeRecord). With row' (λ r. r.read_only ≡ false)) (sym (ap (node_by_id u) its ∙ same_at node ∙ at_row w.table h c none)) may
       | inr apart ↦
           subst (λ (row' : Option NodeRecord). With row' (λ r. r.read_only ≡ false)) (sym (same_at other))
@@ -232,7 +232,7 @@ module _ (w : WorldSeen) (whole : IsWholeWorld w) (joined : IsJoined w.nodes)
       | inl same ↦
           let its : e ≡ drive = sole e at (from ∙ ap GuestOf same) in
           let one : d ≡ device = its_device d (subst (λ (n : ℕ). device_by_number u n ≡ Some d) same there) in
-          ap (λ (x : Edge). x.perm.write) its ∙ ap (λ (x : Device). not x.read_only) (sym one) ∙ ap not writes
+          ap (λ (x : Edge). x.perm.write) its ∙ ap (λ (x : DeviceRow). not x.read_only) (sym one) ∙ ap not writes
       | inr apart ↦
           let old = guest_edge (kinds_of w.table.nodes) (with_edge drive w.table.edges) e g (subst (λ (edges : List Edge). Contains edges e) is.edges at) from in
           elim (Contains-with_edge drive w.table.edges e old) [
@@ -245,7 +245,7 @@ module _ (w : WorldSeen) (whole : IsWholeWorld w) (joined : IsJoined w.nodes)
     another : (g : ℕ) (f : Flight) → flight_at w.progress.guests g ≡ Some f → g ≢ device.number
     another g f flies same =
         let none' : device_by_number w.table g ≡ None = ap (device_by_number w.table) same ∙ fresh w.table h c none in
-        subst (λ (d : Option Device). With d (λ x. IsForbidden f.op x.read_only → ⊥)) none' (was.allowed g f flies)
+        subst (λ (d : Option DeviceRow). With d (λ x. IsForbidden f.op x.read_only → ⊥)) none' (was.allowed g f flies)
 
     are_within : AreWithin u w.progress.guests
     are_within g f flies =
@@ -262,7 +262,7 @@ module _ (w : WorldSeen) (whole : IsWholeWorld w) (joined : IsJoined w.nodes)
 
     are_allowed : AreAllowed u w.progress.guests
     are_allowed g f flies =
-        subst (λ (d : Option Device). With d (λ x. IsForbidden f.op x.read_only → ⊥)) (sym (other_device g (another g f flies))) (was.allowed g f flies)
+        subst (λ (d : Option DeviceRow). With d (λ x. IsForbidden f.op x.read_only → ⊥)) (sym (other_device g (another g f flies))) (was.allowed g f flies)
 
     nodes_alike : AreNodesOf u nodes
     nodes_alike = record {
@@ -345,7 +345,7 @@ module _ (w : WorldSeen) (whole : IsWholeWorld w) (joined : IsJoined w.nodes)
       let other : put.node ≡ node = same_Some put.node node (sym put.found ∙ ap (λ (y : RunTable). id_named y c.drive) same_table ∙ found_is w.table h c none) in
       let same_nodes : now ≡ nodes =
       put.drawn
-      ∙ ap (λ (d : Device). with_below w.nodes (guest_edge_of w.nodes d.number put.node d.share_rw)) one
+      ∙ ap (λ (d : DeviceRow). with_below w.nodes (guest_edge_of w.nodes d.number put.node d.share_rw)) one
       ∙ ap (λ (n : ℕ). with_below w.nodes (guest_edge_of w.nodes device.number n device.share_rw)) other in
       let joined_then : IsJoined nodes = subst IsJoined same_nodes after in
       let same : v joined_then ≡ record w { nodes = now; table = x } =

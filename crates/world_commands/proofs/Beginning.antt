@@ -6,7 +6,7 @@ use Rattle.std.proofs.lemmas.List.Elements.{All-nil}
 use Rattle.blk_base.specs.declared.memory.Room.{Room}
 use Rattle.qmp_rules.specs.Table.{opening_table}
 use Rattle.flat_machine.specs.Opening.{start, new_guest}
-use Rattle.flat_machine.specs.Licence.{Counts, AreLicensed, IsBetween}
+use Rattle.flat_machine.specs.Licence.{Counts, AreLicensed, IsBetweenCounts}
 use Rattle.flat_machine.specs.declared.opening.Opening.{Opening}
 use Rattle.flat_machine.proofs.Openings.{start_rests, start_agrees}
 use Rattle.world_parts.specs.Face.{contents_of}
@@ -15,7 +15,7 @@ use Rattle.world_commands.proofs.Coherence.{coherent-new}
 use Rattle.world_parts.specs.Steps.{StoreSeen, new_world, IsOpeningOf}
 
 licensed-none : (counts now : Counts) → AreLicensed counts now []
-licensed-none counts now = record { rises = All-nil (IsBetween counts now); once = λ i j d less within. absurd (omega arith) }
+licensed-none counts now = record { rises = All-nil (IsBetweenCounts counts now); once = λ i j d less within. absurd (omega arith) }
 
 -- one guest for each name
 guests-start : (names : List (List ℕ)) → map (λ name. new_guest) names ≡ replicate (length names) new_guest

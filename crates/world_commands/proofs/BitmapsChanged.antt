@@ -12,7 +12,7 @@ use Rattle.blk_graph.proofs.Members.{Contains-here, Contains-there}
 use Rattle.std.proofs.lemmas.List.{length-map, map_push, take_more}
 use Rattle.qmp_codec.specs.Commands.{Cmd, SeenSources}
 use Rattle.qmp_codec.specs.declared.bitmaps.BitmapAdd.{BitmapAdd}
-use Rattle.qmp_codec.specs.declared.bitmaps.Source.{Source}
+use Rattle.qmp_codec.specs.declared.bitmaps.MergeSource.{MergeSource}
 use Rattle.qmp_codec.specs.declared.command.Command.TheVariants as command
 use Rattle.qmp_codec.specs.declared.fields.Amount.{Amount}
 use Rattle.qmp_codec.specs.declared.fields.Amount.TheVariants.{Negative, Number}
@@ -299,7 +299,7 @@ counts-more rows i row items count less at free is was =
 
 -- ---- a merge, one source after another
 
-pub merged-more : (t : RunTable) (node target : List ℕ) (s : Source (List ℕ)) (rest : SeenSources) (old now : List Bitmap) (to from : ℕ) (into name : List ℕ)
+pub merged-more : (t : RunTable) (node target : List ℕ) (s : MergeSource (List ℕ)) (rest : SeenSources) (old now : List Bitmap) (to from : ℕ) (into name : List ℕ)
     → to ≡ id_or 0 t (Some node) → into ≡ target → from ≡ id_or 0 t (Some (source_node node s)) → name ≡ source_name s
     → now ≡ with_source old to into (find_row old from name) → bitmaps_merged t node target rest now ≡ bitmaps_merged t node target (s ∷ rest) old
 merged-more t node target s rest old now to from into name is_to is_into is_from is_name is =

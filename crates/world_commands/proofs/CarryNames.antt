@@ -6,7 +6,7 @@ use Rattle.std.proofs.lemmas.List.{append_assoc}
 use Rattle.std.proofs.lemmas.Bool.{eqb-true}
 use Rattle.qmp_codec.specs.Commands.{Cmd, SeenSources}
 use Rattle.qmp_codec.specs.declared.bitmaps.BitmapMerge.{BitmapMerge}
-use Rattle.qmp_codec.specs.declared.bitmaps.Source.TheVariants as source
+use Rattle.qmp_codec.specs.declared.bitmaps.MergeSource.TheVariants as source
 use Rattle.qmp_codec.specs.declared.command.Command.TheVariants as command
 use Rattle.qmp_codec.specs.declared.nodes.FileRef.{FileRef}
 use Rattle.qmp_codec.specs.declared.nodes.FileRef.TheVariants as file_ref

@@ -14,7 +14,7 @@ use Rattle.blk_nodes.specs.Nodes.{Nodes, row_at}
 use Rattle.blk_base.specs.Pieces.{end_of}
 use Rattle.blk_history.specs.Disk.{span_of}
 use Rattle.blk_graph.specs.declared.edge.Edge.{Edge}
-use Rattle.qmp_rules.specs.declared.rows.Device.{Device}
+use Rattle.qmp_rules.specs.declared.rows.DeviceRow.{DeviceRow}
 use Rattle.qmp_rules.specs.declared.rows.NodeRecord.{NodeRecord}
 use Rattle.flat_machine.specs.Legal.{IsForbidden}
 use Rattle.flat_machine.specs.Wiring.{TableAtRest}
@@ -326,7 +326,7 @@ module _ (t u : RunTable) (shape : HasTableShape t u) where
   same-disk id = same-from 64 id
 
   same-device : (g : ℕ) → device_by_number u g ≡ device_by_number t g
-  same-device g = ap (find (λ (device : Device). device.number == g)) shape.devices
+  same-device g = ap (find (λ (device : DeviceRow). device.number == g)) shape.devices
 
   same-drive : (g : ℕ) → drive_of u g ≡ drive_of t g
   same-drive g = rw shape.edges refl
@@ -369,7 +369,7 @@ module _ (t u : RunTable) (shape : HasTableShape t u) where
         subst (λ (o : Option ℕ). With o (λ node. end_of (span_of f.op) ≤ bytes_of_node u node)) (sym (same-guest g))
         (within-so (disk_of_guest t g) (end_of (span_of f.op)) (was.within g f flies));
     allowed = λ g f flies.
-        subst (λ (o : Option Device). With o (λ device. IsForbidden f.op device.read_only → ⊥)) (sym (same-device g)) (was.allowed g f flies);
+        subst (λ (o : Option DeviceRow). With o (λ device. IsForbidden f.op device.read_only → ⊥)) (sym (same-device g)) (was.allowed g f flies);
     count = was.count ∙ ap length (sym shape.guests);
     jobs = shape.jobs ∙ was.jobs;
     out = record {

@@ -19,7 +19,7 @@ use Rattle.qmp_rules.specs.declared.change.Change.TheVariants as change
 use Rattle.qmp_rules.specs.declared.refusal.Refusal.{Refusal}
 use Rattle.qmp_rules.specs.declared.refusal.Refusal.TheVariants as refusal
 use Rattle.qmp_rules.specs.declared.rows.NodeRecord.{NodeRecord}
-use Rattle.qmp_rules.specs.declared.rows.Device.{Device}
+use Rattle.qmp_rules.specs.declared.rows.DeviceRow.{DeviceRow}
 use Rattle.qmp_rules.specs.declared.told.Told.{Told}
 use Rattle.qmp_rules.specs.Table.{RunTable, device_named, node_named}
 use Rattle.qmp_rules.specs.Changes.{changed, all_changed}
@@ -114,7 +114,7 @@ module _ (t : RunTable) (told : Told) where
   merges-plain node target [] = refl
   merges-plain node target (source ∷ sources) = merges-plain node target sources
 
-  removed-plain : (found : Option Device) → list_all is_plain_change (elim found as (λ _. List Change) [ None ↦ [] | Some device ↦ change.RemoveDevice device.number ∷ [] ]) ≡ true
+  removed-plain : (found : Option DeviceRow) → list_all is_plain_change (elim found as (λ _. List Change) [ None ↦ [] | Some device ↦ change.RemoveDevice device.number ∷ [] ]) ≡ true
   removed-plain None = refl
   removed-plain (Some device) = refl
 

@@ -20,7 +20,7 @@ use Rattle.blk_nodes.specs.Joined.{DifferInNode}
 use Rattle.blk_nodes.specs.Nodes.{Nodes, DeviceSeen, is_device_of, device_in}
 use Rattle.blk_nodes.specs.Reading.{HaveRisen, OnlyAt, StoppedBy}
 use Rattle.qmp_rules.specs.Table.{RunTable}
-use Rattle.flat_machine.specs.Licence.{Counts, AreLicensed, IsBetween, Differ, source_count, named_in, faults_of, fault_at}
+use Rattle.flat_machine.specs.Licence.{Counts, AreLicensed, IsBetweenCounts, Differ, source_count, named_in, faults_of, fault_at}
 use Rattle.flat_machine.specs.State.{filename_of}
 use Rattle.world_parts.specs.Coherent.{AreOut}
 use Rattle.world_parts.specs.Face.{WorldSeen, first_counts, counts_now, counts_from, count_of_opening, device_numbered}
@@ -75,7 +75,7 @@ module _ (w v : WorldSeen) (runs : RunsOn w v) where
   now-grows Sink count e = absurd (let bad : ⊥ = cc in bad)
 
   -- a fault that was between the counts still is
-  pub between-on : (fault : FaultAt) → IsBetween (first_counts w) (counts_now w) fault → IsBetween (first_counts v) (counts_now v) fault
+  pub between-on : (fault : FaultAt) → IsBetweenCounts (first_counts w) (counts_now w) fault → IsBetweenCounts (first_counts v) (counts_now v) fault
   between-on fault is =
       let was = there (source_count (first_counts w) fault.from) (λ before. HasFailedSince before fault.count) is.risen in
       let reached = there (source_count (counts_now w) fault.from) (λ now. fault.count ≤ now) is.reached in
@@ -97,7 +97,7 @@ module _ (w v : WorldSeen) (runs : RunsOn w v) where
   began-with Sink count e = e
 
   -- a fault that is reached in the event is none of those before
-  pub differs : (earlier fault : FaultAt) → IsBetween (first_counts w) (counts_now w) earlier → IsFaultReached w v fault → Differ earlier fault
+  pub differs : (earlier fault : FaultAt) → IsBetweenCounts (first_counts w) (counts_now w) earlier → IsFaultReached w v fault → Differ earlier fault
   differs earlier fault was is = λ from count.
       let reached = there (source_count (counts_now w) earlier.from) (λ now. earlier.count ≤ now) was.reached in
       let same_source : source_count (counts_now w) fault.from ≡ Some reached.at = subst (λ source. source_count (counts_now w) source ≡ Some reached.at) from reached.is in
@@ -116,8 +116,8 @@ module _ (w v : WorldSeen) (runs : RunsOn w v) where
       now : Counts
       now = counts_now v
 
-      rises : All (IsBetween opening now) (faults_of es)
-      rises = All-weaker (IsBetween (first_counts w) (counts_now w)) (IsBetween opening now) between-on (faults_of es) was.rises
+      rises : All (IsBetweenCounts opening now) (faults_of es)
+      rises = All-weaker (IsBetweenCounts (first_counts w) (counts_now w)) (IsBetweenCounts opening now) between-on (faults_of es) was.rises
 
       by_name : (named : Option FaultAt) → named_in e ≡ named → IsReachedBy w v named → AreLicensed opening now (es ++ e ∷ [])
       by_name None none unit =
@@ -126,7 +126,7 @@ module _ (w v : WorldSeen) (runs : RunsOn w v) where
       by_name (Some fault) some is =
           let same : faults_of (es ++ e ∷ []) ≡ faults_of es ++ fault ∷ [] = filter_map-append named_in es (e ∷ []) ∙ rw some refl in
           record {
-            rises = rw same (All-push (IsBetween opening now) (faults_of es) fault rises is.rise);
+            rises = rw same (All-push (IsBetweenCounts opening now) (faults_of es) fault rises is.rise);
             once = rw same (all_pairs_push Differ (faults_of es) fault was.once (λ k d within. differs (get_or (faults_of es) k d) fault (was.rises k d within) is));
           }
 

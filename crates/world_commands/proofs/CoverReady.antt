@@ -13,14 +13,14 @@ use Rattle.blk_graph.specs.declared.kind.Kind.TheVariants.{Protocol, Qcow2}
 use Rattle.blk_graph.specs.declared.kind.NodeKind.{NodeKind}
 use Rattle.blk_graph.specs.Edits.{child_of, replaced, stays, with_child, with_edge, with_over, with_replaced}
 use Rattle.blk_graph.specs.Graph.{HasNode, IsFit, ids}
-use Rattle.blk_graph.specs.Judged.{IsApart, IsEditStop, IsJudged}
+use Rattle.blk_graph.specs.Judged.{IsOverlayApart, IsEditStop, IsJudged}
 use Rattle.blk_graph.specs.Rule.{first_conflict}
 use Rattle.blk_graph.specs.declared.stop.GraphStop.{GraphStop}
 use Rattle.blk_graph.specs.declared.stop.GraphStop.TheVariants.{Cycle, Conflict}
 use Rattle.blk_graph.specs.Paths.{IsPath, Reaches}
 use Rattle.blk_graph.specs.Permissions.{has_role, node_edge}
 use Rattle.blk_graph.specs.Refreshed.{refreshed}
-use Rattle.blk_graph.proofs.AlikeLemmas.{AreAlike as AreListsAlike, IsAlike as IsEdgeAlike, refreshed-alike, refreshed-both}
+use Rattle.blk_graph.proofs.AlikeLemmas.{AreEdgesAlike, IsEdgeAlike, refreshed-alike, refreshed-both}
 use Rattle.blk_graph.proofs.FitLemmas.{IsFit-with_edge, IsFit-replaced, listed_fit}
 use Rattle.blk_graph.proofs.OverLemmas.{IsAcyclic-with_over}
 use Rattle.blk_graph.proofs.Members.{find-Some}
@@ -62,8 +62,8 @@ replaced-alike from to but a b h =
       set = λ none. ap (with_child to) (h.set none);
     }
 
-all_replaced-alike : (from to : ℕ) (but : Option Parent) (a b : List Edge) → AreListsAlike a b
-    → AreListsAlike (with_replaced from to but a) (with_replaced from to but b)
+all_replaced-alike : (from to : ℕ) (but : Option Parent) (a b : List Edge) → AreEdgesAlike a b
+    → AreEdgesAlike (with_replaced from to but a) (with_replaced from to but b)
 all_replaced-alike from to but [] [] h = tt
 all_replaced-alike from to but (a ∷ as') (b ∷ bs) h = (replaced-alike from to but a b h.0, all_replaced-alike from to but as' bs h.1)
 all_replaced-alike from to but [] (b ∷ bs) h = absurd h
@@ -73,7 +73,7 @@ all_replaced-alike from to but (a ∷ as') [] h = absurd h
 
 pub never_refused : (nodes : Nodes) (node overlay : ℕ) (result : Result (Unit {0}) GraphStop) (stop : GraphStop)
     → IsJudged (ids nodes.graph) nodes.graph.kinds (with_over node overlay nodes.graph.edges) result
-    → (IsApart nodes.graph.edges node overlay → result ≢ Err Cycle) → IsApart nodes.graph.edges node overlay
+    → (IsOverlayApart nodes.graph.edges node overlay → result ≢ Err Cycle) → IsOverlayApart nodes.graph.edges node overlay
     → first_conflict (ids nodes.graph) (covered node overlay nodes).graph.edges ≡ None → result ≡ Err stop → ⊥
 never_refused nodes node overlay result stop judged no_cycle apart keeps is = by_stop stop is
   where
@@ -169,7 +169,7 @@ module _ (t : RunTable) (node overlay : NodeRecord) (over : LiesOver t node over
           bad
       by_rest (e ∷ rest) path = none_from_file e below.0 path.0 below.1 (path.1 ∙ ap Node below.2) below.3
 
-  pub apart_of : IsApart t.edges node.id overlay.id
+  pub apart_of : IsOverlayApart t.edges node.id overlay.id
   apart_of = record { differ = over.other; unused = λ e there is. lone e there is; away = away }
 
   -- ---- in the nodes
@@ -281,8 +281,8 @@ module _ (t : RunTable) (node overlay : NodeRecord) (over : LiesOver t node over
               ∙ ap (λ (d : Driver). has_role (driver_kind d) Backing) image.1;
         }) joined.sound.fit)
 
-    edges_apart : IsApart nodes.graph.edges node.id overlay.id
-    edges_apart = subst (λ (edges : List Edge). IsApart edges node.id overlay.id) (sym alike.edges) apart_of
+    edges_apart : IsOverlayApart nodes.graph.edges node.id overlay.id
+    edges_apart = subst (λ (edges : List Edge). IsOverlayApart edges node.id overlay.id) (sym alike.edges) apart_of
 
     -- the nodes' edges are those of the table, whose two changes are derived one behind the other
     pub covered_same : (covered node.id overlay.id nodes).graph.edges ≡ covered_edges t node overlay over bare h
@@ -299,5 +299,5 @@ module _ (t : RunTable) (node overlay : NodeRecord) (over : LiesOver t node over
         ∙ ap (λ (kinds : List NodeKind). refreshed kinds (with_replaced node.id overlay.id (Some (Node overlay.id))
         (refreshed kinds (with_edge (node_edge overlay.id Backing node.id) t.edges)))) (sym (kinds_alike t nodes joined h.apart alike.rows))
 
-    pub edges_are_apart : IsApart nodes.graph.edges node.id overlay.id
+    pub edges_are_apart : IsOverlayApart nodes.graph.edges node.id overlay.id
     edges_are_apart = edges_apart

@@ -12,13 +12,13 @@ use Rattle.qmp_rules.specs.Prepared.{IsStoppedFor}
 use Rattle.qmp_rules.specs.declared.judge.PrepareStop.{PrepareStop}
 use Rattle.qmp_rules.specs.declared.judge.PrepareStop.TheVariants.{Refused, NoMemory}
 use Rattle.qmp_rules.specs.declared.refusal.Refusal.{Refusal}
-use Rattle.qmp_rules.specs.declared.rows.Device.{Device}
+use Rattle.qmp_rules.specs.declared.rows.DeviceRow.{DeviceRow}
 use Rattle.flat_machine.proofs.Asked.{NoneHolds, not-refused}
 use Rattle.world_commands.specs.Detaching.{is_detachment}
 use Rattle.world_parts.specs.Handling.{SaysRefusal}
 use Rattle.world_commands.proofs.CreatedAsked.{asked}
 
-is_there : (found : Option Device) → is_none found ≡ false → IsSome found
+is_there : (found : Option DeviceRow) → is_none found ≡ false → IsSome found
 is_there None bad = absurd (let no : ⊥ = cc bad in no)
 is_there (Some device) is = refl
 

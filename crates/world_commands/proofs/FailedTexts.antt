@@ -17,7 +17,7 @@ use Rattle.blk_base.specs.declared.fault.DevNo.{DevNo}
 use Rattle.blk_base.specs.declared.fault.FaultFrom.{FaultFrom}
 use Rattle.blk_base.specs.declared.fault.FaultFrom.TheVariants.{Store, Dev, Sink}
 use Rattle.blk_base.specs.declared.fault.Fault.TheVariants as fault
-use Rattle.blk_history.specs.Line.{IsPlain as StaysInJson}
+use Rattle.blk_history.specs.Line.{StaysInJson}
 use Rattle.blk_history.specs.Transcript.{fault_text}
 use Rattle.blk_history.proofs.Tellings.{plain_io, plain_space}
 use Rattle.qmp_codec.specs.Lines.{id_at}

@@ -11,7 +11,7 @@ use Rattle.blk_graph.proofs.RefreshLemmas.{refreshed-by, ruled-same}
 use Rattle.qmp_rules.specs.Changes.{changed}
 use Rattle.qmp_rules.specs.Table.{RunTable}
 use Rattle.qmp_rules.specs.declared.change.Change.TheVariants.{RemoveNode}
-use Rattle.qmp_rules.specs.declared.rows.Device.{Device}
+use Rattle.qmp_rules.specs.declared.rows.DeviceRow.{DeviceRow}
 use Rattle.world_parts.specs.Coherent.{AskToWrite}
 use Rattle.world_commands.proofs.EasedTables.{IsTableEased}
 
@@ -40,7 +40,7 @@ asks_left t node asks g device edge at writes there from =
 
 pub asks_eased : (t now : RunTable) → IsTableEased t now → AskToWrite t → AskToWrite now
 asks_eased t now e asks g device edge at writes there from =
-    asks g device edge (sym (ap (find (λ (d : Device). d.number == g)) e.devices) ∙ at) writes
+    asks g device edge (sym (ap (find (λ (d : DeviceRow). d.number == g)) e.devices) ∙ at) writes
     (subst (λ (edges : List Edge). Contains edges edge) e.edges there) from
 
 -- ---- and they stay

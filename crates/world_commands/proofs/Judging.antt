@@ -4,7 +4,7 @@ use Rattle.blk_base.specs.Pieces.{end_of}
 use Rattle.trace_codec.specs.declared.op.Op.{Op}
 use Rattle.blk_history.specs.Disk.{span_of}
 use Rattle.blk_history.specs.Fold.{With}
-use Rattle.qmp_rules.specs.declared.rows.Device.{Device}
+use Rattle.qmp_rules.specs.declared.rows.DeviceRow.{DeviceRow}
 use Rattle.qmp_rules.specs.Table.{RunTable, device_by_number}
 use Rattle.qmp_rules.specs.Queries.{bytes_of_node}
 use Rattle.flat_machine.specs.State.{disk_of_guest}
@@ -29,7 +29,7 @@ pub judged-inside : (w : WorldSeen) (g r : ℕ) (op : Op) → IsNextJudged (seen
     → With (disk_of_guest w.table g) (λ node. end_of (span_of op) ≤ bytes_of_node w.table node)
 judged-inside w g r op is = at (device_by_number w.table g) is.2
   where
-    at : (device : Option Device) → With device (λ d. With (disk_of_guest w.table g) (λ node. CanAdmit op d.read_only (bytes_of_node w.table node)))
+    at : (device : Option DeviceRow) → With device (λ d. With (disk_of_guest w.table g) (λ node. CanAdmit op d.read_only (bytes_of_node w.table node)))
         → With (disk_of_guest w.table g) (λ node. end_of (span_of op) ≤ bytes_of_node w.table node)
     at None none = absurd none
     at (Some device) holds =
@@ -50,6 +50,6 @@ judged-allowed w g r op is =
     with-map (device_by_number w.table g) (λ device. With (disk_of_guest w.table g) (λ node. CanAdmit op device.read_only (bytes_of_node w.table node)))
     (λ device. IsForbidden op device.read_only → ⊥) (λ device holds. at device (disk_of_guest w.table g) holds) is.2
   where
-    at : (device : Device) (disk : Option ℕ) → With disk (λ node. CanAdmit op device.read_only (bytes_of_node w.table node)) → IsForbidden op device.read_only → ⊥
+    at : (device : DeviceRow) (disk : Option ℕ) → With disk (λ node. CanAdmit op device.read_only (bytes_of_node w.table node)) → IsForbidden op device.read_only → ⊥
     at device None none = absurd none
     at device (Some node) can = can.allowed

@@ -17,7 +17,7 @@ use Rattle.qmp_rules.specs.Table.{RunTable, device_by_number}
 use Rattle.qmp_rules.specs.declared.change.Change.{Change}
 use Rattle.qmp_rules.specs.declared.change.Change.TheVariants.{UseFile}
 use Rattle.qmp_rules.specs.declared.refusal.Refusal.{Refusal}
-use Rattle.qmp_rules.specs.declared.rows.Device.{Device}
+use Rattle.qmp_rules.specs.declared.rows.DeviceRow.{DeviceRow}
 use Rattle.qmp_rules.specs.declared.rows.NodeRecord.{NodeRecord}
 use Rattle.qmp_rules.specs.declared.told.Told.{Told}
 use Rattle.flat_machine.specs.Agreement.{Contents}
@@ -228,7 +228,7 @@ coherent_of w goes rest = record {
 -- a guest's device is the same
 pub allowed_same : (t now : RunTable) (guests : List Guest) → ((g : ℕ) → device_by_number now g ≡ device_by_number t g) → AreAllowed t guests → AreAllowed now guests
 allowed_same t now guests same are g f flies =
-    subst (λ (device : Option Device). With device (λ d. IsForbidden f.op d.read_only → ⊥)) (sym (same g)) (are g f flies)
+    subst (λ (device : Option DeviceRow). With device (λ d. IsForbidden f.op d.read_only → ⊥)) (sym (same g)) (are g f flies)
 
 -- ---- a file is used
 
@@ -242,7 +242,7 @@ shape_same t = record { nodes = refl; edges = refl; devices = refl; guests = ref
 module _ (t now : RunTable) (shape : HasTableShape t now) where
   pub entered_shape : KeepsEntered t now
   entered_shape = record {
-    devices = λ g. ap (find (λ (device : Device). device.number == g)) shape.devices;
+    devices = λ g. ap (find (λ (device : DeviceRow). device.number == g)) shape.devices;
     drives = λ g. ap (child_of (GuestOf g) Drive) shape.edges;
     rows = λ node here. ap (find (λ (row : NodeRecord). row.id == node)) shape.nodes;
     children = λ node role here. ap (child_of (Node node) role) shape.edges;

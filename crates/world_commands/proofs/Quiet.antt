@@ -7,7 +7,7 @@ use Rattle.trace_codec.specs.declared.awaiting.Await.{Await}
 use Rattle.trace_codec.specs.declared.awaiting.Await.TheVariants as await
 use Rattle.blk_history.specs.Fold.{With, change}
 use Rattle.blk_history.specs.Machine.{Flight}
-use Rattle.blk_history.specs.Legal.{IsOver}
+use Rattle.blk_history.specs.Legal.{IsFlightOver}
 use Rattle.blk_history.specs.declared.entry.Refused.{Refused}
 use Rattle.blk_history.specs.declared.event.Event.{Event}
 use Rattle.blk_history.specs.declared.event.Event.TheVariants.{Admit, Refuse, Retire, Reached, Done}
@@ -129,12 +129,12 @@ in-flight guests g P is = at (slice_get guests g) refl is
     at None e none = none
     at (Some row) e flies = (rw e refl, flies)
 
-pub retirement-comes : (w : WorldSeen) (g : ℕ) → With (flight_at w.progress.guests g) IsOver → (o : Opening) → Comes o w → Comes o (with_history w (with_retirement g))
+pub retirement-comes : (w : WorldSeen) (g : ℕ) → With (flight_at w.progress.guests g) IsFlightOver → (o : Opening) → Comes o w → Comes o (with_history w (with_retirement g))
 retirement-comes w g is o comes =
     quiet o w (with_retirement g w.progress) (Retire g (requests_done w.progress.guests g)) comes refl refl (refl, refl)
     (λ was. coherent-end _ _ _ _ was (with_retirement g w.progress) g refl) refl (λ s. refl)
     (λ s shows. (
-      (shows.table.rest, rw shows.guests.guests_are (in-flight w.progress.guests g IsOver is)),
+      (shows.table.rest, rw shows.guests.guests_are (in-flight w.progress.guests g IsFlightOver is)),
       shows-onward o s w (with_retirement g w.progress) (change g finished s.guests) s.ended shows (ap (change g finished) shows.guests.guests_are)
           (shows.guests.ended_are ∙ sym (ended-push w.progress.log.events (Retire g (requests_done w.progress.guests g)) refl)),
     ))

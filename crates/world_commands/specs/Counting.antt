@@ -7,7 +7,7 @@ use Rattle.blk_base.specs.declared.file.Opened.{Opened}
 use Rattle.blk_history.specs.Fold.{With}
 use Rattle.blk_nodes.specs.Nodes.{DeviceSeen, device_in}
 use Rattle.flat_machine.specs.EventLicence.{Sources}
-use Rattle.flat_machine.specs.Licence.{Counts, IsBetween}
+use Rattle.flat_machine.specs.Licence.{Counts, IsBetweenCounts}
 use Rattle.world_parts.specs.Face.{WorldSeen, first_counts, counts_now}
 
 -- ---- counts only rise
@@ -52,8 +52,8 @@ counts_within w v = record {
 
 -- A fault was reached in an event: it is a rise since the opening, and one above the count that the event began with.
 pub record IsFaultReached (w v : WorldSeen) (fault : FaultAt) : Type 0 where
-  pub rise : IsBetween (first_counts v) (counts_now v) fault
-  pub new : IsBetween (counts_within w v) (counts_now v) fault
+  pub rise : IsBetweenCounts (first_counts v) (counts_now v) fault
+  pub new : IsBetweenCounts (counts_within w v) (counts_now v) fault
   pub fits : fault.count ≤ 18446744073709551615
 
 -- the fault that an event names was reached in it, where it names one

@@ -4,7 +4,7 @@ use Rattle.qmp_codec.specs.Commands.{Cmd}
 use Rattle.qmp_codec.specs.declared.command.Command.TheVariants as command
 use Rattle.qmp_rules.specs.Answers.{refusal_to, told_none}
 use Rattle.qmp_rules.specs.Table.{RunTable, device_named}
-use Rattle.qmp_rules.specs.declared.rows.Device.{Device}
+use Rattle.qmp_rules.specs.declared.rows.DeviceRow.{DeviceRow}
 use Rattle.flat_machine.specs.Marks.{AreCalm, Drained, MustWait, after_later, drained_by}
 use Rattle.flat_machine.specs.State.{State}
 use Rattle.blk_nodes.specs.Adding.{without_guest}
@@ -20,7 +20,7 @@ is_detachment c = false
 
 -- its guest is on no node any more
 pub record IsDetached (t : RunTable) (id : List ℕ) (nodes now : Nodes) : Type 0 where
-  pub device : Device
+  pub device : DeviceRow
   pub named : device_named t id ≡ Some device
   pub gone : now ≡ without_guest device.number nodes
   pub disks : (other : ℕ) → disk_of now other ≡ disk_of nodes other

@@ -2,7 +2,7 @@
 use Rattle.std.specs.Prelude.{◌≡◌, ◌↔◌, ℕ, Bool, true, false, List, Option, Some, None, string_bytes}
 use Rattle.q2_image.specs.Image.{Known}
 use Rattle.blk_graph.specs.Graph.{HasNode, ids}
-use Rattle.blk_graph.specs.Judged.{IsApart}
+use Rattle.blk_graph.specs.Judged.{IsOverlayApart}
 use Rattle.blk_graph.specs.Rule.{first_conflict}
 use Rattle.qmp_codec.specs.Commands.{Cmd}
 use Rattle.qmp_codec.specs.declared.command.Command.TheVariants as command
@@ -73,7 +73,7 @@ pub record CanCover (t : RunTable) (c : Snapshot (List ℕ)) (nodes : Nodes) : T
   pub overlay_is : id_named t c.overlay ≡ Some overlay
   pub there : HasNode nodes.graph node
   pub fits : IsCover nodes node overlay
-  pub apart : IsApart nodes.graph.edges node overlay
+  pub apart : IsOverlayApart nodes.graph.edges node overlay
   pub keeps : first_conflict (ids nodes.graph) (covered node overlay nodes).graph.edges ≡ None
 
 -- it is over it; where it maps no cluster it reads as the node did

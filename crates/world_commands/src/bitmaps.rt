@@ -25,7 +25,7 @@ use crate::in_table::{accepted_alone, prepare};
 use blk_base::{NoMemory, Text};
 use blk_bitmaps::{Bitmap, BitmapStop, Bitmaps};
 use blk_graph::{NodeId, free_id};
-use qmp_codec::{Amount, BitmapAdd, BitmapMerge, BitmapName, Command, Source};
+use qmp_codec::{Amount, BitmapAdd, BitmapMerge, BitmapName, Command, MergeSource};
 use qmp_rules::{Amounts, Edits, Names, Told};
 use std::alloc::Global;
 use world_parts::{accepted_text, refused};
@@ -208,21 +208,21 @@ fn new_of(
 
 // ---- what commands change
 
-fn source_node<'x>(node: &'x str, source: &'x Source) -> &'x str
+fn source_node<'x>(node: &'x str, source: &'x MergeSource) -> &'x str
     ensures { result.now ≡ source_node node.now (seen_source source.now) }
 {
     match source {
-        Source::Name(_) => node,
-        Source::Of(bitmap) => bitmap.node.as_str(),
+        MergeSource::Name(_) => node,
+        MergeSource::Of(bitmap) => bitmap.node.as_str(),
     }
 }
 
-fn source_name(source: &Source) -> &str
+fn source_name(source: &MergeSource) -> &str
     ensures { result.now ≡ source_name (seen_source source.now) }
 {
     match source {
-        Source::Name(name) => name.as_str(),
-        Source::Of(bitmap) => bitmap.name.as_str(),
+        MergeSource::Name(name) => name.as_str(),
+        MergeSource::Of(bitmap) => bitmap.name.as_str(),
     }
 }
 

@@ -10,7 +10,7 @@ ghost use Rattle.qmp_rules.specs.Room.{HasRoomForChanges};
 ghost use Rattle.flat_machine.specs.State.{State, drive_of};
 ghost use Rattle.flat_machine.specs.Wiring.{TableStands};
 ghost use Rattle.blk_graph.specs.Graph.{HasNode, ids};
-ghost use Rattle.blk_graph.specs.Judged.{IsApart};
+ghost use Rattle.blk_graph.specs.Judged.{IsOverlayApart};
 ghost use Rattle.blk_graph.specs.Rule.{first_conflict};
 ghost use Rattle.blk_nodes.specs.Covering.{covered, IsClear, IsCover, ReadCovered};
 ghost use Rattle.blk_nodes.specs.Overlays.{IsFresh};
@@ -81,7 +81,7 @@ fn told_of<D: Device>(
 fn put_over<D: Device>(nodes: &mut Nodes<D>, node: NodeId, overlay: NodeId)
     requires there { HasNode nodes.old.graph node }
     requires fits { IsCover nodes.old node overlay }
-    requires apart { IsApart nodes.old.graph.edges node overlay }
+    requires apart { IsOverlayApart nodes.old.graph.edges node overlay }
     requires keeps { first_conflict (ids nodes.old.graph)
         (covered node overlay nodes.old).graph.edges ≡ None }
     ensures over { nodes.new ≡ covered node overlay nodes.old }

@@ -14,8 +14,8 @@ use Rattle.blk_nodes.specs.declared.stop.AddStop.TheVariants as stops
 use Rattle.qmp_codec.specs.declared.command.Command.TheVariants as command
 use Rattle.qmp_codec.specs.declared.nodes.AddQcow2.{AddQcow2}
 use Rattle.qmp_codec.specs.declared.nodes.Added.TheVariants as added
-use Rattle.qmp_codec.specs.declared.nodes.Backing.{Backing as Said}
-use Rattle.qmp_codec.specs.declared.nodes.Backing.TheVariants as said
+use Rattle.qmp_codec.specs.declared.nodes.BackingRef.{BackingRef}
+use Rattle.qmp_codec.specs.declared.nodes.BackingRef.TheVariants as said
 use Rattle.qmp_codec.specs.declared.nodes.FileRef.TheVariants as file_ref
 use Rattle.qmp_codec.specs.declared.nodes.InlineFile.{InlineFile}
 use Rattle.qmp_rules.specs.Answers.{refusal_to}
@@ -106,7 +106,7 @@ module _ (t : RunTable) (told : Told) (c : Adding) (none : refusal_to t told (co
   -- it fits its backing node
   module _ (nodes : Nodes) (alike : AreNodesOf t nodes) (apart : HaveDistinctIds t) (image : Known)
       (quiet : (names-other image.header ≡ false) × (sizes-of image.header ≡ None)) where
-    fits-by : (b : Option (Said (List ℕ))) → qcow2.backing ≡ b → holds t told (ask.Found (backing_name b)) ≡ None
+    fits-by : (b : Option (BackingRef (List ℕ))) → qcow2.backing ≡ b → holds t told (ask.Found (backing_name b)) ≡ None
         → backing_stop image (backing_for t b) (backing_size nodes (backing_for t b)) ≡ None
     fits-by None is found = by_name (is_some image.header.name) refl
       where

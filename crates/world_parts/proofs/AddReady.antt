@@ -15,8 +15,8 @@ use Rattle.blk_nodes.specs.Overlays.{Asked, backing_node, edges_for, format_edge
 use Rattle.qmp_codec.specs.declared.command.Command.TheVariants as command
 use Rattle.qmp_codec.specs.declared.nodes.AddRaw.{AddRaw}
 use Rattle.qmp_codec.specs.declared.nodes.Added.TheVariants as added
-use Rattle.qmp_codec.specs.declared.nodes.Backing.{Backing as Said}
-use Rattle.qmp_codec.specs.declared.nodes.Backing.TheVariants as said
+use Rattle.qmp_codec.specs.declared.nodes.BackingRef.{BackingRef}
+use Rattle.qmp_codec.specs.declared.nodes.BackingRef.TheVariants as said
 use Rattle.qmp_codec.specs.declared.nodes.FileRef.TheVariants as file_ref
 use Rattle.qmp_rules.specs.Answers.{refusal_to}
 use Rattle.qmp_rules.specs.Asks.{holds}
@@ -50,7 +50,7 @@ backing-named : (found : Option ℕ) → backing_node (backing_at found) ≡ fou
 backing-named None = refl
 backing-named (Some node) = refl
 
-pub backing-same : (t : RunTable) (b : Option (Said (List ℕ))) → backing_node (backing_for t b) ≡ option_and_then (id_named t) (backing_name b)
+pub backing-same : (t : RunTable) (b : Option (BackingRef (List ℕ))) → backing_node (backing_for t b) ≡ option_and_then (id_named t) (backing_name b)
 backing-same t None = refl
 backing-same t (Some said.Null) = refl
 backing-same t (Some (said.Name name)) = backing-named (id_named t name)

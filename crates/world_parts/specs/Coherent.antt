@@ -15,7 +15,7 @@ use Rattle.blk_nodes.specs.Nodes.{Nodes, DeviceSeen, AreTold, row_at, driver_kin
 use Rattle.blk_nodes.specs.declared.row.Driver.{Driver}
 use Rattle.blk_nodes.specs.declared.row.Driver.TheVariants.{Raw}
 use Rattle.blk_nodes.specs.declared.row.Row.{Row}
-use Rattle.qmp_rules.specs.declared.rows.Device.{Device}
+use Rattle.qmp_rules.specs.declared.rows.DeviceRow.{DeviceRow}
 use Rattle.qmp_rules.specs.declared.rows.NodeRecord.{NodeRecord}
 use Rattle.qmp_rules.specs.Table.{RunTable, node_by_id, device_by_number}
 use Rattle.qmp_rules.specs.Chains.{disk_node}
@@ -89,15 +89,16 @@ AreAllowed t guests = (g : ℕ) (f : Flight) → flight_at guests g ≡ Some f
 -- the edge of a device that may write asks to write
 abbrev pub AskToWrite : RunTable → Type 0
 AskToWrite t =
-    (g : ℕ) (device : Device) (edge : Edge) → device_by_number t g ≡ Some device
+    (g : ℕ) (device : DeviceRow) (edge : Edge) → device_by_number t g ≡ Some device
     → device.read_only ≡ false
     → Contains t.edges edge → edge.parent ≡ GuestOf g → edge.perm.write ≡ true
 
 -- and the node that it is on isn't read-only
 abbrev pub AreOnWritable : RunTable → Type 0
 AreOnWritable t =
-    (g node : ℕ) (device : Device) → device_by_number t g ≡ Some device → device.read_only ≡ false
-    → drive_of t g ≡ Some node → With (node_by_id t node) (λ row. row.read_only ≡ false)
+    (g node : ℕ) (device : DeviceRow) → device_by_number t g ≡ Some device
+    → device.read_only ≡ false → drive_of t g ≡ Some node
+    → With (node_by_id t node) (λ row. row.read_only ≡ false)
 
 -- ---- openings
 

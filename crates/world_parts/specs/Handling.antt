@@ -11,7 +11,7 @@ use Rattle.qmp_rules.specs.Table.{RunTable, device_named, id_named}
 use Rattle.qmp_rules.specs.declared.judge.PrepareStop.{PrepareStop}
 use Rattle.qmp_rules.specs.declared.judge.PrepareStop.TheVariants.{Refused, NoMemory}
 use Rattle.qmp_rules.specs.declared.refusal.Refusal.{Refusal}
-use Rattle.qmp_rules.specs.declared.rows.Device.{Device}
+use Rattle.qmp_rules.specs.declared.rows.DeviceRow.{DeviceRow}
 use Rattle.blk_graph.specs.Graph.{HasNode, ids}
 use Rattle.blk_graph.specs.Rule.{first_conflict}
 use Rattle.blk_nodes.specs.Adding.{guest_edge, with_below}
@@ -81,7 +81,7 @@ is_attachment c = false
 
 -- The table has the new device, and the node of its drive. That its edge is drawn to the node breaks no rule.
 pub record CanAttach (u : RunTable) (c : DeviceAdd (List ℕ)) (nodes : Nodes) : Type 0 where
-  pub device : Device
+  pub device : DeviceRow
   pub named : device_named u c.id ≡ Some device
   pub node : ℕ
   pub found : id_named u c.drive ≡ Some node
@@ -92,7 +92,7 @@ pub record CanAttach (u : RunTable) (c : DeviceAdd (List ℕ)) (nodes : Nodes) :
 
 -- the edge is drawn
 pub record IsAttached (u : RunTable) (c : DeviceAdd (List ℕ)) (nodes now : Nodes) : Type 0 where
-  pub device : Device
+  pub device : DeviceRow
   pub named : device_named u c.id ≡ Some device
   pub node : ℕ
   pub found : id_named u c.drive ≡ Some node

@@ -19,8 +19,8 @@ use Rattle.qmp_codec.specs.declared.nodes.AddQcow2.{AddQcow2}
 use Rattle.qmp_codec.specs.declared.nodes.AddRaw.{AddRaw}
 use Rattle.qmp_codec.specs.declared.nodes.Added.{Added}
 use Rattle.qmp_codec.specs.declared.nodes.Added.TheVariants as added
-use Rattle.qmp_codec.specs.declared.nodes.Backing.{Backing as Said}
-use Rattle.qmp_codec.specs.declared.nodes.Backing.TheVariants as said
+use Rattle.qmp_codec.specs.declared.nodes.BackingRef.{BackingRef}
+use Rattle.qmp_codec.specs.declared.nodes.BackingRef.TheVariants as said
 use Rattle.qmp_codec.specs.declared.nodes.FileRef.{FileRef}
 use Rattle.qmp_codec.specs.declared.nodes.FileRef.TheVariants as file_ref
 use Rattle.qmp_codec.specs.declared.nodes.InlineFile.{InlineFile}
@@ -109,7 +109,7 @@ abbrev pub backing_at : Option ℕ → Backing
 backing_at None = Null
 backing_at (Some node) = Node node
 
-abbrev pub backing_for : RunTable → Option (Said (List ℕ)) → Backing
+abbrev pub backing_for : RunTable → Option (BackingRef (List ℕ)) → Backing
 backing_for t None = Unsaid
 backing_for t (Some said.Null) = Null
 backing_for t (Some (said.Name name)) = backing_at (id_named t name)

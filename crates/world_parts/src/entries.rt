@@ -6,7 +6,7 @@ ghost use Rattle.trace_codec.specs.Awaits.{seen_await};
 ghost use Rattle.blk_history.specs.Recorded.{log_with_entry, log_with_shown};
 
 use blk_base::{Outcome, Text};
-use blk_history::{Asked, Awaited, Entry, History, Refused, Understood};
+use blk_history::{Awaited, Entry, History, KeptRequest, Refused, Understood};
 use qmp_codec::Command;
 use trace_codec::{Await, Op};
 
@@ -20,7 +20,7 @@ pub(crate) fn note_admission(history: &mut History, guest: u32, request: u32, op
     history.push(Entry::Admit {
         guest,
         request,
-        op: Asked::new(op),
+        op: KeptRequest::new(op),
     });
     place
 }
@@ -33,7 +33,7 @@ pub(crate) fn note_refusal(history: &mut History, guest: u32, request: u32, op: 
     history.push(Entry::Refuse {
         guest,
         request,
-        op: Asked::new(op),
+        op: KeptRequest::new(op),
         why,
     });
 }

@@ -26,6 +26,6 @@ pub use drained::{Drained, is_held};
 pub use executed::Executed;
 pub use handling::refused;
 pub use in_the_way::{InTheWay, first_in_the_way};
-pub use line::{Line, read_line, stopped_text};
+pub use line::{LineRead, read_line, stopped_text};
 pub use progress::Progress;
 pub use run_store::RunStore;

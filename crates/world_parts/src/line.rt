@@ -18,19 +18,19 @@ use std::alloc::Global;
 
 /// A line as it is read: a command, or why it is none.
 #[derive(Drop)]
-pub enum Line {
+pub enum LineRead {
     Command(Command),
     Stop(CodecStop),
 }
 
 /// Reads a line.
-pub fn read_line(alloc: Global, given: &str) -> Result<Line, NoMemory>
+pub fn read_line(alloc: Global, given: &str) -> Result<LineRead, NoMemory>
     ensures { IfOk result (λ line. command_at given.now ≡ command_or_stop line) }
 {
     match read_command(alloc, given) {
-        Ok(command) => Ok(Line::Command(command)),
+        Ok(command) => Ok(LineRead::Command(command)),
         Err(CodecStop::NoMemory) => Err(NoMemory),
-        Err(stop) => Ok(Line::Stop(stop)),
+        Err(stop) => Ok(LineRead::Stop(stop)),
     }
 }
 

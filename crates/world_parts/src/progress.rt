@@ -123,7 +123,7 @@ impl Progress {
     ghost use Rattle.qmp_codec.specs.Commands.{seen_command};
     ghost use Rattle.blk_history.specs.Fold.{With};
     ghost use Rattle.blk_history.specs.Machine.{Flight};
-    ghost use Rattle.blk_history.specs.Legal.{IsOver};
+    ghost use Rattle.blk_history.specs.Legal.{IsFlightOver};
     ghost use Rattle.trace_codec.specs.Awaits.{seen_await};
     ghost use Rattle.world_parts.specs.Draining.{number_in_flight};
     ghost use Rattle.world_parts.specs.Progress.{no_progress, answered_in, ended_in, requests_done, IsFree, HasRoomFor, with_admission, with_refusal, with_retirement, with_bare_entry, with_piece_entry, flight_at, CanShow};
@@ -209,7 +209,7 @@ impl Progress {
 
     /// Ends a guest's request in flight.
     pub fn retire(&mut self, guest: u32)
-        requires { With (flight_at self.old.guests guest) IsOver }
+        requires { With (flight_at self.old.guests guest) IsFlightOver }
         ensures { self.new ≡ with_retirement guest self.old }
     {
         let row = row_at(self.rows.as_slice(), guest);

@@ -2,7 +2,7 @@
 ghost use Rattle.std.specs.Prelude.{◌≡◌, ◌≢◌, Err, OnOk, OnErr};
 ghost use Rattle.blk_graph.specs.Edits.{with_over};
 ghost use Rattle.blk_graph.specs.Graph.{ids, HasNode};
-ghost use Rattle.blk_graph.specs.Judged.{IsApart, IsJudged};
+ghost use Rattle.blk_graph.specs.Judged.{IsOverlayApart, IsJudged};
 ghost use Rattle.blk_nodes.specs.Covering.{covered, IsClear, IsCover, ReadCovered};
 
 use crate::nodes::Nodes;
@@ -21,7 +21,7 @@ impl<D: Device> Nodes<D> {
         requires overlay { IsCover self.old node overlay }
         ensures judged { IsJudged (ids self.old.graph) self.old.graph.kinds
             (with_over node overlay self.old.graph.edges) result }
-        ensures no_cycle { IsApart self.old.graph.edges node overlay
+        ensures no_cycle { IsOverlayApart self.old.graph.edges node overlay
             → result ≢ Err GraphStop.Cycle }
         ensures ok { OnOk result (self.new ≡ covered node overlay self.old) }
         ensures disks { OnOk result (IsClear self.old overlay

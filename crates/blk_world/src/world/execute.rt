@@ -17,7 +17,7 @@ use crate::world::World;
 use blk_base::{NoMemory, Store};
 use qmp_codec::{CodecStop, Command};
 use std::alloc::Global;
-use world_parts::{Carried, Executed, Line, read_line, stopped_text};
+use world_parts::{Carried, Executed, LineRead, read_line, stopped_text};
 
 /// A copy of the text of a line.
 fn copied(alloc: Global, text: &str) -> Result<String, NoMemory>
@@ -145,8 +145,8 @@ impl<S: Store> World<S> {
         ensures comes { (o : Opening) → Comes o self.old → Comes o self.new }
     {
         match read_line(alloc, text)? {
-            Line::Command(command) => self.put_command(alloc, line, text, command),
-            Line::Stop(stop) => self.put_stop(alloc, line, text, stop),
+            LineRead::Command(command) => self.put_command(alloc, line, text, command),
+            LineRead::Stop(stop) => self.put_stop(alloc, line, text, stop),
         }
     }
 }

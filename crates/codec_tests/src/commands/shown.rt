@@ -1,11 +1,11 @@
 //! Commands in words: the name, and each member that is there.
 
 use qmp_codec::{
-    Action, AddQcow2, AddRaw, Added, Amount, Backing, Backup, BitmapAdd, BitmapMerge, BitmapMode,
-    BitmapName, BlockdevAdd, BlockdevCreate, Cache, Command, Commit, CompletionMode, CopyMode,
-    CreateQcow2, Created, DeviceAdd, DeviceDriver, Discard, Driver, FileRef, ImageFormat,
-    InlineFile, JobOptions, Mirror, NodeOptions, OnError, Sharing, Snapshot, Source, Stream, Sync,
-    Transaction, Version,
+    Action, AddQcow2, AddRaw, Added, Amount, BackingRef, Backup, BitmapAdd, BitmapMerge,
+    BitmapMode, BitmapName, BlockdevAdd, BlockdevCreate, Cache, Command, Commit, CompletionMode,
+    CopyMode, CreateQcow2, Created, DeviceAdd, DeviceDriver, Discard, Driver, FileRef, ImageFormat,
+    InlineFile, JobOptions, MergeSource, Mirror, NodeOptions, OnError, Sharing, Snapshot, Stream,
+    Sync, Transaction, Version,
 };
 use std::alloc::Global;
 use std::test::Fail;
@@ -294,10 +294,10 @@ impl Words {
         }
     }
 
-    fn backing(&mut self, backing: &Option<Backing>) {
+    fn backing(&mut self, backing: &Option<BackingRef>) {
         match backing {
-            Some(Backing::Null) => self.push(" backing"),
-            Some(Backing::Name(name)) => self.put("backing", name.as_str()),
+            Some(BackingRef::Null) => self.push(" backing"),
+            Some(BackingRef::Name(name)) => self.put("backing", name.as_str()),
             None => {}
         }
     }
@@ -395,10 +395,10 @@ impl Words {
         self.put("name", c.name.as_str());
     }
 
-    fn source(&mut self, source: &Source) {
+    fn source(&mut self, source: &MergeSource) {
         match source {
-            Source::Name(name) => self.put("name", name.as_str()),
-            Source::Of(bitmap) => self.bitmap_name(bitmap),
+            MergeSource::Name(name) => self.put("name", name.as_str()),
+            MergeSource::Of(bitmap) => self.bitmap_name(bitmap),
         }
     }
 

@@ -7,7 +7,7 @@ ghost use Rattle.qmp_rules.specs.Room.{KeepsSpare};
 ghost use Rattle.qmp_rules.specs.Table.{with_file};
 
 use crate::edit;
-use crate::rows::{Asked, BitmapRow, Device, FileState, JobRecord, NodeRecord, UsedBitmap};
+use crate::rows::{AskedEnd, BitmapRow, DeviceRow, FileState, JobRecord, NodeRecord, UsedBitmap};
 use crate::table::Names;
 use blk_graph::{Edge, NodeId, Parent, Perms};
 use qmp_asks::Name;
@@ -107,7 +107,7 @@ impl Names {
         self.edges.refresh(&kinds);
     }
 
-    pub(crate) fn put_device(&mut self, device: Device)
+    pub(crate) fn put_device(&mut self, device: DeviceRow)
         requires { 0 < self.old.spare.devices }
         ensures table { self.new.table
             ≡ record self.old.table { devices = self.old.table.devices ++ device ∷ [] } }
@@ -192,7 +192,7 @@ impl Names {
         self.started += 1;
     }
 
-    pub(crate) fn ask_job(&mut self, number: u32, asked: Asked)
+    pub(crate) fn ask_job(&mut self, number: u32, asked: AskedEnd)
         ensures table { self.new.table
             ≡ record self.old.table { jobs = map (asked_for number asked) self.old.table.jobs } }
         ensures spare { self.new.spare ≡ self.old.spare }

@@ -15,7 +15,7 @@ use blk_graph::NodeId;
 use blk_nodes::{AddStop, Backing, Nodes};
 use q2_image::Image;
 use qmp_codec::{
-    AddQcow2, AddRaw, Added, Backing as Said, BlockdevAdd, FileRef, InlineFile, NodeOptions,
+    AddQcow2, AddRaw, Added, BackingRef, BlockdevAdd, FileRef, InlineFile, NodeOptions,
 };
 use qmp_rules::Names;
 use std::alloc::Global;
@@ -148,8 +148,8 @@ fn backing_for(names: &Names, added: &AddQcow2) -> Backing
 {
     match &added.backing {
         None => Backing::Unsaid,
-        Some(Said::Null) => Backing::Null,
-        Some(Said::Name(name)) => match names.id_named(name.as_str()) {
+        Some(BackingRef::Null) => Backing::Null,
+        Some(BackingRef::Name(name)) => match names.id_named(name.as_str()) {
             Some(node) => Backing::Node(node),
             None => Backing::Null,
         },

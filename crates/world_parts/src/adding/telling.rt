@@ -12,7 +12,7 @@ ghost use Rattle.world_parts.specs.Adding.{opened_sight};
 use blk_base::NoMemory;
 use q2_image::Image;
 use qmp_asks::{Look, Name};
-use qmp_codec::{AddQcow2, AddRaw, Amount, Backing};
+use qmp_codec::{AddQcow2, AddRaw, Amount, BackingRef};
 use qmp_rules::{FileFault, Names, Refusal, Stopped, Told};
 use std::alloc::Global;
 
@@ -173,8 +173,8 @@ fn backing_name(added: &AddQcow2) -> Option<&str>
         ≡ backing_name (seen_add_qcow2 added.now).backing }
 {
     match &added.backing {
-        Some(Backing::Name(name)) => Some(name.as_str()),
-        Some(Backing::Null) | None => None,
+        Some(BackingRef::Name(name)) => Some(name.as_str()),
+        Some(BackingRef::Null) | None => None,
     }
 }
 

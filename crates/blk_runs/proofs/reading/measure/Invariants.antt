@@ -2,14 +2,14 @@ use Rattle.std.proofs.Common.{ℕ, suc, List, Option, None, Some, length}
 use Rattle.std.specs.Option.{option_copied}
 use Rattle.blk_runs.specs.Runs.{Run}
 use Rattle.blk_runs.specs.Reading.{HasRead, words_behind}
-use Rattle.blk_runs.proofs.ReadBack.{Reads}
+use Rattle.blk_runs.proofs.ReadBack.{HasReadRuns}
 use Rattle.blk_runs.proofs.reading.measure.Given as goal
 
 abbrev pub invariant-loop-rest : goal.invariant-loop-rest
 invariant-loop-rest l = record {
   front : List Run;
   has : HasRead front l.read;
-  reads : Reads l.text front (words_behind (option_copied l.rest));
+  reads : HasReadRuns l.text front (words_behind (option_copied l.rest));
 }
 
 -- what is left behind a space counts one more than its bytes

@@ -2,13 +2,13 @@ use Rattle.std.proofs.Common.{◌≡◌, ◌≤◌, ℕ, suc, List, Option, None
 use Rattle.std.specs.Option.{option_copied}
 use Rattle.blk_runs.specs.Runs.{Run, bytes_of_runs}
 use Rattle.blk_runs.specs.Reading.{words_behind}
-use Rattle.blk_runs.proofs.ReadBack.{Reads}
+use Rattle.blk_runs.proofs.ReadBack.{HasReadRuns}
 use Rattle.blk_runs.proofs.reading.read_bytes.Given as goal
 
 abbrev pub invariant-loop-rest : goal.invariant-loop-rest
 invariant-loop-rest l = record {
   front : List Run;
-  reads : Reads l.text front (words_behind (option_copied l.rest));
+  reads : HasReadRuns l.text front (words_behind (option_copied l.rest));
   items : l.bytes.items ≡ bytes_of_runs front;
   room : l.len ≤ vec_capacity l.bytes;
 }
