@@ -39,7 +39,7 @@ use Rattle.blk_nodes.specs.Nodes.{Nodes, DeviceSeen, AreTold, is_device_of, row_
 use Rattle.blk_nodes.specs.Parts.{OfImage}
 use Rattle.blk_nodes.specs.Reading.{LeadsTo}
 use Rattle.blk_nodes.specs.Sources.{in_file, in_image, in_below, step_by_entry, step_by, step_of}
-use Rattle.blk_nodes.specs.Writing.{IsTornAt, HasPieceCause, WritesImage, WritesBy, WritesPiece, IsDriverAfter, AreRowsAfter, LeavesNodes, HasImageIn, OwnsFile, CanBeWritten, MayWriteThrough, FitsAt, HasRoomAt, own_file, own_place_by, rest_place}
+use Rattle.blk_nodes.specs.Writing.{IsTornAt, HasPieceCause, WritesImage, WritesBy, WritesPiece, IsDriverAfter, AreRowsAfter, LeavesNodes, HasImageIn, OwnsFile, CanBeWritten, MayWriteThrough, FitsAt, HasRoomAt, own_file, own_place_by, rest_span}
 use Rattle.blk_nodes.specs.declared.row.Driver.{Driver}
 use Rattle.blk_nodes.specs.declared.row.Driver.TheVariants.{File, Raw, Qcow2, CopyOnRead}
 use Rattle.blk_nodes.specs.declared.row.Row.{Row}
@@ -376,10 +376,10 @@ module _ (old new : Nodes) (joined : IsJoined old) (now : IsJoined new) (node : 
   abbrev place : Option ℕ
   place = own_place_by (entry_for into.image span) into.image span
 
-  abbrev begins : Option ℕ
-  begins = rest_place place (is_whole into.image span) into.image span
+  abbrev rest : Option Extent
+  rest = rest_span place (is_whole into.image span) into.image span
 
-  pub written : WritesImage (WriteFits into.image span) place begins old new node (length bytes) outcome
+  pub written : WritesImage (WriteFits into.image span) place rest old new node (length bytes) outcome
   written =
       let same : wrote.row ≡ into.row = cc (sym wrote.there ∙ into.there) in
       subst (λ (d : Driver). WritesBy d old new node span bytes outcome) (ap (λ (r : Row). r.driver) same ∙ into.driver) wrote.wrote
@@ -401,7 +401,7 @@ module _ (old new : Nodes) (joined : IsJoined old) (now : IsJoined new) (node : 
 
   pub device_same : outcome ≡ Good → (f : ℕ) → f ≢ written.file → device_in new.devices f ≡ device_in old.devices f
   device_same good f apart =
-      let cause = subst (HasPieceCause (WriteFits into.image span written.before.capacity) place begins (length bytes) written.file old new node written.before written.after) good written.cause in
+      let cause = subst (HasPieceCause (WriteFits into.image span written.before.capacity) place rest (length bytes) written.file old new node written.before written.after) good written.cause in
       cause.2.others f apart
 
   image_before : (n f : ℕ) → HasImageIn new n f → HasImageIn old n f
@@ -468,7 +468,7 @@ module _ (old new : Nodes) (joined : IsJoined old) (now : IsJoined new) (node : 
       nowhere : place ≡ None
       nowhere = ap (λ (e : L2Entry). own_place_by e into.image span) (entry_bare old joined node span into)
 
-      by : (o : Outcome) → HasPieceCause (WriteFits into.image span written.before.capacity) place begins (length bytes) written.file old new node written.before written.after o → GoesWhole o
+      by : (o : Outcome) → HasPieceCause (WriteFits into.image span written.before.capacity) place rest (length bytes) written.file old new node written.before written.after o → GoesWhole o
       by Good is = tt
       by (Torn done dev count) is = absurd (subst (λ (p : Option ℕ). IsTornAt p (length bytes) done) nowhere is.1)
       by (Io dev count) is = tt

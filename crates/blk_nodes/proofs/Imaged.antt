@@ -23,7 +23,7 @@ use Rattle.blk_nodes.specs.Parts.{HasPiece, IsPieceOf, IsDiskFound, RefusesPiece
 use Rattle.blk_nodes.specs.Reading.{HaveRisen, LeadsTo}
 use Rattle.blk_nodes.specs.Sources.{source_at}
 use Rattle.blk_nodes.specs.Walk.{IsKnownAt}
-use Rattle.blk_nodes.specs.Writing.{taken_by, IsDeviceAfter, HasImageCause, HasPieceCause, IsRestRead, WritesImage, WritesBy, WritesPiece, ZerosBy, ZerosPiece, own_place_by, rest_place, zeros_place, IsDriverAfter, AreRowsAfter, LeavesNodes, OwnsFile, own_file, IsOverApart, CanBeWritten, MayWriteThrough, IsApartFrom}
+use Rattle.blk_nodes.specs.Writing.{taken_by, IsDeviceAfter, HasImageCause, HasPieceCause, IsRestRead, WritesImage, WritesBy, WritesPiece, ZerosBy, ZerosPiece, own_place_by, rest_span, zeros_place, IsDriverAfter, AreRowsAfter, LeavesNodes, OwnsFile, own_file, IsOverApart, CanBeWritten, MayWriteThrough, IsApartFrom}
 use Rattle.blk_nodes.specs.declared.part.Part.{Part}
 use Rattle.blk_nodes.specs.declared.row.Driver.{Driver}
 use Rattle.blk_nodes.specs.declared.row.Driver.TheVariants.{Qcow2}
@@ -35,7 +35,7 @@ use Rattle.blk_nodes.proofs.CoveredDisks.{length_disk}
 use Rattle.blk_nodes.proofs.Disks.{disks_risen}
 use Rattle.blk_nodes.proofs.HeldDevices.{told_is, told_held, held_after, before_rise, device_risen, HasRisen-refl, HaveRisen-refl, some_device}
 use Rattle.blk_nodes.proofs.Joints.{joined_after}
-use Rattle.blk_nodes.proofs.PartFits.{rest_begins}
+use Rattle.blk_nodes.proofs.PartFits.{rest_whole}
 use Rattle.blk_nodes.proofs.PartsWritten.{len_is, same_row, start_is}
 use Rattle.blk_nodes.proofs.RestBeside.{read_beside, rest_beside}
 use Rattle.blk_nodes.proofs.Rows.{row_below, image_found}
@@ -54,9 +54,9 @@ module _ (nodes : Nodes) (joined : IsJoined nodes) (part : Part) (may : MayWrite
   abbrev node : ℕ
   node = part.node
 
-  -- where the read of its cluster's rest begins
-  abbrev rest : Option ℕ
-  rest = rest_place (own w.image) (is_whole w.image part.span) w.image part.span
+  -- what is read for the rest of its cluster
+  abbrev rest : Option Extent
+  rest = rest_span (own w.image) (is_whole w.image part.span) w.image part.span
 
   is_piece : IsPieceOf nodes.rows nodes.devices part w.image
   is_piece = image_found (row_at nodes node) w.row w.image (IsPieceOf nodes.rows nodes.devices part) w.there w.driver piece
@@ -182,9 +182,9 @@ module _ (nodes : Nodes) (joined : IsJoined nodes) (part : Part) (may : MayWrite
         let now = some_device (device_in devices part.file) (held_after part.file nodes.devices devices s.risen (rw s.held refl)) in
         let was = before_rise part.file nodes.devices devices now.0 s.risen now.1 in
         let same_device : was.0 ≡ s.device = cc (sym was.1 ∙ s.held) in
-        let begins : rest ≡ Some part.whole.start = rest_begins nodes.rows nodes.devices part w.image is_piece s.less (own w.image) s.nowhere in
+        let whole : rest ≡ Some part.whole = rest_whole nodes.rows nodes.devices part w.image is_piece s.less (own w.image) s.nowhere in
         let is_read : IsRestRead rest nodes new node (Io s.dev s.count)
-        = subst (λ (r : Option ℕ). IsRestRead r nodes new node (Io s.dev s.count)) (sym begins) (part.whole, refl, at_place) in
+        = subst (λ (r : Option Extent). IsRestRead r nodes new node (Io s.dev s.count)) (sym whole) at_place in
         record {
           file = part.file;
           edge = edge;
@@ -452,7 +452,7 @@ refuses_zeroed IsDisk span image device dev full = by (is_whole image span) full
 -- A piece of a qcow2 node, by what the node is.
 pub piece_image : (old new : Nodes) (node : ℕ) (span : Extent) (bytes : List ℕ) (outcome : Outcome) (row : Row) (image : Known) → row_at old node ≡ Some row → row.driver ≡ Qcow2 image
     → WritesImage (WriteFits image span) (own_place_by (entry_for image span) image span)
-    (rest_place (own_place_by (entry_for image span) image span) (is_whole image span) image span) old new node (length bytes) outcome
+    (rest_span (own_place_by (entry_for image span) image span) (is_whole image span) image span) old new node (length bytes) outcome
     → LeavesRow (IsImageWritten (IsToldDisk old node) span bytes) (Qcow2 image) row old new node outcome → WritesPiece old new node span bytes outcome
 piece_image old new node span bytes outcome row image there driver wrote left = record {
   row = row;
@@ -463,11 +463,11 @@ piece_image old new node span bytes outcome row image there driver wrote left = 
 
 pub zeros_image : (old new : Nodes) (node : ℕ) (span : Extent) (outcome : Outcome) (row : Row) (image : Known) → row_at old node ≡ Some row → row.driver ≡ Qcow2 image
     → WritesImage (ZerosFit image span) (zeros_place (is_whole image span) image span)
-    (rest_place (zeros_place (is_whole image span) image span) (is_whole image span) image span) old new node (length (replicate {A = ℕ} span.len 0)) outcome
+    (rest_span (zeros_place (is_whole image span) image span) (is_whole image span) image span) old new node (length (replicate {A = ℕ} span.len 0)) outcome
     → LeavesRow (IsZeroed (IsToldDisk old node) span) (Qcow2 image) row old new node outcome → ZerosPiece old new node span outcome
 zeros_image old new node span outcome row image there driver wrote left =
     let P : ℕ → Type 0 = λ n. WritesImage (ZerosFit image span) (zeros_place (is_whole image span) image span)
-    (rest_place (zeros_place (is_whole image span) image span) (is_whole image span) image span) old new node n outcome in
+    (rest_span (zeros_place (is_whole image span) image span) (is_whole image span) image span) old new node n outcome in
     record {
       row = row;
       there = there;

@@ -124,12 +124,12 @@ module _ (old new : Nodes) (node : ℕ) (dev : DevNo) (count : ℕ) where
   stopped_source (sources.File file start) span leads is = record { file = file; leads = leads; stopped = is.0 }
   stopped_source (sources.Image at file) span leads is = record { file = file; leads = leads; stopped = is.read.0 }
 
-  stopped_rest : (rest : Option ℕ) → IsRestRead rest old new node (Io dev count) → StoppedBelow old new node dev count
+  stopped_rest : (rest : Option Extent) → IsRestRead rest old new node (Io dev count) → StoppedBelow old new node dev count
   stopped_rest None is = absurd is
-  stopped_rest (Some start) is = stopped_source (source_at old node start) is.0 (source_leads old node start) is.2
+  stopped_rest (Some span) is = stopped_source (source_at old node span.start) span (source_leads old node span.start) is
 
   -- a device that the node leads to stopped it
-  pub stopped_piece : (fits : ℕ → Type 0) (own rest : Option ℕ) (n : ℕ) (outcome : Outcome) (wrote : WritesImage fits own rest old new node n outcome)
+  pub stopped_piece : (fits : ℕ → Type 0) (own : Option ℕ) (rest : Option Extent) (n : ℕ) (outcome : Outcome) (wrote : WritesImage fits own rest old new node n outcome)
       → HasPieceCause (fits wrote.before.capacity) own rest n wrote.file old new node wrote.before wrote.after (Io dev count) → StoppedBelow old new node dev count
   stopped_piece fits own rest n outcome wrote cause = elim cause.1 [
     | inl its ↦ record {

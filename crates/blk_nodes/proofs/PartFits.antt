@@ -17,10 +17,10 @@ use Rattle.q2_image.specs.Writing.{PutFits, ZeroFits, own_end, own_place}
 use Rattle.blk_nodes.specs.Changing.{ImageChange, ChangesAround, ChangesInPlace, ChangesPart, ClearsCluster, IsImageWritten, IsZeroed, ZeroesBy, ZeroesPart}
 use Rattle.blk_nodes.specs.Nodes.{DeviceSeen, device_in}
 use Rattle.blk_nodes.specs.Parts.{OfImage, HasPiece, IsPieceOf, IsDiskFound, WritesPart, row_in}
-use Rattle.blk_nodes.specs.Writing.{own_place_by, rest_place, zeros_place}
+use Rattle.blk_nodes.specs.Writing.{own_place_by, rest_span, zeros_place}
 use Rattle.blk_nodes.specs.declared.part.Part.{Part}
 use Rattle.blk_nodes.specs.declared.row.Row.{Row}
-use Rattle.blk_nodes.proofs.PartsWritten.{base_is, cluster_is, entry_is, in_block, size_bits, start_is, len_is, left_wrote, wrote_as}
+use Rattle.blk_nodes.proofs.PartsWritten.{cluster_is, entry_is, in_block, size_bits, start_is, len_is, left_wrote, wrote_as}
 use Rattle.blk_nodes.proofs.HeldDevices.{some_device}
 use Rattle.blk_nodes.proofs.Rows.{has_image, image_found, of_image, row_below, row_found}
 
@@ -95,11 +95,11 @@ module _ (rows : List (Option Row)) (devices : List DeviceSeen) (part : Part) (i
       let len = len_is rows devices part image piece in
       rw bits (whole_false part.span image.header.size piece.some (in_block rows devices part image piece) piece.inside (λ same. absurd (omega (arith, less, len, same))))
 
-  -- the read of the rest of its cluster begins with the cluster
-  pub rest_begins : (own : Option ℕ) → own ≡ None → rest_place own (is_whole image part.span) image part.span ≡ Some part.whole.start
-  rest_begins own none =
-      ap (λ (o : Option ℕ). rest_place o (is_whole image part.span) image part.span) none ∙ ap (λ (b : Bool). rest_place None b image part.span) no_whole
-      ∙ ap (λ (start : ℕ). Some start) (base_is rows devices part image piece ∙ sym (start_is rows devices part image piece))
+  -- the rest of its cluster is read with all that the disk has of it
+  pub rest_whole : (own : Option ℕ) → own ≡ None → rest_span own (is_whole image part.span) image part.span ≡ Some part.whole
+  rest_whole own none =
+      ap (λ (o : Option ℕ). rest_span o (is_whole image part.span) image part.span) none ∙ ap (λ (b : Bool). rest_span None b image part.span) no_whole
+      ∙ ap (λ (span : Extent). Some span) (sym piece.whole)
 
   in_cluster : part.whole.start / cluster_size_in image ≡ cluster_of image part.span
   in_cluster =

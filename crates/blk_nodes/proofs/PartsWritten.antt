@@ -21,14 +21,14 @@ use Rattle.q2_image.specs.Writing.{IsDiskWith, PutFits, ZeroFits, own_end, own_p
 use Rattle.q2_image.proofs.Guests.{guest_zero}
 use Rattle.q2_image.proofs.Mapped.{entry_of_file}
 use Rattle.blk_base.specs.Outcomes.{is_good}
-use Rattle.blk_nodes.specs.Changing.{ImageChange, ChangesAround, ChangesInPlace, ClearsCluster, IsClusterAround, PutsCluster, cluster_start}
+use Rattle.blk_nodes.specs.Changing.{ImageChange, ChangesAround, ChangesInPlace, ClearsCluster, IsClusterAround, PutsCluster, block_around, cluster_start, stretch_around}
 use Rattle.blk_nodes.specs.Found.{found_bytes, IsReadOfSource}
 use Rattle.blk_nodes.specs.Reading.{HaveRisen, IsReadAt}
 use Rattle.blk_nodes.specs.Walk.{IsKnownAt}
 use Rattle.blk_nodes.specs.declared.source.Source.{Source}
 use Rattle.blk_nodes.specs.declared.source.Source.TheVariants as sources
 use Rattle.blk_nodes.specs.Nodes.{DeviceSeen, AreTold, device_in}
-use Rattle.blk_nodes.specs.Parts.{OfImage, HasPiece, IsPieceOf, IsLaid, HasFound, IsDiskFound, CallsRow, IsDiskAfter, ReadsRest, WritesPart, block_around, row_in, stretch_around}
+use Rattle.blk_nodes.specs.Parts.{OfImage, HasPiece, IsPieceOf, IsLaid, HasFound, IsDiskFound, CallsRow, IsDiskAfter, ReadsRest, WritesPart, row_in}
 use Rattle.blk_nodes.specs.Writing.{taken_by, FitsAt, HasRoomAt, HasRoomBy, HasImageCause, IsImageWrite, IsTornAt}
 use Rattle.blk_nodes.specs.declared.part.Part.{Part}
 use Rattle.blk_nodes.specs.declared.row.Driver.{Driver}

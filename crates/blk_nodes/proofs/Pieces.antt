@@ -5,7 +5,8 @@ use Rattle.q2_image.specs.Image.{Known, cluster_size_in}
 use Rattle.q2_image.specs.Reading.{IsWithinCluster}
 use Rattle.blk_nodes.specs.Joined.{IsOverlay, IsJoined}
 use Rattle.blk_nodes.specs.Nodes.{Nodes, row_at, size_by, node_size, file_of}
-use Rattle.blk_nodes.specs.Parts.{IsImage, HasPiece, IsPieceOf, block_around, stretch_around}
+use Rattle.blk_nodes.specs.Parts.{IsImage, HasPiece, IsPieceOf}
+use Rattle.blk_nodes.specs.Changing.{block_around, stretch_around}
 use Rattle.blk_nodes.specs.Walk.{IsKnownAt, CanSourceBeRead}
 use Rattle.blk_nodes.specs.declared.part.Part.{Part}
 use Rattle.blk_nodes.specs.declared.row.Row.{Row}

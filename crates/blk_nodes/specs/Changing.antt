@@ -1,9 +1,9 @@
 -- What the writing of a piece makes of the image in a node's row and of the device of its file: which writes, in their order, and
 -- what is known of the image behind them.
-use Rattle.std.specs.Prelude.{◌≡◌, ◌⊎◌, ℕ, ◌+◌, ◌*◌, ◌%◌, ◌<◌, ◌≤◌, Bool, true, false, List, [], length, replicate, slice_index, take, Option, Some, None}
+use Rattle.std.specs.Prelude.{◌≡◌, ◌⊎◌, ℕ, ◌+◌, ◌-◌, ◌*◌, ◌%◌, ◌<◌, ◌≤◌, min, Bool, true, false, List, [], length, replicate, slice_index, take, Option, Some, None}
 use Rattle.blk_base.specs.Content.{bytes_at, with_bytes}
 use Rattle.blk_base.specs.Device.{AtEachStopOf}
-use Rattle.blk_base.specs.Pieces.{Extent}
+use Rattle.blk_base.specs.Pieces.{Extent, block_size}
 use Rattle.blk_base.specs.declared.device.Device.{Ghosts}
 use Rattle.blk_base.specs.declared.fault.DevStop.{DevStop}
 use Rattle.blk_base.specs.declared.fault.DevStop.TheVariants as stops
@@ -98,6 +98,20 @@ ChangesInPlace part bytes image now before after (NoSpace dev) =
 -- where the cluster of a part begins on the disk
 abbrev pub cluster_start : Known → Extent → ℕ
 cluster_start image part = cluster_of image part * cluster_size_in image
+
+-- the stretch of c bytes, from a multiple of c on, in which a span lies, up to the end of a disk of so many bytes
+abbrev pub stretch_around : ℕ → ℕ → Extent → Extent
+stretch_around c size span =
+    let start = span.start - span.start % c in
+    record { start = start; len = min c (size - start) }
+
+-- the block of it, by which pieces are cut
+abbrev pub block_around : ℕ → Extent → Extent
+block_around size span = stretch_around block_size size span
+
+-- the cluster of it on an image's disk
+abbrev pub cluster_around : Known → Extent → Extent
+cluster_around image span = stretch_around (cluster_size_in image) image.header.size span
 
 -- The bytes of the whole cluster that is put around a part: those of the part in their place, zeros from the disk's end on, and
 -- else what the disk has there, by what is known of its bytes.

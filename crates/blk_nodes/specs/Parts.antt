@@ -1,7 +1,7 @@
 -- A piece of a qcow2 node: where it lies, and what its writing leaves of the rows and the devices.
-use Rattle.std.specs.Prelude.{◌≡◌, ◌⊎◌, ℕ, ◌+◌, ◌-◌, ◌%◌, ◌<◌, ◌≤◌, min, List, length, slice_index, slice_index_or, slice_set, Option, Some, None, IsSome}
+use Rattle.std.specs.Prelude.{◌≡◌, ◌⊎◌, ℕ, ◌+◌, ◌%◌, ◌<◌, ◌≤◌, min, List, length, slice_index, slice_index_or, slice_set, Option, Some, None, IsSome}
 use Rattle.blk_base.specs.Content.{bytes_at, with_bytes}
-use Rattle.blk_base.specs.Pieces.{Extent, block_size, end_of}
+use Rattle.blk_base.specs.Pieces.{Extent, end_of}
 use Rattle.blk_base.specs.declared.fault.DevNo.{DevNo}
 use Rattle.blk_base.specs.declared.fault.Outcome.{Outcome}
 use Rattle.blk_base.specs.declared.fault.Outcome.TheVariants.{Good, Io, NoSpace}
@@ -9,7 +9,7 @@ use Rattle.q2_format.specs.Contents.{image_disk}
 use Rattle.q2_image.specs.Image.{Known, IsImageOf, IsOpen, cluster_size_in}
 use Rattle.q2_image.specs.Reading.{IsWithinCluster}
 use Rattle.q2_image.specs.Writing.{HasHeaderOf, StaysTaken}
-use Rattle.blk_nodes.specs.Changing.{ImageChange}
+use Rattle.blk_nodes.specs.Changing.{ImageChange, cluster_around}
 use Rattle.blk_nodes.specs.Found.{found_bytes, IsReadOfSource}
 use Rattle.blk_nodes.specs.Nodes.{Nodes, DeviceSeen, AreTold, device_in, row_at}
 use Rattle.blk_nodes.specs.Reading.{HaveRisen, OnlyAt}
@@ -34,20 +34,6 @@ OfImage (Some row) P = OfImageBy row.driver P
 -- a node is a qcow2 one
 abbrev pub IsImage : Nodes → ℕ → Type 0
 IsImage nodes node = OfImage (row_at nodes node) (λ _. Unit {0})
-
--- the stretch of c bytes, from a multiple of c on, in which a span lies, up to the end of a disk of so many bytes
-abbrev pub stretch_around : ℕ → ℕ → Extent → Extent
-stretch_around c size span =
-    let start = span.start - span.start % c in
-    record { start = start; len = min c (size - start) }
-
--- the block of it, by which pieces are cut
-abbrev pub block_around : ℕ → Extent → Extent
-block_around size span = stretch_around block_size size span
-
--- the cluster of it on an image's disk
-abbrev pub cluster_around : Known → Extent → Extent
-cluster_around image span = stretch_around (cluster_size_in image) image.header.size span
 
 -- a piece of an image: it has bytes, lies in one cluster within the disk, and the rest of the cluster can be read
 pub record IsPieceOf (rows : List (Option Row)) (devices : List DeviceSeen) (part : Part)

@@ -17,7 +17,7 @@ use Rattle.q2_format.specs.declared.entries.L2Entry.TheVariants as entries
 use Rattle.q2_image.specs.Image.{Known, IsImageOf, entry_in}
 use Rattle.q2_image.specs.Room.{WriteFits, ZerosFit, entry_for, is_whole}
 use Rattle.q2_image.specs.Writing.{IsDiskWith, HasHeaderOf, StaysTaken, own_place}
-use Rattle.blk_nodes.specs.Changing.{ImageChange, IsImageWritten, IsZeroed, LeavesRow, cluster_start}
+use Rattle.blk_nodes.specs.Changing.{ImageChange, IsImageWritten, IsZeroed, LeavesRow, cluster_around}
 use Rattle.blk_nodes.specs.Contents.{IsToldDisk}
 use Rattle.blk_nodes.specs.Found.{IsReadOfSource}
 use Rattle.blk_nodes.specs.Nodes.{Nodes, DeviceSeen, row_at, device_in, file_of, backing_of}
@@ -195,23 +195,23 @@ abbrev pub own_place_by : L2Entry → Known → Extent → Option ℕ
 own_place_by (entries.Host host) image span = Some (own_place image span)
 own_place_by entry image span = None
 
--- Where the read of the rest of a part's cluster begins. None is read where the part is written in place, or where it is all that
--- the disk has of the cluster.
-abbrev pub rest_place : Option ℕ → Bool → Known → Extent → Option ℕ
-rest_place (Some own) whole image span = None
-rest_place None true image span = None
-rest_place None false image span = Some (cluster_start image span)
+-- What is read for the rest of a part's cluster: all that the disk has of the cluster. Nothing is where the part is written in
+-- place, or where it is all of that.
+abbrev pub rest_span : Option ℕ → Bool → Known → Extent → Option Extent
+rest_span (Some own) whole image span = None
+rest_span None true image span = None
+rest_span None false image span = Some (cluster_around image span)
 
--- the rest of its cluster was read, in one call from the place on where that begins, and it went so
-abbrev pub IsRestRead : Option ℕ → Nodes → Nodes → ℕ → Outcome → Type 0
+-- it was read, in one call, and that went so
+abbrev pub IsRestRead : Option Extent → Nodes → Nodes → ℕ → Outcome → Type 0
 IsRestRead None old new node outcome = ⊥
-IsRestRead (Some start) old new node outcome = (span : Extent) × (span.start ≡ start)
-    × IsReadOfSource old.rows (source_at old node start) span old.devices new.devices outcome
+IsRestRead (Some span) old new node outcome =
+    IsReadOfSource old.rows (source_at old node span.start) span old.devices new.devices outcome
 
 -- Why a piece of an image went so whose file is on this device. What stops it before its first byte is a call of that device, or
 -- the read of the rest of its cluster.
-abbrev pub HasPieceCause : Type 0 → Option ℕ → Option ℕ → ℕ → ℕ → Nodes → Nodes → ℕ → DeviceSeen
-    → DeviceSeen → Outcome → Type 0
+abbrev pub HasPieceCause : Type 0 → Option ℕ → Option Extent → ℕ → ℕ → Nodes → Nodes → ℕ
+    → DeviceSeen → DeviceSeen → Outcome → Type 0
 HasPieceCause fits own rest n file old new node before after Good =
     fits × (after.faults ≡ before.faults) × OnlyAt file old.devices new.devices
 HasPieceCause fits own rest n file old new node before after (Torn done dev count) =
@@ -224,8 +224,8 @@ HasPieceCause fits own rest n file old new node before after (NoSpace dev) =
     (fits → ⊥) × (dev ≡ before.number) × (new ≡ old)
 
 -- the piece of a node was written to the image in its file
-pub record WritesImage (fits : ℕ → Type 0) (own rest : Option ℕ) (old new : Nodes) (node n : ℕ)
-    (outcome : Outcome) : Type 0 where
+pub record WritesImage (fits : ℕ → Type 0) (own : Option ℕ) (rest : Option Extent)
+    (old new : Nodes) (node n : ℕ) (outcome : Outcome) : Type 0 where
   pub file : ℕ
   pub edge : file_of old node ≡ Some file
   pub before : DeviceSeen
@@ -241,7 +241,7 @@ pub record WritesImage (fits : ℕ → Type 0) (own rest : Option ℕ) (old new 
 abbrev pub WritesBy : Driver → Nodes → Nodes → ℕ → Extent → List ℕ → Outcome → Type 0
 WritesBy (drivers.Qcow2 image) old new node span bytes outcome =
     let own = own_place_by (entry_for image span) image span in
-    WritesImage (WriteFits image span) own (rest_place own (is_whole image span) image span) old new
+    WritesImage (WriteFits image span) own (rest_span own (is_whole image span) image span) old new
     node (length bytes) outcome
 WritesBy driver old new node span bytes outcome = WritesFile old new node span.start bytes outcome
 
@@ -262,7 +262,7 @@ abbrev pub ZerosBy : Driver → Nodes → Nodes → ℕ → Extent → Outcome �
 ZerosBy (drivers.Qcow2 image) old new node span outcome =
     let whole = is_whole image span in
     let own = zeros_place whole image span in
-    WritesImage (ZerosFit image span) own (rest_place own whole image span) old new node span.len
+    WritesImage (ZerosFit image span) own (rest_span own whole image span) old new node span.len
     outcome
 ZerosBy driver old new node span outcome =
     WritesFile old new node span.start (replicate span.len 0) outcome

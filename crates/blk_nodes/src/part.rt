@@ -1,6 +1,6 @@
 //! Where a piece of a qcow2 node lies.
 ghost use Rattle.std.specs.Prelude.{◌≡◌, ◌≤◌};
-ghost use Rattle.blk_nodes.specs.Parts.{block_around};
+ghost use Rattle.blk_nodes.specs.Changing.{block_around};
 
 use crate::source::Source;
 use blk_base::Span;

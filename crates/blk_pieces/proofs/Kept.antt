@@ -15,7 +15,7 @@ use Rattle.blk_pieces.specs.Pieces.{ReadsPart}
 
 -- ---- nothing was written
 
--- the drive was read, and counts of devices alone may have risen
+-- the drive was read: of devices counts alone may have risen, and which call failed last
 pub record ReadsOnly (old new : Nodes) (drive : ℕ) (outcome : Outcome) : Type 0 where
   pub kept : new ≡ record old { devices = new.devices }
   pub devices : HaveRisen old.devices new.devices

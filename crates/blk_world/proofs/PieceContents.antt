@@ -66,7 +66,7 @@ module _ (old new : Nodes) (node n : ℕ) where
   file_content place bytes outcome wrote apart =
       only_content wrote.file old.devices new.devices wrote.at.only n (apart wrote.row wrote.file wrote.there wrote.own)
 
-  image_content : (fits : ℕ → Type 0) (own rest : Option ℕ) (m : ℕ) (outcome : Outcome) (row : Row) (d : Driver) → row_at old node ≡ Some row → row.driver ≡ d
+  image_content : (fits : ℕ → Type 0) (own : Option ℕ) (rest : Option Extent) (m : ℕ) (outcome : Outcome) (row : Row) (d : Driver) → row_at old node ≡ Some row → row.driver ≡ d
       → (wrote : WritesImage fits own rest old new node m outcome) → own_file old node d ≡ Some wrote.file → NotItsFile → device_content_in new.devices n ≡ device_content_in old.devices n
   image_content fits own rest m outcome row d there driver wrote is apart = elim wrote.devices [
     | inl only ↦ only_content wrote.file old.devices new.devices only n (apart row wrote.file there (ap (own_file old node) driver ∙ is))

@@ -50,7 +50,7 @@ module _ (old new : Nodes) (joined : IsJoined old) where
       by_cause (NoSpace dev) cause =
           only-same file old.devices new.devices at.before at.after joined.once at.only at.held at.left at.wrote.number cause.2
 
-  image-counted : (fits : ℕ → Type 0) (own rest : Option ℕ) (node n : ℕ) (outcome : Outcome) → WritesImage fits own rest old new node n outcome
+  image-counted : (fits : ℕ → Type 0) (own : Option ℕ) (rest : Option Extent) (node n : ℕ) (outcome : Outcome) → WritesImage fits own rest old new node n outcome
       → AreCounted outcome old.devices new.devices
   image-counted fits own rest node n outcome wrote = by_cause outcome wrote.cause
     where

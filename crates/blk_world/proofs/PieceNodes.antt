@@ -53,7 +53,7 @@ module _ (old new : Nodes) (joined : IsJoined old) where
       same-only wrote.file old.devices new.devices wrote.at.before wrote.at.after joined.once wrote.at.only wrote.at.held wrote.at.left
       (record { node = wrote.at.wrote.node; number = wrote.at.wrote.number; capacity = wrote.at.wrote.capacity; faults = wrote.at.wrote.faults })
 
-  image_devices : (fits : ℕ → Type 0) (own rest : Option ℕ) (node n : ℕ) (outcome : Outcome) (wrote : WritesImage fits own rest old new node n outcome)
+  image_devices : (fits : ℕ → Type 0) (own : Option ℕ) (rest : Option Extent) (node n : ℕ) (outcome : Outcome) (wrote : WritesImage fits own rest old new node n outcome)
       → AreSameDevices old.devices new.devices
   image_devices fits own rest node n outcome wrote = elim wrote.devices [
     | inl only ↦
@@ -197,7 +197,7 @@ module _ (old new : Nodes) (node : ℕ) where
     stop = write_stop_by wrote.at.before wrote.at.after wrote.start (length bytes) outcome dev named wrote.at.wrote.cause;
   }
 
-  image_stop : (fits : ℕ → Type 0) (own rest : Option ℕ) (n : ℕ) (outcome : Outcome) (dev : DevNo) → faulty_device outcome ≡ Some dev
+  image_stop : (fits : ℕ → Type 0) (own : Option ℕ) (rest : Option Extent) (n : ℕ) (outcome : Outcome) (dev : DevNo) → faulty_device outcome ≡ Some dev
       → (wrote : WritesImage fits own rest old new node n outcome) → StoppedOn old new node outcome dev
   image_stop fits own rest n outcome dev named wrote = by_cause outcome refl named wrote.cause
     where
@@ -370,7 +370,7 @@ module _ (old new : Nodes) (node : ℕ) (part : Extent) (dev : DevNo) (row : Row
         passes = subst (λ (x : Driver). PassesBy x op part wrote.at.before.capacity) (sym driver) (is (omega (arith, cause.0, start, len)));
       }
 
-  image_full : (op : Op) (fits : ℕ → Type 0) (own rest : Option ℕ) (n : ℕ) (d : Driver) → row.driver ≡ d → own_file old node d ≡ file_of old node
+  image_full : (op : Op) (fits : ℕ → Type 0) (own : Option ℕ) (rest : Option Extent) (n : ℕ) (d : Driver) → row.driver ≡ d → own_file old node d ≡ file_of old node
       → (wrote : WritesImage fits own rest old new node n (NoSpace dev))
       → PassesBy d op part wrote.before.capacity → IsFull old node op part dev
   image_full op fits own rest n d driver below wrote passes = record {

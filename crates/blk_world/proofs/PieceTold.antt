@@ -56,7 +56,7 @@ module _ (old new : Nodes) (n : ℕ) where
       only_told wrote.file old.devices new.devices wrote.at.before wrote.at.after wrote.at.only wrote.at.held wrote.at.left
       (ap is_some wrote.at.wrote.content ∙ some_mapped _ wrote.at.before.content) n
 
-  image_told : (fits : ℕ → Type 0) (own rest : Option ℕ) (node m : ℕ) (outcome : Outcome) → WritesImage fits own rest old new node m outcome → is_told new.devices n ≡ is_told old.devices n
+  image_told : (fits : ℕ → Type 0) (own : Option ℕ) (rest : Option Extent) (node m : ℕ) (outcome : Outcome) → WritesImage fits own rest old new node m outcome → is_told new.devices n ≡ is_told old.devices n
   image_told fits own rest node m outcome wrote = elim wrote.devices [
     | inl only ↦ only_told wrote.file old.devices new.devices wrote.before wrote.after only wrote.held wrote.left wrote.device.told n
     | inr risen ↦ ap is_some (risen_content old.devices new.devices risen n)

@@ -217,7 +217,7 @@ module _ (t : RunTable) (nodes : Nodes) (joined : IsJoined nodes) (are : AreNode
   -- ---- readers
 
   -- an edge into the node asks to read it
-  pub record IsRead (d : ℕ) : Type 0 where
+  pub record IsReadByEdge (d : ℕ) : Type 0 where
     pub edge : Edge
     pub there : Contains t.edges edge
     pub to : edge.child ≡ d
@@ -238,7 +238,7 @@ module _ (t : RunTable) (nodes : Nodes) (joined : IsJoined nodes) (are : AreNode
   abbrev pub IsClosed : ℕ → Type 0
   IsClosed d = (k : ℕ) × IsShut k d
 
-  read_filter : (a c : ℕ) → filtered t a ≡ Some c → IsRead a → IsRead c
+  read_filter : (a c : ℕ) → filtered t a ≡ Some c → IsReadByEdge a → IsReadByEdge c
   read_filter a c is read =
       let e = filter_edge a c is in
       record { edge = e.edge; there = e.there; to = e.to; asks = e.perm.0 ∙ into_read t.edges read.edge a read.there read.to read.asks }
@@ -256,7 +256,7 @@ module _ (t : RunTable) (nodes : Nodes) (joined : IsJoined nodes) (are : AreNode
       } in
       (suc (suc k), (e.edge, a, here, inr (e.role, shut)))
 
-  read_backing : (a c : ℕ) → child t a Backing ≡ Some c → IsRead a → IsRead c × IsClosed c
+  read_backing : (a c : ℕ) → child t a Backing ≡ Some c → IsReadByEdge a → IsReadByEdge c × IsClosed c
   read_backing a c is read =
       let e = backing_edge a c is in
       let above = into_read t.edges read.edge a read.there read.to read.asks in
@@ -280,7 +280,7 @@ module _ (t : RunTable) (nodes : Nodes) (joined : IsJoined nodes) (are : AreNode
     down_disk a is = down_from 64 a is
 
   -- all below a node that is read is closed
-  closed_below : (n a b : ℕ) → IsRead a → is_listed b (drop 1 (chain_from n t a)) ≡ true → IsClosed b
+  closed_below : (n a b : ℕ) → IsReadByEdge a → is_listed b (drop 1 (chain_from n t a)) ≡ true → IsClosed b
   closed_below zero a b read is = absurd (false≢true is)
   closed_below (suc m) a b read is = by_child (child t a Backing) refl is (closed_below m)
     where
@@ -295,13 +295,13 @@ module _ (t : RunTable) (nodes : Nodes) (joined : IsJoined nodes) (are : AreNode
 
       by_child : (found : Option ℕ) → child t a Backing ≡ found
           → is_listed b (elim (option_map (disk_node t) found) as (λ _. List ℕ) [ None ↦ [] | Some u ↦ chain_from m t u ]) ≡ true
-          → ((u v : ℕ) → IsRead u → is_listed v (drop 1 (chain_from m t u)) ≡ true → IsClosed v) → IsClosed b
+          → ((u v : ℕ) → IsReadByEdge u → is_listed v (drop 1 (chain_from m t u)) ≡ true → IsClosed v) → IsClosed b
       by_child None at is_in rest = absurd (false≢true is_in)
       by_child (Some c) at is_in rest =
           let both = read_backing a c at read in
           let u : ℕ = disk_node t c in
           by_head u (u == b) refl (down_disk IsClosed closed_filter c both.1)
-          (rest u b (down_disk IsRead read_filter c both.0)) (ap (is_listed b) (sym (begins m u)) ∙ is_in)
+          (rest u b (down_disk IsReadByEdge read_filter c both.0)) (ap (is_listed b) (sym (begins m u)) ∙ is_in)
 
   -- ---- writers
 
@@ -347,7 +347,7 @@ module _ (t : RunTable) (nodes : Nodes) (joined : IsJoined nodes) (are : AreNode
       let table = (joined.sound.fit.each e.edge (subst (λ (es : List Edge). Contains es e.edge) (sym are.edges) e.there)).table in
       (e.edge, e.there, e.from, e.to, subst (IsOf nodes.graph.kinds e.edge) e.from table)
 
-  pub guest_reads : (g drive : ℕ) → drive_of t g ≡ Some drive → IsRead drive
+  pub guest_reads : (g drive : ℕ) → drive_of t g ≡ Some drive → IsReadByEdge drive
   guest_reads g drive is =
       let e = guest_edge g drive is in
       record { edge = e.0; there = e.1; to = e.3; asks = ap (λ (x : Edge). x.perm.read) e.4.is }
@@ -374,8 +374,8 @@ module _ (t : RunTable) (nodes : Nodes) (joined : IsJoined nodes) (are : AreNode
       written : IsWritten (disk_node t drive)
       written = down_disk IsWritten written_filter drive (guest_writes writer drive device ask there writes on)
 
-      read : IsRead (disk_node t (disk_node t other))
-      read = down_disk IsRead read_filter (disk_node t other) (down_disk IsRead read_filter other (guest_reads reader other on_other))
+      read : IsReadByEdge (disk_node t (disk_node t other))
+      read = down_disk IsReadByEdge read_filter (disk_node t other) (down_disk IsReadByEdge read_filter other (guest_reads reader other on_other))
 
       by_test : (b : Bool) → is_listed (disk_node t drive) (drop 1 (chain_from 64 t (disk_node t (disk_node t other)))) ≡ b → b ≡ false
       by_test false is = refl

@@ -200,7 +200,7 @@ module _ (old new : Nodes) (one : HaveOneImage old) where
         };
       }
 
-  image-goes : (fits : ℕ → Type 0) (own rest : Option ℕ) (n : ℕ) (outcome : Outcome) (wrote : WritesImage fits own rest old new 1 n outcome)
+  image-goes : (fits : ℕ → Type 0) (own : Option ℕ) (rest : Option Extent) (n : ℕ) (outcome : Outcome) (wrote : WritesImage fits own rest old new 1 n outcome)
       → wrote.after.capacity ≡ wrote.before.capacity → StepsOnDevice one.device new.devices outcome
   image-goes fits own rest n outcome wrote capacity =
       record {

@@ -82,7 +82,7 @@ module _ (old new : Nodes) (was now : ℕ) (alone : StandsAlone was now old) (pa
       let same : file ≡ 0 = (let s : Some file ≡ Some 0 = sym edge ∙ alone.file in cc s) in
       ap (option_map (λ (x : DeviceSeen). x.capacity)) (subst (λ (n : ℕ). device_in old.devices n ≡ Some d) same held)
 
-  image-full : (fits : ℕ → Type 0) (own rest : Option ℕ) (n : ℕ) → WritesImage fits own rest old new 1 n (NoSpace dev)
+  image-full : (fits : ℕ → Type 0) (own : Option ℕ) (rest : Option Extent) (n : ℕ) → WritesImage fits own rest old new 1 n (NoSpace dev)
       → ((capacity : ℕ) → capacity_of old ≡ Some capacity → fits capacity) → ⊥
   image-full fits own rest n wrote room = wrote.cause.0 (room wrote.before.capacity (capacity-at wrote.file wrote.before wrote.edge wrote.held))
 

@@ -445,7 +445,6 @@ stops format image trace read d n old new (Fault from count) number sized none d
       opened = closed-is image d n.faults old.opened new.opened none opened;
       stopped = record { named = sym number; rose = stop.2; now = stop.3 };
       kept = same;
-      call = stop.5;
       long = stop.4;
       told = over-file old.files device;
       sink = sink;

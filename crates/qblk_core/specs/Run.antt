@@ -1,6 +1,5 @@
 -- What a run of a trace on one image is, seen from outside.
 use Rattle.std.specs.Prelude.{◌≡◌, ◌⊎◌, ℕ, ◌<◌, ◌≤◌, Bool, true, false, ⊤, List, [], ◌∷◌, ◌++◌, length, take, All, IsUtf8, IsSome, Option, Some, option_map, Ok, Err}
-use Rattle.blk_base.specs.Calls.{FailsReading}
 use Rattle.blk_base.specs.Counts.{Rose}
 use Rattle.blk_base.specs.Files.{file_at, put_file, IfTold}
 use Rattle.blk_base.specs.Answers.{HasFile, LacksFile}
@@ -283,7 +282,6 @@ pub record FailsToOpen (format : Format) (image : List ℕ) (old new : Outside) 
     pub opened : new.opened ≡ old.opened ++ closed_opening image device behind.faults ∷ []
     pub stopped : StoppedBy device behind only_device count
     pub kept : HasRisen device behind
-    pub call : FailsReading (Some count) device.failed_call behind.failed_call
     pub long : MIN_HEADER_LENGTH ≤ device.size
     pub told : IfTold old.files (λ files. HasFile image (IsOverFile device) files)
     pub sink : new.sink_faults ≡ old.sink_faults
