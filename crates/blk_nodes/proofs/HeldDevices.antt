@@ -15,7 +15,7 @@ use Rattle.blk_base.specs.declared.fault.DevNo.{DevNo}
 use Rattle.blk_base.specs.declared.fault.Outcome.{Outcome}
 use Rattle.blk_base.specs.declared.fault.Outcome.TheVariants.{Good, Torn, Io, NoSpace}
 use Rattle.blk_nodes.specs.Contents.{told, bytes_by}
-use Rattle.blk_nodes.specs.Nodes.{DeviceSeen, AreTold, is_device_of, device_in}
+use Rattle.blk_nodes.specs.Nodes.{DeviceSeen, AreTold, IsFileTold, is_device_of, device_in}
 use Rattle.blk_nodes.specs.Changing.{ImageChange}
 use Rattle.blk_nodes.specs.Writing.{IsDeviceAfter, IsWriteOf, IsWriteAt, IsImageCall, IsImageCallAt, HasImageCause, HasRoomBy, HasRoomAt}
 use Rattle.blk_nodes.specs.Flushing.{IsFlushOf, IsFlushAt}
@@ -89,15 +89,16 @@ pub told_is : (content : Option (List ℕ)) → is_some content ≡ true → con
 told_is None is = absurd (cc is)
 told_is (Some bytes) is = refl
 
-Contains-at : (devices : List DeviceSeen) (at : ℕ) (d : DeviceSeen) → at < length devices → Contains devices (get_or devices at d)
-Contains-at devices at d within = (at, within, get_or_default devices at (get_or devices at d) d within)
-
--- the device at a place tells its bytes, where all do
-pub told_at : (file : ℕ) (devices : List DeviceSeen) (at : ℕ) (d : DeviceSeen) → position (is_device_of file) devices ≡ Some at → AreTold devices
+-- the device at a place tells its bytes
+pub told_at : (file : ℕ) (devices : List DeviceSeen) (at : ℕ) (d : DeviceSeen) → position (is_device_of file) devices ≡ Some at → IsFileTold devices file
     → (get_or devices at d).content ≡ Some (bytes_by (device_in devices file))
-told_at file devices at d place all =
-    let is = first (is_device_of file) devices at d place in
-    rw (at_place file devices at d place) (told_is (get_or devices at d).content (all (get_or devices at d) (Contains-at devices at d is.within)))
+told_at file devices at d place told =
+    let held = at_place file devices at d place in
+    rw held (told_is (get_or devices at d).content (told (get_or devices at d) held))
+
+-- that of each `file` node does, where all do
+pub held_told : (devices : List DeviceSeen) (file : ℕ) → AreTold devices → IsFileTold devices file
+held_told devices file all device held = all device (find-Some (is_device_of file) devices device held).0
 
 -- which devices there are stays
 back_or : (file : ℕ) (a b : DeviceSeen) (old new : List DeviceSeen) (y : DeviceSeen) (here : Bool) → HasRisen a b

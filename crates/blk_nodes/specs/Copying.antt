@@ -12,7 +12,7 @@ use Rattle.q2_image.specs.Image.{cluster_size_in, entry_in}
 use Rattle.q2_image.specs.Reading.{IsHost}
 use Rattle.q2_image.specs.Room.{WriteFits}
 use Rattle.blk_nodes.specs.Contents.{bytes_of}
-use Rattle.blk_nodes.specs.Found.{IsReadOfSource}
+use Rattle.blk_nodes.specs.Found.{FindsBytes, IsReadOfSource}
 use Rattle.blk_nodes.specs.Nodes.{Nodes, DeviceSeen, AreTold, row_at, device_in, node_size, file_of}
 use Rattle.blk_nodes.specs.Parts.{OfImage}
 use Rattle.blk_nodes.specs.Reading.{HaveRisen, LeadsTo, StoppedBelow}
@@ -149,11 +149,13 @@ pub record StopsUnread (old new : Nodes) (node : ℕ) (span : Extent) (outcome :
   pub kept : new ≡ record old { devices = new.devices }
   pub devices : HaveRisen old.devices new.devices
 
--- there was room, and all was read or the read was stopped
+-- there was room, and all was read or the read was stopped; behind a good one the bytes are those that stand there, where they
+-- are told
 pub record ReadsAndMaps (images : List ℕ) (old new : Nodes) (node : ℕ) (span : Extent)
     (bytes : List ℕ) (outcome : Outcome) : Type 0 where
   pub room : AtEach (HasRoomIn old span) images
   pub went : StopsUnread old new node span outcome ⊎ MapsEach images old new span bytes outcome
+  pub found : outcome ≡ Good → FindsBytes old node span bytes
 
 abbrev pub ReadsPiece : Nodes → Nodes → ℕ → Extent → List ℕ → Outcome → Type 0
 ReadsPiece old new node span bytes outcome =

@@ -9,19 +9,33 @@ use Rattle.q2_image.specs.Guest.{guest_bytes}
 use Rattle.q2_image.specs.Image.{Known}
 use Rattle.q2_image.specs.Writing.{own_place}
 use Rattle.blk_nodes.specs.Contents.{bytes_by}
-use Rattle.blk_nodes.specs.Nodes.{DeviceSeen, device_in}
+use Rattle.blk_nodes.specs.Nodes.{Nodes, DeviceSeen, device_in, IsFileTold}
 use Rattle.blk_nodes.specs.Reading.{IsReadAt}
+use Rattle.blk_nodes.specs.Sources.{source_at}
 use Rattle.blk_nodes.specs.declared.row.Driver.TheVariants.{Qcow2}
 use Rattle.blk_nodes.specs.declared.row.Row.{Row}
 use Rattle.blk_nodes.specs.declared.source.Source.{Source}
 use Rattle.blk_nodes.specs.declared.source.Source.TheVariants.{Zeros, File, Image}
 
--- n bytes from a place on, where the devices tell theirs
+-- what stands there is told: by the device of the file, and zeros by none
+abbrev pub IsSourceTold : List DeviceSeen → Source → Type 0
+IsSourceTold devices Zeros = Unit {0}
+IsSourceTold devices (File file start) = IsFileTold devices file
+IsSourceTold devices (Image node file) = IsFileTold devices file
+
+-- n bytes from a place on, where that is told
 abbrev pub found_bytes : List DeviceSeen → Source → ℕ → ℕ → List ℕ
 found_bytes devices Zeros place n = replicate n 0
 found_bytes devices (File file start) place n = bytes_at (bytes_by (device_in devices file)) start n
 found_bytes devices (Image node file) place n =
     guest_bytes (bytes_by (device_in devices file)) [] place n
+
+-- these are the bytes of a span of a node's disk, where what stands there is told
+abbrev pub FindsBytes : Nodes → ℕ → Extent → List ℕ → Type 0
+FindsBytes nodes node span bytes =
+    let source = source_at nodes node span.start in
+    IsSourceTold nodes.devices source
+    → bytes ≡ found_bytes nodes.devices source span.start span.len
 
 -- how the read of a span in a cluster of an image's own went: it is one call, at the span's place in the file
 pub record IsReadOfImage (rows : List (Option Row)) (node file : ℕ) (span : Extent)

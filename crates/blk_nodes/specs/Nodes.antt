@@ -73,6 +73,11 @@ file_of nodes node = child_of (Node node) FileRole nodes.graph.edges
 abbrev pub backing_of : Nodes → ℕ → Option ℕ
 backing_of nodes node = child_of (Node node) Backing nodes.graph.edges
 
+-- the device of a `file` node tells its bytes
+abbrev pub IsFileTold : List DeviceSeen → ℕ → Type 0
+IsFileTold devices file = (device : DeviceSeen) → device_in devices file ≡ Some device
+    → is_some device.content ≡ true
+
 -- each device tells its bytes
 abbrev pub AreTold : List DeviceSeen → Type 0
 AreTold devices = (device : DeviceSeen) → Contains devices device → is_some device.content ≡ true

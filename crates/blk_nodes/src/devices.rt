@@ -13,7 +13,7 @@ ghost use Rattle.q2_image.specs.Writing.{own_place};
 ghost use Rattle.blk_nodes.specs.Contents.{bytes_by};
 ghost use Rattle.blk_nodes.specs.Dropping.{other_devices};
 ghost use Rattle.blk_nodes.specs.Joined.{DifferInNode};
-ghost use Rattle.blk_nodes.specs.Nodes.{AreTold, DeviceSeen, is_device_of, device_in};
+ghost use Rattle.blk_nodes.specs.Nodes.{DeviceSeen, IsFileTold, is_device_of, device_in};
 ghost use Rattle.blk_nodes.specs.Overlays.{IsOpened, IsOpenedOn, IsUnopened, IsUnopenedOn};
 ghost use Rattle.blk_nodes.specs.Flushing.{IsFlushOf, IsFlushAt};
 ghost use Rattle.blk_nodes.specs.Formatting.{format_stop, IsFormatOf, IsFormatAt};
@@ -246,7 +246,7 @@ impl<D: Device> Devices<D> {
     /// Reads from the file of a `file` node.
     pub(crate) fn read_file(&mut self, file: NodeId, start: u64, buffer: &mut [u8]) -> Outcome
         requires { IsSome (device_in self.old file) }
-        ensures read { AreTold self.old → result ≡ Outcome.Good
+        ensures read { IsFileTold self.old file → result ≡ Outcome.Good
             → buffer.new ≡ bytes_at (bytes_by (device_in self.old file)) start (length buffer.old) }
         ensures outcome { IsReadAt file (calls.Read start (length buffer.old)) self.old
             self.new result }
@@ -278,7 +278,7 @@ impl<D: Device> Devices<D> {
         requires known { (device : DeviceSeen) (bytes : List ℕ)
             → device_in self.old file ≡ Some device → device.content ≡ Some bytes
             → IsImageOf bytes image.now }
-        ensures read { AreTold self.old → result ≡ Outcome.Good
+        ensures read { IsFileTold self.old file → result ≡ Outcome.Good
             → buffer.new ≡ guest_bytes (bytes_by (device_in self.old file)) [] span.start span.len }
         ensures outcome { IsReadAt file (calls.Read (own_place image.now span) span.len)
             self.old self.new result }

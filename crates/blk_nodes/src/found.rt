@@ -4,8 +4,8 @@ ghost use Rattle.blk_base.specs.Pieces.{block_size};
 ghost use Rattle.q2_image.specs.Guest.{guest_bytes};
 ghost use Rattle.q2_image.specs.Reading.{IsWithinCluster};
 ghost use Rattle.blk_nodes.specs.Contents.{bytes_by};
-ghost use Rattle.blk_nodes.specs.Found.{found_bytes, IsReadOfImage, IsReadOfSource};
-ghost use Rattle.blk_nodes.specs.Nodes.{AreTold, device_in};
+ghost use Rattle.blk_nodes.specs.Found.{found_bytes, IsReadOfImage, IsReadOfSource, IsSourceTold};
+ghost use Rattle.blk_nodes.specs.Nodes.{AreTold, device_in, IsFileTold};
 ghost use Rattle.blk_nodes.specs.Reading.{HaveRisen};
 ghost use Rattle.blk_nodes.specs.Walk.{CanSourceBeRead, IsPlaceMapped};
 
@@ -35,7 +35,7 @@ fn read_mapped<D: Device>(
     requires block { IsWithinCluster block_size span }
     requires mapped { IsPlaceMapped rows.now devices.old node file span.start }
     requires whole { length buffer.old ≡ span.len }
-    ensures read { AreTold devices.old → result ≡ Outcome.Good
+    ensures read { IsFileTold devices.old file → result ≡ Outcome.Good
         → buffer.new ≡ guest_bytes (bytes_by (device_in devices.old file)) [] span.start span.len }
     ensures outcome { IsReadOfImage rows.now node file span devices.old devices.new result }
     ensures devices { HaveRisen devices.old devices.new }
@@ -63,6 +63,8 @@ pub(crate) fn read_found<D: Device>(
     requires block { IsWithinCluster block_size span }
     requires can { CanSourceBeRead rows.now devices.old span.start source }
     requires whole { length buffer.old ≡ span.len }
+    ensures found { IsSourceTold devices.old source → result ≡ Outcome.Good
+        → buffer.new ≡ found_bytes devices.old source span.start span.len }
     ensures read { AreTold devices.old → result ≡ Outcome.Good
         → buffer.new ≡ found_bytes devices.old source span.start span.len }
     ensures outcome { IsReadOfSource rows.now source span devices.old devices.new result }

@@ -13,7 +13,7 @@ ghost use Rattle.blk_nodes.specs.Nodes.{no_nodes, row_at, node_size, AreTold};
 ghost use Rattle.blk_nodes.specs.Contents.{told, disk_under, disk_of, bytes_of, Unfolds};
 ghost use Rattle.blk_nodes.specs.Overlays.{copying_row, with_children, backing_node, backing_size, IsQcow2Added, IsQcow2Stop};
 ghost use Rattle.q2_format.specs.Contents.{file_disk, raw_disk, image_disk};
-ghost use Rattle.blk_nodes.specs.Found.{IsReadOfSource};
+ghost use Rattle.blk_nodes.specs.Found.{FindsBytes, IsReadOfSource};
 ghost use Rattle.blk_nodes.specs.Walk.{CanSourceBeRead, GoesDown, LeadsToSource, LeadsOn};
 ghost use Rattle.blk_nodes.specs.Sources.{step_of, source_in, source_at};
 ghost use Rattle.blk_nodes.specs.Reading.{HaveRisen, IsReadBelow, ReadsDisk};
@@ -472,6 +472,8 @@ impl<D: Device> Nodes<D> {
         requires whole { length buffer.old ≡ span.len }
         ensures read { AreTold self.old.devices
             → ReadsDisk result (disk_of self.old node) span buffer.new }
+        ensures found { 0 < span.len → result ≡ Outcome.Good
+            → FindsBytes self.old node span buffer.new }
         ensures outcome { IsReadBelow self.old self.new node result }
         ensures source { 0 < span.len → IsReadOfSource self.old.rows
             (source_at self.old node span.start) span self.old.devices self.new.devices result }

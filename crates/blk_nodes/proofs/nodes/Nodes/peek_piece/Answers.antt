@@ -2,7 +2,7 @@ use Rattle.std.proofs.Common.{◌≡◌, List, Option, sym, ◌∙◌, ap, subst
 use Rattle.blk_base.specs.Pieces.{Extent}
 use Rattle.blk_base.proofs.Contents.{bytes_at-by_place}
 use Rattle.blk_nodes.specs.Contents.{disk_of}
-use Rattle.blk_nodes.specs.Found.{IsReadOfSource}
+use Rattle.blk_nodes.specs.Found.{found_bytes, IsReadOfSource, IsSourceTold}
 use Rattle.blk_nodes.specs.Nodes.{Nodes}
 use Rattle.blk_nodes.specs.declared.row.Row.{Row}
 use Rattle.blk_nodes.specs.declared.source.Source.{Source}
@@ -41,6 +41,19 @@ returns-clause-read g c =
     (λ all. when_good c.read_found.result (disk_of nodes c.args.node) c.args.span c.read_found.new.buffer
     (λ good. reads_found nodes c.self.invariant all c.args.node c.args.span.start c.args.span.len inside c.requires.block c.read_found.new.buffer c.source-source.result source
     (c.read_found.ensures.read all good)))
+
+pub returns-then-span-eq0-clause-found : goal.returns-then-span-eq0-clause-found
+returns-then-span-eq0-clause-found g c = λ some.
+    let empty : c.args.span.len ≡ 0 = sym (ap (λ (s : Extent). s.len) c.span.view_is) ∙ c.if-span-eq0.true in
+    absurd (omega (arith, empty, some))
+
+pub returns-clause-found : goal.returns-clause-found
+returns-clause-found g c =
+    let nodes : Nodes = record { graph = c.self.inside.graph; rows = c.self.inside.rows.items; devices = c.self.inside.devices } in
+    let start : c.span.inside.start ≡ c.args.span.start = ap (λ (s : Extent). s.start) c.span.view_is in
+    let source = rw (sym c.self.view_is) at (rw start at (sym c.source-source.ensures.source)) in
+    let finds : Source → Type 0 = λ s. IsSourceTold nodes.devices s → c.read_found.new.buffer ≡ found_bytes nodes.devices s c.args.span.start c.args.span.len in
+    rw (sym c.self.view_is) (λ some good. subst finds (sym source) (λ told. c.read_found.ensures.found told good))
 
 pub returns-clause-outcome : goal.returns-clause-outcome
 returns-clause-outcome g c =

@@ -38,6 +38,7 @@ returns-then-not-is_good-2-clause-went g c =
     λ some. inr (record {
       room = fits;
       went = inl (read_stopped_unread old c.peek_piece-outcome.new.self c.args.node c.args.span outcome bad read.outcome (read.source some) read.kept read.devices);
+      found = λ good. absurd (bad good);
     })
 
 pub map_below-requires-clause-may : goal.map_below-requires-clause-may
@@ -66,7 +67,8 @@ returns-clause-went g c =
     = room_for_all old (images_met_in 64 old c.args.node c.args.span.start) c.args.node c.args.span c.room_below-room.result c.room_below-room.ensures
     (good_is c.room_below-room.result (sym c.is_good.ensures ∙ c.if-not-is_good.false)) in
     let maps = subst (λ (n : Nodes). MapsEach (images_met_in 64 n c.args.node c.args.span.start) n c.map_below.new.self c.args.span c.peek_piece-outcome.new.buffer c.map_below.result) same c.map_below.ensures.maps in
-    λ some. inr (record { room = fits; went = inr maps })
+    let good = good_is c.peek_piece-outcome.result (sym c.is_good-2.ensures ∙ c.if-not-is_good-2.false) in
+    λ some. inr (record { room = fits; went = inr maps; found = λ done. c.peek_piece-outcome.ensures.found some good })
 
 pub returns-clause-mapped : goal.returns-clause-mapped
 unfolding images_met
