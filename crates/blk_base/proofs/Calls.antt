@@ -1,7 +1,7 @@
 -- Which call failed last, behind one call and behind several.
 use Rattle.std.proofs.Common.{◌≡◌, ℕ, List, [], ◌∷◌, ◌++◌, length, sym, ◌∙◌, ap, subst, Option, Some, None}
 use Rattle.std.specs.Option.{option_map}
-use Rattle.blk_base.specs.Calls.{FailedLast, IsWriteAfterStop, IsRead, FailsReading, FailsWriting, call_of_write}
+use Rattle.blk_base.specs.Calls.{FailedLast, FailsAt, IsWriteAfterStop, IsRead, FailsReading, FailsWriting, call_of_write}
 use Rattle.blk_base.specs.Content.{Write}
 use Rattle.blk_base.specs.Device.{IsMade}
 use Rattle.blk_base.specs.Files.{IfTold}
@@ -17,6 +17,16 @@ use Rattle.blk_base.proofs.WriteLists.{stopped_at-later, stopped_at-sooner}
 pub if_told : {A : Type 0} (P Q : A → Type 0) (told : Option A) → ((a : A) → P a → Q a) → IfTold told P → IfTold told Q
 if_told P Q None map is = is
 if_told P Q (Some a) map is = map a is
+
+-- a call that failed, of which something holds, and so something else
+pub fails_at : (P : DeviceCall → Type 0) (told : Option ℕ) (call : DeviceCall) (last : Option DeviceCall) → P call → FailedLast call last → FailsAt P told last
+fails_at P None call last holds is = tt
+fails_at P (Some count) call last holds is =
+    if_told (λ (other : DeviceCall). other ≡ call) P last (λ other same. subst P (sym same) holds) is
+
+pub fails_as : (P Q : DeviceCall → Type 0) (told : Option ℕ) (last : Option DeviceCall) → ((call : DeviceCall) → P call → Q call) → FailsAt P told last → FailsAt Q told last
+fails_as P Q None last map is = tt
+fails_as P Q (Some count) last map is = if_told P Q last map is
 
 -- a read that failed is one
 pub read_failed : (offset len count : ℕ) (before now : Option DeviceCall) → FailedLast (calls.Read offset len) now → FailsReading (Some count) before now

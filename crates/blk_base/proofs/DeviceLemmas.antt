@@ -1,18 +1,18 @@
 -- What several calls leave of a device, one behind the other.
-use Rattle.std.proofs.Common.{◌≡◌, ℕ, ◌≤◌, Bool, true, false, List, [], ◌++◌, refl, sym, ◌∙◌, ap, subst, arith, Option, Some, None, is_some, ◌∷◌}
+use Rattle.std.proofs.Common.{◌≡◌, ℕ, ◌<◌, ◌≤◌, Bool, true, false, List, [], ◌++◌, refl, sym, ◌∙◌, ap, subst, arith, Option, Some, None, is_some, ◌∷◌}
 use Rattle.std.specs.Option.{option_map}
 use Rattle.std.specs.Prelude.{◌&&◌}
 use Rattle.blk_base.specs.Calls.{FailsReading}
 use Rattle.blk_base.specs.Content.{Write, Log, after_writes}
 use Rattle.blk_base.specs.Counts.{Rose}
-use Rattle.blk_base.specs.Device.{OnlyReads, CountsFault, Reads, Untouched, Wrote, IsMade, StopsBy, Writes}
-use Rattle.blk_base.specs.Writes.{size_after_writes, log_after_writes, are_none, IsCutBy, AtEachStop}
+use Rattle.blk_base.specs.Device.{OnlyReads, CountsFault, Reads, Untouched, Wrote, IsMade, IsBeyond, StopsBy, Writes}
+use Rattle.blk_base.specs.Writes.{end_of_writes, size_after_writes, log_after_writes, are_none, IsCutBy, AtEachStop}
 use Rattle.blk_base.specs.declared.device.Device.{Ghosts}
 use Rattle.blk_base.specs.declared.device.DeviceCall.{DeviceCall}
 use Rattle.blk_base.specs.declared.fault.DevStop.{DevStop}
 use Rattle.blk_base.specs.declared.fault.DevStop.TheVariants.{Io, NoSpace}
 use Rattle.blk_base.proofs.Calls.{call_later, call_sooner}
-use Rattle.blk_base.proofs.WriteLists.{after_writes-append, size_after_writes-append, log_after_writes-append, end_of_writes-append, are_none-append, size_after_writes-grows, part-later, part-sooner, at_each_stop-refused}
+use Rattle.blk_base.proofs.WriteLists.{after_writes-append, size_after_writes-append, log_after_writes-append, end_of_writes-append, are_none-append, size_after_writes-grows, part-later, part-sooner, stopped_at-later, stopped_at-sooner, stopped_at-within, at_each_stop-refused}
 
 map-map : {A B C : Type 0} (f : A → B) (h : B → C) (x : Option A) → option_map h (option_map f x) ≡ option_map (λ a. h (f a)) x
 map-map f h None = refl
@@ -132,22 +132,30 @@ module _ {D : Type 0} (g : Ghosts D) where
         call = none.call;
       }
 
-  cause-later : (vs ws : List Write) (stop : Option DevStop) (capacity next a b c : ℕ) → next ≡ capacity → StopsBy None vs capacity a b
-      → StopsBy stop ws next b c → StopsBy stop (vs ++ ws) capacity a c
-  cause-later vs ws None capacity next a b c same first cause =
+  pub cause-later : (vs ws all made : List Write) (stop : Option DevStop) (capacity next a b c : ℕ) → next ≡ capacity → IsMade stop ws made
+      → StopsBy None vs all capacity a b → StopsBy stop ws made next b c → StopsBy stop (vs ++ ws) (vs ++ made) capacity a c
+  cause-later vs ws all made None capacity next a b c same part first cause =
       let fits = cause.0 in let before = first.0 in
       (omega (arith, end_of_writes-append vs ws, before, fits, same), cause.1 ∙ first.1)
-  cause-later vs ws (Some (Io count)) capacity next a b c same first cause = (subst (λ n. Rose n count) first.1 cause.0, cause.1)
-  cause-later vs ws (Some NoSpace) capacity next a b c same first cause =
-      let beyond = cause.0 in (omega (arith, end_of_writes-append vs ws, beyond, same), cause.1 ∙ first.1)
+  cause-later vs ws all made (Some (Io count)) capacity next a b c same part first cause = (subst (λ n. Rose n count) first.1 cause.0, cause.1)
+  cause-later vs ws all made (Some NoSpace) capacity next a b c same part first cause =
+      let beyond = cause.0.2 in
+      ((cause.0.0, stopped_at-later (IsCutBy NoSpace) vs ws made part ∙ cause.0.1, omega (arith, beyond, same)), cause.1 ∙ first.1)
 
-  cause-sooner : (vs ws : List Write) (stop : DevStop) (capacity a b : ℕ) → StopsBy (Some stop) vs capacity a b → StopsBy (Some stop) (vs ++ ws) capacity a b
-  cause-sooner vs ws (Io count) capacity a b cause = cause
-  cause-sooner vs ws NoSpace capacity a b cause = let beyond = cause.0 in (omega (arith, end_of_writes-append vs ws, beyond), cause.1)
+  pub cause-sooner : (vs ws made : List Write) (stop : DevStop) (capacity a b : ℕ) → IsMade (Some stop) vs made → StopsBy (Some stop) vs made capacity a b
+      → StopsBy (Some stop) (vs ++ ws) made capacity a b
+  cause-sooner vs ws made (Io count) capacity a b part cause = cause
+  cause-sooner vs ws made NoSpace capacity a b part cause =
+      ((cause.0.0, stopped_at-sooner (IsCutBy NoSpace) vs ws made part ∙ cause.0.1, cause.0.2), cause.1)
 
   made-later : (vs ws made : List Write) (stop : Option DevStop) → IsMade stop ws made → IsMade stop (vs ++ ws) (vs ++ made)
   made-later vs ws made None is = ap (λ xs. vs ++ xs) is
   made-later vs ws made (Some stop) part = part-later (IsCutBy stop) vs ws made part
+
+  -- a call that stops for want of space has a write that ends above the capacity
+  pub beyond-within : (ws made : List Write) (capacity : ℕ) → IsBeyond ws made capacity → capacity < end_of_writes ws
+  beyond-within ws made capacity beyond =
+      let above = beyond.2 in let within = stopped_at-within ws made beyond.0 beyond.1 in omega (arith, above, within)
 
   -- writes behind some that were all made
   pub writes_then : (vs ws : List Write) (stop : Option DevStop) (a b c : D) → Writes g vs None a b → Writes g ws stop b c → Writes g (vs ++ ws) stop a c
@@ -155,7 +163,8 @@ module _ {D : Type 0} (g : Ghosts D) where
     made = vs ++ later.made;
     part = made-later vs ws later.made stop later.part;
     wrote = wrote-then vs later.made a b c (subst (λ xs. Wrote g xs a b) first.part first.wrote) later.wrote;
-    cause = cause-later vs ws stop (g.capacity a) (g.capacity b) (g.faults a) (g.faults b) (g.faults c) first.wrote.capacity first.cause later.cause;
+    cause = cause-later vs ws first.made later.made stop (g.capacity a) (g.capacity b) (g.faults a) (g.faults b) (g.faults c) first.wrote.capacity later.part
+        first.cause later.cause;
     call = call_later vs ws later.made stop (g.failed_call a) (g.failed_call b) (g.failed_call c) later.part first.call later.call;
   }
 
@@ -165,7 +174,7 @@ module _ {D : Type 0} (g : Ghosts D) where
     made = stopped.made;
     part = part-sooner (IsCutBy stop) vs ws stopped.made stopped.part;
     wrote = stopped.wrote;
-    cause = cause-sooner vs ws stop (g.capacity a) (g.faults a) (g.faults b) stopped.cause;
+    cause = cause-sooner vs ws stopped.made stop (g.capacity a) (g.faults a) (g.faults b) stopped.part stopped.cause;
     call = call_sooner vs ws stopped.made stop (g.failed_call a) (g.failed_call b) stopped.part stopped.call;
   }
 

@@ -1,8 +1,9 @@
 -- A file that is opened and given back.
-use Rattle.std.proofs.Common.{◌≡◌, ℕ, Bool, true, false, cond, List, [], ◌∷◌, ◌++◌, refl, ap, Some, None, IsTrue}
+use Rattle.std.proofs.Common.{◌≡◌, ℕ, Bool, true, false, cond, List, [], ◌∷◌, ◌++◌, refl, ap, Option, Some, None, IsTrue}
 use Rattle.std.specs.Prelude.{bytes_eq, ◌||◌}
 use Rattle.std.proofs.lemmas.Slice.Eq.{bytes_eq-Decides}
-use Rattle.blk_base.specs.Files.{file_at, put_file, is_out_as, is_out, given_back}
+use Rattle.blk_base.specs.Files.{file_at, put_file, is_out_as, is_out, closed_with, given_back}
+use Rattle.blk_base.specs.declared.device.DeviceCall.{DeviceCall}
 use Rattle.blk_base.specs.declared.file.File.{File}
 use Rattle.blk_base.specs.declared.file.Opened.{Opened}
 
@@ -21,24 +22,22 @@ or-true true = refl
 or-true false = refl
 
 -- the device that was opened last is out
-pub out-opened : (name : List ℕ) (opened : List Opened) (size capacity faults : ℕ)
-    → is_out name (opened ++ record { name = name; size = size; capacity = capacity; faults = faults; returned = None } ∷ []) ≡ true
-out-opened name [] size capacity faults = rw (bytes_eq-same name) refl
-out-opened name (o ∷ opened) size capacity faults = rw (out-opened name opened size capacity faults) (or-true (is_out_as name o))
+pub out-opened : (opened : List Opened) (last : Opened) → last.returned ≡ None → is_out last.name (opened ++ last ∷ []) ≡ true
+out-opened [] last out = rw (bytes_eq-same last.name, out) refl
+out-opened (o ∷ opened) last out = rw (out-opened opened last out) (or-true (is_out_as last.name o))
 
--- and once it is back, its count stands in the record
-back : (name : List ℕ) (o last : Opened) (opened rest : List Opened) (count : ℕ) (b : Bool) → is_out_as name o ≡ b → (IsTrue (b || is_out name opened) → ⊥)
-    → given_back name count rest ≡ opened ++ last ∷ [] → cond b (record o { returned = Some count } ∷ rest) (o ∷ given_back name count rest) ≡ o ∷ opened ++ last ∷ []
-back name o last opened rest count true is none more = absurd (none refl)
-back name o last opened rest count false is none more = ap (λ os. o ∷ os) more
+-- and once it is back, its count and its call stand in the record
+back : (name : List ℕ) (o last : Opened) (opened rest : List Opened) (count : ℕ) (call : Option DeviceCall) (b : Bool) → is_out_as name o ≡ b → (IsTrue (b || is_out name opened) → ⊥)
+    → given_back name count call rest ≡ opened ++ last ∷ [] → cond b (closed_with count call o ∷ rest) (o ∷ given_back name count call rest) ≡ o ∷ opened ++ last ∷ []
+back name o last opened rest count call true is none more = absurd (none refl)
+back name o last opened rest count call false is none more = ap (λ os. o ∷ os) more
 
-pub back-opened : (name : List ℕ) (opened : List Opened) (size capacity faults count : ℕ) → (IsTrue (is_out name opened) → ⊥)
-    → given_back name count (opened ++ record { name = name; size = size; capacity = capacity; faults = faults; returned = None } ∷ [])
-    ≡ opened ++ record { name = name; size = size; capacity = capacity; faults = faults; returned = Some count } ∷ []
-back-opened name [] size capacity faults count none = rw (bytes_eq-same name) refl
-back-opened name (o ∷ opened) size capacity faults count none =
-    let later : IsTrue (is_out name opened) → ⊥ = λ is. none (rw is (or-true (is_out_as name o))) in
-    back name o _ opened _ count (is_out_as name o) refl none (back-opened name opened size capacity faults count later)
+pub back-opened : (opened : List Opened) (last : Opened) (count : ℕ) (call : Option DeviceCall) → last.returned ≡ None → (IsTrue (is_out last.name opened) → ⊥)
+    → given_back last.name count call (opened ++ last ∷ []) ≡ opened ++ closed_with count call last ∷ []
+back-opened [] last count call out none = rw (bytes_eq-same last.name, out) refl
+back-opened (o ∷ opened) last count call out none =
+    let later : IsTrue (is_out last.name opened) → ⊥ = λ is. none (rw is (or-true (is_out_as last.name o))) in
+    back last.name o _ opened _ count call (is_out_as last.name o) refl none (back-opened opened last count call out later)
 
 -- a file put back as it was
 put : (name : List ℕ) (f g : File) (files : List File) (b : Bool) → bytes_eq name g.name ≡ b → cond b (Some g) (file_at name files) ≡ Some f

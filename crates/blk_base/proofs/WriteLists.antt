@@ -1,9 +1,9 @@
 -- Lists of writes one behind the other, and what holds wherever they are stopped.
-use Rattle.std.proofs.Common.{◌≡◌, ◌⊎◌, ℕ, zero, suc, ◌+◌, ◌%◌, ◌<◌, ◌≤◌, max, List, [], ◌∷◌, ◌++◌, length, take, refl, sym, ◌∙◌, ap, subst, arith, inl, inr}
+use Rattle.std.proofs.Common.{Some, ◌≡◌, ◌⊎◌, ℕ, zero, suc, ◌+◌, ◌%◌, ◌<◌, ◌≤◌, max, List, [], ◌∷◌, ◌++◌, length, take, refl, sym, ◌∙◌, ap, subst, arith, inl, inr}
 use Rattle.std.specs.Prelude.{◌&&◌}
 use Rattle.blk_base.specs.Calls.{stopped_at}
 use Rattle.blk_base.specs.Content.{Write, Log, with_bytes, size_with, log_with, after_writes}
-use Rattle.blk_base.specs.Writes.{end_of_writes, size_after_writes, log_after_writes, are_none, first_bytes, IsTorn, IsRefused, IsCutBy, IsPart, AtEachStop}
+use Rattle.blk_base.specs.Writes.{end_of_write, end_of_writes, size_after_writes, log_after_writes, are_none, first_bytes, IsTorn, IsRefused, IsCutBy, IsPart, AtEachStop}
 use Rattle.blk_base.specs.declared.fault.DevStop.{DevStop}
 use Rattle.blk_base.specs.declared.fault.DevStop.TheVariants.{Io, NoSpace}
 
@@ -63,6 +63,13 @@ stopped_at-sooner C (v ∷ vs) ws [] part = absurd part
 stopped_at-sooner C (v ∷ vs) ws (m ∷ []) part = refl
 stopped_at-sooner C (v ∷ vs) ws (m ∷ n ∷ made) (inl (same, part)) = stopped_at-sooner C vs ws (n ∷ made) part
 stopped_at-sooner C (v ∷ vs) ws (m ∷ n ∷ made) (inr (cut, none)) = let bad : ⊥ = cc none in absurd bad
+
+-- where one of them ends above a capacity, the highest end is above it
+pub stopped_at-within : (ws made : List Write) (w : Write) → stopped_at ws made ≡ Some w → end_of_write w ≤ end_of_writes ws
+stopped_at-within [] made w is = let bad : ⊥ = cc is in absurd bad
+stopped_at-within (v ∷ ws) [] w is = let bad : ⊥ = cc is in absurd bad
+stopped_at-within (v ∷ ws) (m ∷ []) w is = let same : v ≡ w = cc is in let end = ap end_of_write same in omega (arith, end)
+stopped_at-within (v ∷ ws) (m ∷ n ∷ made) w is = let later = stopped_at-within ws (n ∷ made) w is in omega (arith, later)
 
 -- and a part of both is one of the sooner, or they are made and then a part of the later
 pub part-split : (C : Write → Write → Type 0) (vs ws made : List Write) → IsPart C (vs ++ ws) made

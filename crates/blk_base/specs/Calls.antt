@@ -1,5 +1,5 @@
--- Which call of a device failed last, and on which file a call of a store did, where they tell it.
-use Rattle.std.specs.Prelude.{◌≡◌, ℕ, Bool, true, false, if◌then◌else◌, List, [], ◌∷◌, length, Option, option_map, Some, None, Result, Ok, Err}
+-- Which call of a device or of a store failed last, where they tell it.
+use Rattle.std.specs.Prelude.{◌≡◌, ℕ, List, [], ◌∷◌, length, Option, option_map, Some, None, Result, Ok, Err}
 use Rattle.blk_base.specs.Content.{Write}
 use Rattle.blk_base.specs.Files.{IfTold}
 use Rattle.blk_base.specs.declared.device.DeviceCall.{DeviceCall}
@@ -9,6 +9,7 @@ use Rattle.blk_base.specs.declared.device.Stop.TheVariants as why
 use Rattle.blk_base.specs.declared.device.WriteStop.{WriteStop}
 use Rattle.blk_base.specs.declared.fault.DevStop.{DevStop}
 use Rattle.blk_base.specs.declared.fault.DevStop.TheVariants.{Io, NoSpace}
+use Rattle.blk_base.specs.declared.file.CallOnFile.{CallOnFile}
 use Rattle.blk_base.specs.declared.store.StoreStop.{StoreStop}
 use Rattle.blk_base.specs.declared.store.StoreStop.TheVariants.{Failed}
 
@@ -64,14 +65,20 @@ FailsWriting (Some (Io count)) ws made before now =
     IfTold now (λ last. option_map call_of_write (stopped_at ws made) ≡ Some last)
 FailsWriting (Some NoSpace) ws made before now = now ≡ before
 
+-- a call failed last of which that holds, behind calls, by the fault that they tell
+abbrev pub FailsAt : (DeviceCall → Type 0) → Option ℕ → Option DeviceCall → Type 0
+FailsAt P None last = Unit {0}
+FailsAt P (Some count) last = IfTold last P
+
 -- Of a store.
 
--- on which file a call failed last, behind one on this file
-abbrev pub IsFileAfterStop : StoreStop → List ℕ → Option (List ℕ) → Option (List ℕ) → Type 0
-IsFileAfterStop Failed name before now = IfTold now (λ last. last ≡ name)
-IsFileAfterStop stop name before now = now ≡ before
+-- which of its calls failed last, behind this one
+abbrev pub IsStoreCallAfterStop : StoreStop → CallOnFile → Option CallOnFile → Option CallOnFile
+    → Type 0
+IsStoreCallAfterStop Failed call before now = IfTold now (λ last. last ≡ call)
+IsStoreCallAfterStop stop call before now = now ≡ before
 
-abbrev pub IsFileAfter : {A : Type 0} → Result A StoreStop → List ℕ → Option (List ℕ)
-    → Option (List ℕ) → Type 0
-IsFileAfter (Ok done) name before now = now ≡ before
-IsFileAfter (Err stop) name before now = IsFileAfterStop stop name before now
+abbrev pub IsStoreCallAfter : {A : Type 0} → Result A StoreStop → CallOnFile → Option CallOnFile
+    → Option CallOnFile → Type 0
+IsStoreCallAfter (Ok done) call before now = now ≡ before
+IsStoreCallAfter (Err stop) call before now = IsStoreCallAfterStop stop call before now

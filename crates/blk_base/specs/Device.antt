@@ -1,9 +1,9 @@
 -- What a call leaves of a device: nothing changed, or which writes it made, and why it stopped.
 use Rattle.std.specs.Prelude.{◌≡◌, ℕ, ◌<◌, ◌≤◌, true, ◌&&◌, List, Option, Some, None, option_map, Result, Ok, Err}
-use Rattle.blk_base.specs.Calls.{FailsReading, FailsWriting}
+use Rattle.blk_base.specs.Calls.{FailsReading, FailsWriting, stopped_at}
 use Rattle.blk_base.specs.Content.{Write, Log, after_writes}
 use Rattle.blk_base.specs.Counts.{Rose}
-use Rattle.blk_base.specs.Writes.{end_of_writes, size_after_writes, log_after_writes, are_none, IsCutBy, IsPart, AtEachStop}
+use Rattle.blk_base.specs.Writes.{end_of_write, end_of_writes, size_after_writes, log_after_writes, are_none, IsCutBy, IsPart, AtEachStop}
 use Rattle.blk_base.specs.declared.device.Device.{Ghosts}
 use Rattle.blk_base.specs.declared.device.DevFault.{DevFault}
 use Rattle.blk_base.specs.declared.file.Opened.{Opened}
@@ -56,11 +56,17 @@ abbrev pub IsMade : Option DevStop → List Write → List Write → Type 0
 IsMade None ws made = made ≡ ws
 IsMade (Some stop) ws made = IsPart (IsCutBy stop) ws made
 
--- why a call with these writes is done or stops, by its stop, the capacity, and the count of faults before and now
-abbrev pub StopsBy : Option DevStop → List Write → ℕ → ℕ → ℕ → Type 0
-StopsBy None ws capacity before now = (end_of_writes ws ≤ capacity) × (now ≡ before)
-StopsBy (Some (Io count)) ws capacity before now = Rose before count × (count ≡ now)
-StopsBy (Some NoSpace) ws capacity before now = (capacity < end_of_writes ws) × (now ≡ before)
+-- the one of these writes at which a call stops that has made so much of them would end above the capacity
+abbrev pub IsBeyond : List Write → List Write → ℕ → Type 0
+IsBeyond ws made capacity =
+    (w : Write) × (stopped_at ws made ≡ Some w) × (capacity < end_of_write w)
+
+-- why a call with these writes, of which so much was made, is done or stops, by its stop, the capacity, and the count of
+-- faults before and now
+abbrev pub StopsBy : Option DevStop → List Write → List Write → ℕ → ℕ → ℕ → Type 0
+StopsBy None ws made capacity before now = (end_of_writes ws ≤ capacity) × (now ≡ before)
+StopsBy (Some (Io count)) ws made capacity before now = Rose before count × (count ≡ now)
+StopsBy (Some NoSpace) ws made capacity before now = IsBeyond ws made capacity × (now ≡ before)
 
 -- what a call leaves that makes these writes, by the stop that it tells: all of them are made, or those before the
 -- one at which it stops, and of that one a cut; where it tells a fault, it is that one's
@@ -69,7 +75,7 @@ pub record Writes {D : Type 0} (g : Ghosts D) (ws : List Write) (stop : Option D
   pub made : List Write
   pub part : IsMade stop ws made
   pub wrote : Wrote g made old new
-  pub cause : StopsBy stop ws (g.capacity old) (g.faults old) (g.faults new)
+  pub cause : StopsBy stop ws made (g.capacity old) (g.faults old) (g.faults new)
   pub call : FailsWriting stop ws made (g.failed_call old) (g.failed_call new)
 
 -- the stop that an answer tells
@@ -85,6 +91,7 @@ opened_now g name dev = record {
   capacity = g.capacity dev;
   faults = g.faults dev;
   returned = None;
+  failed_call = g.failed_call dev;
 }
 
 -- P relates what a device tells to what it would hold wherever these writes are stopped, and behind the last

@@ -1,6 +1,7 @@
 -- The files of a store, and its record of the devices that it has opened.
 use Rattle.std.specs.Prelude.{ℕ, Bool, ◌&&◌, if◌then◌else◌, List, [], ◌∷◌, bytes_eq, Option, Some, None, is_none}
 use Rattle.std.specs.List.{list_any}
+use Rattle.blk_base.specs.declared.device.DeviceCall.{DeviceCall}
 use Rattle.blk_base.specs.declared.file.File.{File}
 use Rattle.blk_base.specs.declared.file.Opened.{Opened}
 
@@ -28,12 +29,16 @@ is_out_as name o = bytes_eq name o.name && is_none o.returned
 abbrev pub is_out : List ℕ → List Opened → Bool
 is_out name opened = list_any (is_out_as name) opened
 
--- the record once the device of that name is back with this count
-abbrev pub given_back : List ℕ → ℕ → List Opened → List Opened
-given_back name count [] = []
-given_back name count (o ∷ opened) =
-    if is_out_as name o then record o { returned = Some count } ∷ opened
-    else o ∷ given_back name count opened
+-- an opening once its device is back, with this count and this call as the one that failed last
+abbrev pub closed_with : ℕ → Option DeviceCall → Opened → Opened
+closed_with count call o = record o { returned = Some count; failed_call = call }
+
+-- the record once the device of that name is back so
+abbrev pub given_back : List ℕ → ℕ → Option DeviceCall → List Opened → List Opened
+given_back name count call [] = []
+given_back name count call (o ∷ opened) =
+    if is_out_as name o then closed_with count call o ∷ opened
+    else o ∷ given_back name count call opened
 
 -- a fact about what is told; nothing is asked of what is not
 abbrev pub IfTold : {A : Type 0} → Option A → (A → Type 0) → Type 0

@@ -1,5 +1,6 @@
 //! What contracts say of a store's files and openings. No value of these types is ever made.
 
+use crate::{DeviceCall, StoreCall};
 use std::collections::LinkedList;
 
 /// A file as a store tells it.
@@ -25,4 +26,14 @@ pub struct Opened {
     pub faults: u64,
     /// Its count once it was given back.
     pub returned: Option<u64>,
+    /// Which call of the device failed last, at the opening, and once it was given back until then, where the device
+    /// tells it.
+    pub failed_call: Option<DeviceCall>,
+}
+
+/// A call of a store on a file.
+#[derive(Drop)]
+pub struct CallOnFile {
+    pub name: LinkedList<u8>,
+    pub call: StoreCall,
 }

@@ -15,11 +15,11 @@ mod writing;
 
 pub use device::{DevFault, Device, DeviceCall, Stop, WriteStop};
 pub use fault::{DevNo, DevStop, Fault, FaultAt, FaultFrom, Outcome};
-pub use file::{File, Opened};
+pub use file::{CallOnFile, File, Opened};
 pub use memory::{NoMemory, Room};
 pub use names::Names1;
 pub use sink::{Sink, SinkFault};
 pub use span::{PIECE, Span, piece_at, piece_count};
-pub use store::{Store, StoreStop};
+pub use store::{Store, StoreCall, StoreStop};
 pub use text::{Bytes, Text};
 pub use writing::write;

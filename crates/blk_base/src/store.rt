@@ -2,10 +2,11 @@
 ghost use Rattle.std.specs.Prelude.{◌≡◌, ◌≢◌, ℕ, ◌≤◌, true, [], ◌∷◌, ◌++◌, List, length, replicate, Option, None, option_map, IsTrue, IfOk, IfErr, OnOk, OnErr, MatchResult};
 ghost use Rattle.blk_base.specs.Device.{opened_now};
 ghost use Rattle.blk_base.specs.Files.{put_file, is_out, given_back, IfTold};
+ghost use Rattle.blk_base.specs.declared.file.CallOnFile.{CallOnFile};
 ghost use Rattle.blk_base.specs.declared.file.File.{File};
 ghost use Rattle.blk_base.specs.declared.file.Opened.{Opened};
 ghost use Rattle.blk_base.specs.Answers.{OpenAnswers, CreateAnswers, ReadAnswers, StandsUnlessFailed};
-ghost use Rattle.blk_base.specs.Calls.{IsFileAfter};
+ghost use Rattle.blk_base.specs.Calls.{IsStoreCallAfter};
 ghost use Rattle.blk_base.specs.Stored.{IsDeviceOf, HoldsBytes, LeavesOthers, files_with_returned};
 
 use crate::{Bytes, Device};
@@ -22,6 +23,14 @@ pub enum StoreStop {
     /// The store failed.
     Failed,
     NoMemory,
+}
+
+/// A call of a store: a file is taken out, made with so many bytes, or read whole, where it has at most `limit` bytes.
+#[derive(Clone, Copy, Debug, PartialEq, Eq)]
+pub enum StoreCall {
+    Open,
+    Create { len: u64 },
+    Read { limit: u64 },
 }
 
 /// Files by name. A file is opened into a device, and is out until that is given back. A call that doesn't fail
@@ -41,8 +50,8 @@ pub trait Store {
     /// How many of its calls have failed.
     ghost faults: { Self → ℕ };
 
-    /// The name of the file of its call that failed last, where the store tells it.
-    ghost failed_file: { Self → Option (List ℕ) };
+    /// Which of its calls failed last, where the store tells it.
+    ghost failed_call: { Self → Option CallOnFile };
 
     /// Takes a file out. The n-th opening of a run, counted from 0, is device n. A refusal leaves all as it was.
     fn open_file(&mut self, name: &str) -> Result<Self::Dev, StoreStop>
@@ -56,7 +65,8 @@ pub trait Store {
         ensures cause { OpenAnswers name.now (files self.old) (opened self.old) (faults self.old)
             (faults self.new) result }
         ensures quiet { StandsUnlessFailed (faults self.old) (faults self.new) result }
-        ensures file { IsFileAfter result name.now (failed_file self.old) (failed_file self.new) }
+        ensures call { IsStoreCallAfter result (record { name = name.now; call = StoreCall.Open })
+            (failed_call self.old) (failed_call self.new) }
         ensures files { files self.new ≡ files self.old }
         ensures room { room self.new ≡ room self.old }
         ensures faults { faults self.old ≤ faults self.new };
@@ -79,7 +89,8 @@ pub trait Store {
         ensures cause { CreateAnswers name.now len (room self.old) (opened self.old)
             (faults self.old) (faults self.new) result }
         ensures quiet { StandsUnlessFailed (faults self.old) (faults self.new) result }
-        ensures file { IsFileAfter result name.now (failed_file self.old) (failed_file self.new) }
+        ensures call { IsStoreCallAfter result (record { name = name.now; call = StoreCall.Create len })
+            (failed_call self.old) (failed_call self.new) }
         ensures opened { opened self.new ≡ opened self.old }
         ensures room { room self.new ≡ room self.old }
         ensures faults { faults self.old ≤ faults self.new };
@@ -90,7 +101,8 @@ pub trait Store {
         ensures cause { ReadAnswers name.now limit (files self.old) (opened self.old)
             (faults self.old) (faults self.new) result }
         ensures quiet { StandsUnlessFailed (faults self.old) (faults self.new) result }
-        ensures file { IsFileAfter result name.now (failed_file self.old) (failed_file self.new) }
+        ensures call { IsStoreCallAfter result (record { name = name.now; call = StoreCall.Read limit })
+            (failed_call self.old) (failed_call self.new) }
         ensures files { files self.new ≡ files self.old }
         ensures opened { opened self.new ≡ opened self.old }
         ensures room { room self.new ≡ room self.old }
@@ -103,9 +115,10 @@ pub trait Store {
             ≡ files_with_returned name.now (Self.Dev.content dev) (Self.Dev.capacity dev)
             (Self.Dev.is_flushed dev) (files self.old) }
         ensures opened { opened self.new
-            ≡ given_back name.now (Self.Dev.faults dev) (opened self.old) }
+            ≡ given_back name.now (Self.Dev.faults dev) (Self.Dev.failed_call dev)
+            (opened self.old) }
         ensures room { room self.new ≡ room self.old }
-        ensures file { failed_file self.new ≡ failed_file self.old }
+        ensures call { failed_call self.new ≡ failed_call self.old }
         ensures faults { faults self.new ≡ faults self.old };
 
     /// The capacity of a file that `create_file` makes. It never changes.

@@ -1,4 +1,4 @@
-use Rattle.std.proofs.Common.{[], ◌∷◌, ℕ, List, take, refl, sym, ap, subst, arith, inr}
+use Rattle.std.proofs.Common.{[], ◌∷◌, ℕ, List, take, refl, sym, ap, subst, inr}
 use Rattle.blk_base.specs.Counts.{Rose}
 use Rattle.blk_base.specs.Writes.{write_of}
 use Rattle.blk_base.proofs.Calls.{write_failed, write_refused}
@@ -42,6 +42,6 @@ returns-in-NoSpace g c =
         capacity = c.in-Err.ensures.capacity;
         faults = c.in-Err.ensures.faults;
       };
-      cause = (let beyond = refused.0 in omega (arith, beyond), refused.2);
+      cause = ((write_of c.args.at bytes, refl, refused.0), refused.2);
       call = write_refused c.args.at bytes (write_of c.args.at (take done bytes)) c.in-Err.stop.why _ _ c.in-NoSpace.is c.in-Err.ensures.call;
     }
