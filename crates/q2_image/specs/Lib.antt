@@ -2,6 +2,7 @@ pub mod Seen
 pub mod Opening
 pub mod Text
 pub mod Loading
+pub mod OpeningCalls
 pub mod Guest
 pub mod Merge
 pub mod Image

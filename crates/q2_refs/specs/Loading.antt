@@ -1,9 +1,13 @@
 -- Reading an image's refcounts: what is refused, and why each answer comes.
-use Rattle.std.specs.Prelude.{◌≡◌, ℕ, ◌*◌, ◌≤◌, ◌<◌, ⊤, List, [], ◌∷◌, length, slice_index, Option, Some, None, Result, Ok, Err}
+use Rattle.std.specs.Prelude.{◌≡◌, ◌≢◌, ◌⊎◌, ℕ, ◌*◌, ◌≤◌, ◌<◌, ⊤, List, [], ◌∷◌, length, slice_index, Option, Some, None, Result, Ok, Err}
 use Rattle.std.specs.Option.{option_map}
+use Rattle.blk_base.specs.Files.{IfTold}
+use Rattle.blk_base.specs.declared.device.DeviceCall.{DeviceCall}
+use Rattle.blk_base.specs.declared.device.DeviceCall.TheVariants as calls
+use Rattle.q2_format.specs.Entry.{block_offset}
 use Rattle.q2_format.specs.Sizes.{cluster_size, entries_in_cluster, block_entries}
 use Rattle.q2_format.specs.Header.{first}
-use Rattle.q2_format.specs.Tables.{refcount_of}
+use Rattle.q2_format.specs.Tables.{refcount_of, refcount_table}
 use Rattle.q2_format.specs.Sound.{bad_refcount_table, bad_block, reserved_in_refcount_table}
 use Rattle.q2_format.specs.declared.header.Header.{Header}
 use Rattle.q2_format.specs.declared.header.TheConstants.{MAX_REFCOUNT_TABLE_CLUSTERS}
@@ -74,3 +78,35 @@ AreCounts file h counts from to =
 -- the counts from one cluster on are 0
 abbrev pub AreZeroFrom : List ℕ → ℕ → Type 0
 AreZeroFrom counts from = (k : ℕ) → from ≤ k → slice_index counts k ≡ 0
+
+-- Which read fails.
+
+-- that of a header's refcount table
+abbrev pub table_call : Header → DeviceCall
+table_call h = calls.Read h.ref_offset (8 * table_entries h)
+
+-- it is made where the table lies in its place, in a file of `len` bytes
+abbrev pub IsTableCall : Header → ℕ → DeviceCall → Type 0
+IsTableCall h len call = (bad_refcount_table h len ≡ None) × (call ≡ table_call h)
+
+-- that of a block which these words name, and which has one of the first `reach` refcounts
+pub record IsBlockCall (h : Header) (reach : ℕ) (table : List ℕ) (call : DeviceCall) : Type 0 where
+  pub i : ℕ
+  pub within : i < length table
+  pub counts : i * block_entries (cluster_size h.cluster_bits) h.refcount_order < reach
+  pub there : block_offset (slice_index table i) ≢ 0
+  pub is : call ≡ calls.Read (block_offset (slice_index table i)) (cluster_size h.cluster_bits)
+
+-- behind words that nothing refuses, and that are the file's, where it is told
+pub record IsCallBehindTable (h : Header) (len reach : ℕ) (content : Option (List ℕ))
+    (call : DeviceCall) : Type 0 where
+  pub table : List ℕ
+  pub entries : length table ≡ table_entries h
+  pub accepted : refcounts_refusal h len table ≡ None
+  pub told : IfTold content (λ file. table ≡ refcount_table file h)
+  pub read : IsBlockCall h reach table call
+
+-- that of the table or of a block
+abbrev pub IsRefsCall : Header → ℕ → ℕ → Option (List ℕ) → DeviceCall → Type 0
+IsRefsCall h len reach content call =
+    IsTableCall h len call ⊎ IsCallBehindTable h len reach content call

@@ -1,6 +1,10 @@
 -- What loading refuses, and what it keeps.
-use Rattle.std.specs.Prelude.{◌≡◌, ℕ, ◌*◌, ◌<◌, true, false, [], ◌∷◌, length, slice_index, Option, None, Some, Result, Ok, Err}
+use Rattle.std.specs.Prelude.{◌≡◌, ◌≢◌, ◌⊎◌, ℕ, ◌*◌, ◌<◌, true, false, List, [], ◌∷◌, length, slice_index, Option, None, Some, Result, Ok, Err}
 use Rattle.std.specs.Option.{option_map}
+use Rattle.blk_base.specs.Files.{IfTold}
+use Rattle.blk_base.specs.declared.device.DeviceCall.{DeviceCall}
+use Rattle.blk_base.specs.declared.device.DeviceCall.TheVariants as calls
+use Rattle.q2_format.specs.Bytes.{words_at}
 use Rattle.q2_format.specs.Sizes.{cluster_size, entries_in_cluster}
 use Rattle.q2_format.specs.Entry.{host_offset, has_reserved_in_l1}
 use Rattle.q2_format.specs.Header.{first}
@@ -9,6 +13,7 @@ use Rattle.q2_format.specs.References.{own_offset}
 use Rattle.q2_format.specs.Sound.{is_misplaced, bad_l1_table, bad_l2_table, bad_host, reserved_in_l1, reserved_in_l2, compressed_cluster}
 use Rattle.q2_format.specs.declared.header.Header.{Header}
 use Rattle.q2_tables.specs.Kept.{KeptTables, IsTreeOf, is_plain}
+use Rattle.q2_tables.specs.Words.{misplaced_table}
 use Rattle.q2_tables.specs.declared.stop.TablesStop.{TablesStop}
 use Rattle.q2_tables.specs.declared.stop.TablesStop.TheVariants.{Offset, ReservedInL1, ReservedInL2, Compressed, Io, NoMemory}
 
@@ -64,3 +69,27 @@ pub record IsLoaded (h : Header) (len : ℕ) (kept : KeptTables) : Type 0 where
   pub unreserved : (i : ℕ) → i < length kept.l1 → has_reserved_in_l1 (slice_index kept.l1 i) ≡ false
   pub plain : (cluster : ℕ) → cluster < length kept.words
       → is_plain (slice_index kept.words cluster) ≡ true
+
+-- Which read fails, in a file of `len` bytes.
+
+-- that of an L2 table which an entry of this L1 table names
+pub record IsL2Call (h : Header) (l1 : List ℕ) (call : DeviceCall) : Type 0 where
+  pub i : ℕ
+  pub within : i < length l1
+  pub there : host_offset (slice_index l1 i) ≢ 0
+  pub is : call ≡ calls.Read (host_offset (slice_index l1 i)) (cluster_size h.cluster_bits)
+
+-- behind an L1 table whose entries nothing refuses, and that is the file's, where it is told
+pub record IsCallBehindL1 (h : Header) (len : ℕ) (content : Option (List ℕ))
+    (call : DeviceCall) : Type 0 where
+  pub l1 : List ℕ
+  pub entries : length l1 ≡ h.l1_size
+  pub told : IfTold content (λ file. l1 ≡ words_at file h.l1_offset h.l1_size)
+  pub placed : misplaced_table (cluster_size h.cluster_bits) len l1 ≡ None
+  pub read : IsL2Call h l1 call
+
+-- that of the L1 table, which lies in its place, or of an L2 table
+abbrev pub IsTablesCall : Header → ℕ → Option (List ℕ) → DeviceCall → Type 0
+IsTablesCall h len content call =
+    (bad_l1_table h len ≡ None)
+    × ((call ≡ calls.Read h.l1_offset (8 * h.l1_size)) ⊎ IsCallBehindL1 h len content call)

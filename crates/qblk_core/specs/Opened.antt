@@ -1,12 +1,13 @@
 -- The nodes of a run that are made, and why they aren't.
 use Rattle.std.specs.Prelude.{◌≡◌, ℕ, ◌≤◌, List, [], ◌∷◌, length, Option, Some}
-use Rattle.blk_base.specs.Calls.{FailsReading}
 use Rattle.blk_base.specs.Counts.{Rose}
+use Rattle.blk_base.specs.Files.{IfTold}
 use Rattle.blk_base.specs.declared.fault.FaultFrom.TheVariants.{Dev}
 use Rattle.blk_nodes.specs.Contents.{Unfolds}
 use Rattle.blk_nodes.specs.Nodes.{Nodes, DeviceSeen}
 use Rattle.blk_nodes.specs.Reading.{HasRisen}
 use Rattle.q2_format.specs.declared.header.TheConstants.{MIN_HEADER_LENGTH}
+use Rattle.q2_image.specs.OpeningCalls.{IsOpeningCall}
 use Rattle.q2_image.specs.declared.stop.ImageStop.{ImageStop}
 use Rattle.q2_image.specs.declared.stop.ImageStop.TheVariants as stops
 use Rattle.qblk_core.specs.Closing.{IsOnlyDevice}
@@ -42,7 +43,7 @@ StopsAs format before now (Refused why) =
 StopsAs format before now (Io count) =
     (format ≡ Qcow2) × Rose before.faults count × (count ≡ now.faults)
     × (MIN_HEADER_LENGTH ≤ before.size)
-    × FailsReading (Some count) before.failed_call now.failed_call
+    × IfTold now.failed_call (IsOpeningCall before.size before.content)
 StopsAs format before now NoMemory = now.faults ≡ before.faults
 
 -- the image's node isn't added: of their device at most the count has changed, and which call failed last

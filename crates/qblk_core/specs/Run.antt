@@ -3,10 +3,12 @@ use Rattle.std.specs.Prelude.{◌≡◌, ◌⊎◌, ℕ, ◌<◌, ◌≤◌, Boo
 use Rattle.blk_base.specs.Counts.{Rose}
 use Rattle.blk_base.specs.Files.{file_at, put_file, IfTold}
 use Rattle.blk_base.specs.Answers.{HasFile, LacksFile}
+use Rattle.blk_base.specs.declared.file.CallOnFile.{CallOnFile}
 use Rattle.blk_base.specs.declared.file.File.{File}
 use Rattle.blk_base.specs.declared.file.Opened.{Opened}
 use Rattle.blk_base.specs.declared.fault.FaultFrom.{FaultFrom}
 use Rattle.blk_base.specs.declared.fault.FaultFrom.TheVariants.{Store, Dev, Sink}
+use Rattle.blk_base.specs.declared.store.StoreCall.TheVariants as calls
 use Rattle.trace_codec.specs.Trace.{ops_of}
 use Rattle.trace_codec.specs.declared.op.Op.{Op}
 use Rattle.trace_codec.specs.declared.stop.TraceStop.TheVariants as stops
@@ -24,6 +26,7 @@ use Rattle.q2_format.specs.Sound.{IsSound, image_refusal}
 use Rattle.q2_format.specs.declared.header.HeaderStop.TheVariants as headers
 use Rattle.q2_format.specs.declared.header.TheConstants.{MAX_DISK_SIZE, MIN_HEADER_LENGTH}
 use Rattle.q2_image.specs.Opening.{refusal_of}
+use Rattle.q2_image.specs.OpeningCalls.{IsOpeningCall}
 use Rattle.q2_image.specs.declared.stop.ImageStop.TheVariants as images
 use Rattle.qblk_core.specs.Format.{disk_by_format, HasGoodLength, IsGoodImage, IsSoundAs}
 use Rattle.qblk_core.specs.declared.words.Format.{Format}
@@ -33,7 +36,7 @@ use Rattle.blk_base.specs.Outcomes.{is_good}
 use Rattle.blk_nodes.specs.Nodes.{Nodes, DeviceSeen}
 use Rattle.blk_nodes.specs.Reading.{HasRisen, StoppedBy}
 use Rattle.qblk_inputs.specs.Inputs.{IsTraceFlaw, most_text}
-use Rattle.qblk_inputs.specs.Reading.{OnFile, FailsOn}
+use Rattle.qblk_inputs.specs.Reading.{OnFile, FailsOn, input_read}
 use Rattle.qblk_inputs.specs.declared.stop.InputFlaw.{InputFlaw}
 use Rattle.qblk_inputs.specs.declared.stop.InputFlaw.TheVariants as flaws
 use Rattle.qblk_core.specs.Along.{CountsOutcome, HaveNodes, GoesInTurn}
@@ -50,7 +53,7 @@ pub record Outside : Type 0 where
   pub files : Option (List File)
   pub opened : List Opened
   pub store_faults : ℕ
-  pub failed_file : Option (List ℕ)
+  pub failed_call : Option CallOnFile
   pub sent : Option (List ℕ)
   pub sink_faults : ℕ
 
@@ -114,14 +117,15 @@ pub record HaveCounts (h : List Event) (flush : Outcome) (before opened left now
     pub last : counted (opened ∷ []) h ≡ left ∷ []
     pub flushed : CountsOutcome left now flush
 
--- the record of the image's device as it was opened, once it is back with this count
-abbrev pub closed_opening : List ℕ → DeviceSeen → ℕ → Opened
-closed_opening image device count = record {
+-- the record of the image's device as it was opened, once it is back as it is then
+abbrev pub closed_opening : List ℕ → DeviceSeen → DeviceSeen → Opened
+closed_opening image device back = record {
   name = image;
   size = device.size;
   capacity = device.capacity;
   faults = device.faults;
-  returned = Some count;
+  returned = Some back.faults;
+  failed_call = back.failed_call;
 }
 
 -- a history of these requests on that image: each stands once, in order
@@ -130,13 +134,13 @@ pub record IsIoRun (format : Format) (image : List ℕ) (ops : List Op) (flushed
   pub asked : asked_by 0 h ≡ ops
   -- so that its transcript is that of no other
   pub small : All IsSmall h
-  -- the device as it was opened
+  -- the device as it was opened, and as it is given back
   pub device : DeviceSeen
-  pub opened : new.opened ≡ old.opened ++ closed_opening image device now ∷ []
+  pub back : DeviceSeen
+  pub opened : new.opened ≡ old.opened ++ closed_opening image device back ∷ []
   -- where the count has not risen, no piece was stopped by a fault
   pub quiet : now ≡ before → before < 18446744073709551615 → NameNone h
-  -- the device as it is given back, and the nodes over it
-  pub back : DeviceSeen
+  -- the nodes over it
   pub first : Nodes
   pub left : Nodes
   pub end : Nodes
@@ -226,7 +230,7 @@ HasLengthFor why size = ⊤
 -- the image's device was opened so and is back, and no call of it failed
 abbrev pub IsBackQuietly : List ℕ → DeviceSeen → Outside → Outside → Type 0
 IsBackQuietly image device old new =
-    new.opened ≡ old.opened ++ closed_opening image device device.faults ∷ []
+    new.opened ≡ old.opened ++ closed_opening image device device ∷ []
 
 abbrev pub IsOpenedQuietly : List ℕ → Outside → Outside → Type 0
 IsOpenedQuietly image old new = (device : DeviceSeen) × IsBackQuietly image device old new
@@ -279,8 +283,9 @@ pub record FailsToOpen (format : Format) (image : List ℕ) (old new : Outside) 
     pub nothing : NothingWrittenIo old new
     pub device : DeviceSeen
     pub behind : DeviceSeen
-    pub opened : new.opened ≡ old.opened ++ closed_opening image device behind.faults ∷ []
+    pub opened : new.opened ≡ old.opened ++ closed_opening image device behind ∷ []
     pub stopped : StoppedBy device behind only_device count
+    pub call : IfTold behind.failed_call (IsOpeningCall device.size device.content)
     pub kept : HasRisen device behind
     pub long : MIN_HEADER_LENGTH ≤ device.size
     pub told : IfTold old.files (λ files. HasFile image (IsOverFile device) files)
@@ -299,16 +304,13 @@ FailsToFlushIo format image trace old new count =
 abbrev pub OnOpened : Option (List File) → List ℕ → List ℕ → Type 0
 OnOpened told name failed = (failed ≡ name) × IfTold told (HasFile name (λ _. Unit {0}))
 
--- it failed on the trace's, which is read first, and is there and not too long; or on the image's
-abbrev pub OnImageOrTrace : Option (List File) → List ℕ → List ℕ → List ℕ → Type 0
-OnImageOrTrace told image trace failed = OnFile told trace failed ⊎ OnOpened told image failed
-
--- the first fault: while the inputs were read, while the image was opened, in the last flush, or while the transcript went out
+-- the first fault: while the trace was read, which is there and not too long, or the image's file was opened; while the image was opened, in the last flush, or while the transcript went out
 abbrev pub IsFaultyIo : Format → List ℕ → List ℕ → Outside → Outside → FaultFrom → ℕ → Type 0
 IsFaultyIo format image trace old new Store count =
     NothingWrittenIo old new × (new.opened ≡ old.opened) × Rose old.store_faults count
     × (count ≡ new.store_faults)
-    × FailsOn (OnImageOrTrace old.files image trace) new.failed_file
+    × (FailsOn input_read (OnFile old.files trace) new.failed_call
+    ⊎ FailsOn calls.Open (OnOpened old.files image) new.failed_call)
 IsFaultyIo format image trace old new (Dev dev) count =
     (dev.0 ≡ 0) × (FailsToOpen format image old new count
     ⊎ FailsToFlushIo format image trace old new count)

@@ -1,10 +1,11 @@
 -- The parts of a run on an image, from its inputs to the transcript.
 use Rattle.std.specs.Prelude.{◌≡◌, ◌≢◌, ◌⊎◌, ℕ, ◌<◌, ◌≤◌, true, List, [], length, IsUtf8, Option, Some, None, is_some, Ok, ◌∷◌, ◌++◌, option_map}
-use Rattle.blk_base.specs.Calls.{FailsReading}
 use Rattle.blk_base.specs.Counts.{Rose}
 use Rattle.blk_base.specs.Files.{IfTold}
 use Rattle.blk_base.specs.Answers.{HasFile, LacksFile}
+use Rattle.blk_base.specs.declared.file.CallOnFile.{CallOnFile}
 use Rattle.blk_base.specs.declared.file.File.{File}
+use Rattle.blk_base.specs.declared.store.StoreCall.{StoreCall}
 use Rattle.blk_base.specs.declared.fault.FaultAt.{FaultAt}
 use Rattle.blk_base.specs.declared.fault.FaultFrom.TheVariants.{Store, Dev, Sink}
 use Rattle.trace_codec.specs.Trace.{ops_of}
@@ -12,6 +13,7 @@ use Rattle.blk_history.specs.Owned.{asked_by}
 use Rattle.blk_base.specs.declared.fault.Outcome.{Outcome}
 use Rattle.blk_base.specs.declared.fault.Outcome.TheVariants.{Io}
 use Rattle.q2_format.specs.declared.header.TheConstants.{MIN_HEADER_LENGTH}
+use Rattle.q2_image.specs.OpeningCalls.{IsOpeningCall}
 use Rattle.qblk_inputs.specs.Inputs.{most_text}
 use Rattle.qblk_inputs.specs.Reading.{FailsOn}
 use Rattle.blk_nodes.specs.Contents.{Unfolds}
@@ -51,10 +53,10 @@ IsStoreStop before now (Fault Store count) = Rose before count × (count ≡ now
 IsStoreStop before now (Stuck actor waits) = ⊥
 IsStoreStop before now NoMemory = Unit {0}
 
--- a store that is named failed on a file of which that holds
-abbrev pub NamesStoreOn : (List ℕ → Type 0) → Option (List ℕ) → Status → Type 0
-NamesStoreOn P last (Fault Store count) = FailsOn P last
-NamesStoreOn P last status = Unit {0}
+-- this call of a store that is named failed on a file of which that holds
+abbrev pub NamesStoreOn : StoreCall → (List ℕ → Type 0) → Option CallOnFile → Status → Type 0
+NamesStoreOn call P last (Fault Store count) = FailsOn call P last
+NamesStoreOn call P last status = Unit {0}
 
 -- why an image isn't opened
 abbrev pub IsOpenStop : List ℕ → Option (List File) → ℕ → ℕ → Status → Type 0
@@ -145,7 +147,7 @@ IsRunStop format image trace read before now (Input name line why) =
 IsRunStop format image trace read before now (Fault from count) =
     (format ≡ Qcow2) × (from ≡ Dev (record { 0 = 0 })) × Rose before.faults count
     × (count ≡ now.faults) × (MIN_HEADER_LENGTH ≤ before.size)
-    × FailsReading (Some count) before.failed_call now.failed_call
+    × IfTold now.failed_call (IsOpeningCall before.size before.content)
 IsRunStop format image trace read before now (Stuck actor waits) = ⊥
 IsRunStop format image trace read before now NoMemory = now.faults ≡ before.faults
 

@@ -3,8 +3,11 @@ use Rattle.std.specs.Prelude.{◌≡◌, ◌⊎◌, ℕ, ◌<◌, ◌≤◌, tru
 use Rattle.blk_base.specs.Answers.{HasFile, LacksFile}
 use Rattle.blk_base.specs.Counts.{Rose}
 use Rattle.blk_base.specs.Files.{IfTold, is_out}
+use Rattle.blk_base.specs.declared.file.CallOnFile.{CallOnFile}
 use Rattle.blk_base.specs.declared.file.File.{File}
 use Rattle.blk_base.specs.declared.file.Opened.{Opened}
+use Rattle.blk_base.specs.declared.store.StoreCall.{StoreCall}
+use Rattle.blk_base.specs.declared.store.StoreCall.TheVariants as calls
 use Rattle.trace_codec.specs.Amounts.{Amounts, nothing}
 use Rattle.trace_codec.specs.Script.{Order}
 use Rattle.trace_codec.specs.declared.wish.Wish.{Wish}
@@ -91,6 +94,10 @@ FailsOnInput cast name files =
 abbrev pub OnFile : Option (List File) → List ℕ → List ℕ → Type 0
 OnFile told name failed = (failed ≡ name) × IfTold told (IsShortFile name)
 
+-- how an input is read: whole, where it isn't too long
+abbrev pub input_read : StoreCall
+input_read = calls.Read most_text
+
 -- one of the traces, and where files are told one behind those that are read
 abbrev pub OnTraces : Option (List File) → List Player → List ℕ → Type 0
 OnTraces told players failed =
@@ -103,12 +110,13 @@ OnInputs told cast failed =
     ((failed ≡ cast.script) ⊎ Contains (map (λ p. p.trace) cast.players) failed)
     × IfTold told (FailsOnInput cast failed)
 
--- a call failed on a file of which that holds, by which failed last, where it is told
-abbrev pub FailsOn : (List ℕ → Type 0) → Option (List ℕ) → Type 0
-FailsOn P last = (failed : List ℕ) × P failed × IfTold last (λ name. name ≡ failed)
+-- this call failed on a file of which that holds, by which failed last, where it is told
+abbrev pub FailsOn : StoreCall → (List ℕ → Type 0) → Option CallOnFile → Type 0
+FailsOn call P last = (failed : List ℕ) × P failed
+    × IfTold last (λ it. it ≡ record { name = failed; call = call })
 
--- so it is behind a call that failed, and which failed last stays behind every other stop
-abbrev pub StopsOn : (List ℕ → Type 0) → Option (List ℕ) → Option (List ℕ) → InputStop → Type 0
+-- so it is behind a read of an input that failed, and which call failed last stays behind every other stop
+abbrev pub StopsOn : (List ℕ → Type 0) → Option CallOnFile → Option CallOnFile → InputStop → Type 0
 StopsOn P before now (Refused name line why) = now ≡ before
-StopsOn P before now (Failed count) = FailsOn P now
+StopsOn P before now (Failed count) = FailsOn input_read P now
 StopsOn P before now NoMemory = now ≡ before

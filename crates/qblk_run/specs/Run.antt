@@ -7,6 +7,7 @@ use Rattle.blk_base.specs.declared.fault.DevNo.{DevNo}
 use Rattle.blk_base.specs.declared.fault.FaultAt.{FaultAt}
 use Rattle.blk_base.specs.declared.fault.FaultFrom.{FaultFrom}
 use Rattle.blk_base.specs.declared.fault.FaultFrom.TheVariants.{Store, Dev, Sink}
+use Rattle.blk_base.specs.declared.file.CallOnFile.{CallOnFile}
 use Rattle.blk_base.specs.declared.file.File.{File}
 use Rattle.blk_base.specs.declared.file.Opened.{Opened}
 use Rattle.blk_base.specs.declared.memory.Room.{Room}
@@ -26,14 +27,14 @@ use Rattle.flat_machine.specs.Final.{AreLeftBy, bytes_named}
 use Rattle.blk_history.specs.Small.{IsSmall}
 use Rattle.flat_machine.specs.Imaging.{ImagesAreSound}
 use Rattle.flat_machine.specs.declared.opening.Opening.{Opening}
-use Rattle.world_commands.specs.Closing.{EndsWorld, IsFlushedIn, count_back}
+use Rattle.world_commands.specs.Closing.{EndsWorld, IsBackAfterFlush, IsFlushedIn, count_back}
 use Rattle.world_commands.specs.Comes.{Comes}
 use Rattle.world_commands.specs.Counting.{HaveNotFallen}
 use Rattle.world_parts.specs.Face.{WorldSeen, counts_now}
 use Rattle.world_parts.specs.Steps.{StoreSeen, IsOpeningOf, new_world, seen_store}
 use Rattle.world_commands.specs.Tabling.{IsTableAfter}
 use Rattle.qblk_inputs.specs.Inputs.{Work, HasWork, IsRefusedInput, SpeaksOfCast}
-use Rattle.qblk_inputs.specs.Reading.{FailsOn, OnInputs}
+use Rattle.qblk_inputs.specs.Reading.{FailsOn, OnInputs, input_read}
 use Rattle.qblk_inputs.specs.Room.{bytes_for_all, entries_for_all}
 use Rattle.qblk_inputs.specs.Words.{Cast, guests_of}
 use Rattle.qblk_inputs.specs.declared.stop.InputFlaw.{InputFlaw}
@@ -49,29 +50,27 @@ use Rattle.qblk_core.specs.declared.status.Status.TheVariants.{Done, Usage, Inpu
 -- what is seen of a store and a sink
 pub record Setting : Type 0 where
   pub store : StoreSeen
-  pub failed_file : Option (List ℕ)
   pub sent : Option (List ℕ)
   pub sink_faults : ℕ
 
-abbrev pub setting : Option (List File) → List Opened → ℕ → ℕ → Option (List ℕ) → Option (List ℕ)
-    → ℕ → Setting
-setting files opened room faults failed sent sink_faults =
+abbrev pub setting : Option (List File) → List Opened → ℕ → ℕ → Option CallOnFile
+    → Option (List ℕ) → ℕ → Setting
+setting files opened room faults failed_call sent sink_faults =
     record {
-      store = seen_store files opened room faults;
-      failed_file = failed;
+      store = seen_store files opened room faults failed_call;
       sent = sent;
       sink_faults = sink_faults;
     }
 
 -- as `io` sees it
-abbrev pub outside : Option (List File) → List Opened → ℕ → Option (List ℕ) → Option (List ℕ) → ℕ
-    → Outside
-outside files opened faults failed sent sink_faults =
+abbrev pub outside : Option (List File) → List Opened → ℕ → Option CallOnFile → Option (List ℕ)
+    → ℕ → Outside
+outside files opened faults failed_call sent sink_faults =
     record {
       files = files;
       opened = opened;
       store_faults = faults;
-      failed_file = failed;
+      failed_call = failed_call;
       sent = sent;
       sink_faults = sink_faults;
     }
@@ -134,7 +133,7 @@ pub record LeavesFiles (a : Account) (fault : Option FaultAt) (files : List File
 -- It failed at this device, and at none before it: the count, which the device was given back with, rose behind the last event.
 pub record FailsToFlush (new : StoreSeen) (a : Account) (dev : DevNo) (count : ℕ) : Type 0 where
   pub last : With (slice_get a.openings dev.0)
-      (λ o. (o.returned ≡ Some count) × HasFailedSince o.faults count)
+      (λ o. IsBackAfterFlush count o × HasFailedSince o.faults count)
   pub rose : With (slice_get a.counts.devices dev.0) (λ before. Rose before count)
   pub first : (n : ℕ) → n < dev.0
       → slice_get (counts_at_last new a).devices n ≡ slice_get a.counts.devices n
@@ -259,7 +258,7 @@ GoesOut old new a n =
 abbrev pub IsFaulty : Cast → Setting → Setting → FaultFrom → ℕ → Type 0
 IsFaulty cast old new Store count =
     NothingWritten old new × Rose old.store.faults count × (count ≡ new.store.faults)
-    × FailsOn (OnInputs old.store.files cast) new.failed_file
+    × FailsOn input_read (OnInputs old.store.files cast) new.store.failed_call
 IsFaulty cast old new (Dev dev) count = (work : Work) × (a : Account) × (n : ℕ)
     × WasStopped cast work (Some (fault_at (Dev dev) count)) old new a n × GoesOut old new a n
 IsFaulty cast old new Sink count = (work : Work) × (a : Account) × (n : ℕ)

@@ -1,8 +1,11 @@
 -- The end of a world: each device is flushed and given back.
 use Rattle.std.specs.Prelude.{◌≡◌, ◌≤◌, ℕ, Bool, true, false, if◌then◌else◌, List, [], ◌∷◌, ◌++◌, map, slice_get, Contains, bytes_eq, Option, Some, None, MatchOption, is_some, option_map, unwrap_or}
+use Rattle.blk_base.specs.Calls.{FailedLast}
 use Rattle.blk_base.specs.Counts.{Rose}
 use Rattle.blk_base.specs.Files.{given_back, file_at, is_out}
 use Rattle.blk_base.specs.Stored.{files_with_returned}
+use Rattle.blk_base.specs.declared.device.DeviceCall.{DeviceCall}
+use Rattle.blk_base.specs.declared.device.DeviceCall.TheVariants as calls
 use Rattle.blk_base.specs.declared.fault.DevNo.{DevNo}
 use Rattle.blk_base.specs.declared.fault.FaultAt.{FaultAt}
 use Rattle.blk_base.specs.declared.fault.FaultFrom.TheVariants.{Dev}
@@ -17,10 +20,13 @@ use Rattle.world_parts.specs.Steps.{StoreSeen, seen_store}
 use Rattle.world_commands.specs.Counting.{HaveNotFallen}
 use Rattle.world_parts.specs.Face.{WorldSeen, counts_now, told_bytes}
 
--- Why a flush of a device ended so: its count stands, or it is named with its count, which rose.
-abbrev pub HasFlushFault : DeviceSeen → ℕ → Option FaultAt → Type 0
-HasFlushFault device count fault = MatchOption fault (count ≡ device.faults)
-    (λ named. (named ≡ fault_at (Dev device.number) count) × Rose device.faults count)
+-- Why a flush of a device ended so: its count and which call failed last stand, or it is named with its count, which rose, and
+-- failed last.
+abbrev pub HasFlushFault : DeviceSeen → ℕ → Option DeviceCall → Option FaultAt → Type 0
+HasFlushFault device count call None = (count ≡ device.faults) × (call ≡ device.failed_call)
+HasFlushFault device count call (Some named) =
+    (named ≡ fault_at (Dev device.number) count) × Rose device.faults count
+    × FailedLast calls.Flush call
 
 -- whether a device is flushed afterwards: it is where the flush was answered
 abbrev pub flushed_by : Option FaultAt → Option Bool → Option Bool
@@ -36,14 +42,15 @@ pub record IsBack (t : RunTable) (device : DeviceSeen) (old new : StoreSeen)
     (fault : Option FaultAt) : Type 0 where
   pub name : List ℕ
   pub count : ℕ
+  pub call : Option DeviceCall
   pub named : filename_of t device.node ≡ Some name
   pub tells : is_some device.content ≡ true → is_some device.is_flushed ≡ true
-  pub cause : HasFlushFault device count fault
+  pub cause : HasFlushFault device count call fault
   pub least : device.faults ≤ count
   pub kept : new ≡ record old {
     files = files_with_returned name device.content device.capacity
         (flushed_by fault device.is_flushed) old.files;
-    opened = given_back name count old.opened;
+    opened = given_back name count call old.opened;
   }
 
 abbrev pub earlier_fault : Option FaultAt → Option FaultAt → Option FaultAt
@@ -59,17 +66,21 @@ AreBack t (device ∷ devices) old new fault = (between : StoreSeen) × (first l
 
 -- what the run sees of the world's store
 abbrev pub store_in : WorldSeen → StoreSeen
-store_in w = seen_store w.files w.opened w.room w.faults
+store_in w = seen_store w.files w.opened w.room w.faults w.failed_call
 
 -- how many faults a device had when it was given back
 abbrev pub count_back : Opened → ℕ
 count_back o = unwrap_or o.returned 0
 
+-- it was given back with this count, and a flush failed last
+abbrev pub IsBackAfterFlush : ℕ → Opened → Type 0
+IsBackAfterFlush count o = (o.returned ≡ Some count) × FailedLast calls.Flush o.failed_call
+
 -- the fault that is told is that of a device, which had so many then
 pub record IsToldBack (w : WorldSeen) (opened : List Opened) (fault : FaultAt) : Type 0 where
   pub number : DevNo
   pub from : fault.from ≡ Dev number
-  pub count : With (slice_get opened number.0) (λ o. o.returned ≡ Some fault.count)
+  pub count : With (slice_get opened number.0) (IsBackAfterFlush fault.count)
   pub rose : With (slice_get (counts_now w).devices number.0) (λ before. Rose before fault.count)
 
 -- the run's openings once each device is back: all else stands as it was opened, and no count has fallen

@@ -9,6 +9,7 @@ use Rattle.blk_base.specs.declared.device.DeviceCall.{DeviceCall}
 use Rattle.blk_base.specs.declared.fault.DevNo.{DevNo}
 use Rattle.blk_base.specs.declared.fault.FaultFrom.TheVariants.{Store, Dev}
 use Rattle.blk_base.specs.declared.file.Opened.{Opened}
+use Rattle.blk_base.specs.declared.store.StoreCall.TheVariants as calls
 use Rattle.q2_format.specs.declared.header.Header.{Header}
 use Rattle.q2_image.specs.Image.{Known}
 use Rattle.q2_image.specs.declared.stop.ImageStop.{ImageStop}
@@ -81,6 +82,7 @@ opening_of name device = record {
   capacity = device.capacity;
   faults = device.faults;
   returned = None;
+  failed_call = device.failed_call;
 }
 
 -- the device of that file is out, under the next number
@@ -102,7 +104,8 @@ pub record HasOpeningFailed (old new : StoreInRun) (name : List ℕ) (why : Refu
   pub rose : Rose old.faults new.faults
   pub faults : old.faults ≤ new.faults
   pub fits : new.faults ≤ 18446744073709551615
-  pub kept : new ≡ record old { faults = new.faults }
+  pub call : IfTold new.failed_call (λ last. last ≡ record { name = name; call = calls.Open })
+  pub kept : new ≡ record old { faults = new.faults; failed_call = new.failed_call }
 
 abbrev pub IsFileUnopened : StoreInRun → StoreInRun → List ℕ → Refusal → Type 0
 IsFileUnopened old new name why = IsAbsent old new name why ⊎ HasOpeningFailed old new name why
@@ -264,7 +267,7 @@ Looks t c at old new out image told =
 abbrev pub put_back : List ℕ → Taken → StoreInRun → StoreInRun
 put_back filename device store = record store {
   files = files_with_returned filename device.content device.capacity device.is_flushed store.files;
-  opened = given_back filename device.faults store.opened;
+  opened = given_back filename device.faults device.failed_call store.opened;
 }
 
 -- The file was opened and is back, and no call of its device failed or wrote; or it wasn't opened.

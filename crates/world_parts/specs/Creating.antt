@@ -2,9 +2,10 @@
 use Rattle.std.specs.Prelude.{◌≡◌, ◌≢◌, ℕ, ◌≤◌, replicate, true, IsTrue, List, Some, None, option_map, Result, Ok, Err}
 use Rattle.std.specs.Option.{ForSome}
 use Rattle.blk_base.specs.Counts.{Rose}
-use Rattle.blk_base.specs.Files.{put_file, is_out}
+use Rattle.blk_base.specs.Files.{put_file, is_out, IfTold}
 use Rattle.blk_base.specs.Stored.{LeavesOthers}
 use Rattle.blk_base.specs.declared.fault.FaultFrom.TheVariants.{Store, Dev}
+use Rattle.blk_base.specs.declared.store.StoreCall.TheVariants as calls
 use Rattle.blk_graph.specs.Judged.{first_parent}
 use Rattle.q2_format.specs.Created.{Creation, creation_of, IsNewName}
 use Rattle.q2_format.specs.declared.header.TheConstants.{MAX_DISK_SIZE}
@@ -43,17 +44,24 @@ with_zeroed_file name size store = record store {
       })) store.files;
 }
 
--- the store failed and has this count: the file may hold anything
-pub record HasMakingFailed (name : List ℕ) (old new : StoreSeen) (cause : Refusal) : Type 0 where
+-- the store failed to make a file of so many zeros, and has this count: the file may hold anything
+pub record HasMakingFailed (name : List ℕ) (size : ℕ) (old new : StoreSeen)
+    (cause : Refusal) : Type 0 where
   pub names : cause ≡ refusal.Io Store new.faults
   pub rose : Rose old.faults new.faults
   pub others : LeavesOthers name old.files new.files
-  pub kept : new ≡ record old { files = new.files; faults = new.faults }
+  pub call : IfTold new.failed_call
+      (λ last. last ≡ record { name = name; call = calls.Create size })
+  pub kept : new ≡ record old {
+    files = new.files;
+    faults = new.faults;
+    failed_call = new.failed_call;
+  }
 
 -- why no file was made
-abbrev pub IsUnmade : List ℕ → StoreSeen → StoreSeen → PrepareStop → Type 0
-IsUnmade name old new (Refused cause) = HasMakingFailed name old new cause
-IsUnmade name old new NoMemory = new ≡ old
+abbrev pub IsUnmade : List ℕ → ℕ → StoreSeen → StoreSeen → PrepareStop → Type 0
+IsUnmade name size old new (Refused cause) = HasMakingFailed name size old new cause
+IsUnmade name size old new NoMemory = new ≡ old
 
 -- ---- images
 
@@ -115,7 +123,8 @@ pub record HasFormatFailed (node : ℕ) (old now : Ground) (image : Creation)
 
 abbrev pub IsFailed : RunTable → Created (List ℕ) → Ground → Ground → Refusal → Type 0
 IsFailed t (created.File c) old now cause =
-    (now.nodes ≡ old.nodes) × HasMakingFailed c.filename old.store now.store cause
+    (now.nodes ≡ old.nodes)
+    × HasMakingFailed c.filename (amount_or 0 (Some c.size)) old.store now.store cause
 IsFailed t (created.Qcow2 c) old now cause =
     HasFormatFailed (id_or 0 t (Some c.file)) old now (creation_for c) cause
 IsFailed t created.Unknown old now cause = ⊥

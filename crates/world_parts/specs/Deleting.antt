@@ -2,6 +2,7 @@
 use Rattle.std.specs.Prelude.{◌≡◌, ℕ, true, List, [], ◌∷◌, IsTrue, Contains, find, Option, Some, None, is_some, option_map, unwrap_or}
 use Rattle.blk_base.specs.Files.{given_back, is_out}
 use Rattle.blk_base.specs.Stored.{files_with_returned}
+use Rattle.blk_base.specs.declared.file.CallOnFile.{CallOnFile}
 use Rattle.blk_base.specs.declared.file.File.{File}
 use Rattle.blk_base.specs.declared.file.Opened.{Opened}
 use Rattle.blk_graph.specs.declared.edge.Edge.{Edge}
@@ -38,7 +39,7 @@ abbrev pub with_back : List ℕ → Option DeviceSeen → StoreSeen → StoreSee
 with_back name None store = store
 with_back name (Some device) store = record store {
   files = files_with_returned name device.content device.capacity device.is_flushed store.files;
-  opened = given_back name device.faults store.opened;
+  opened = given_back name device.faults device.failed_call store.opened;
 }
 
 -- ---- a store, and the nodes over its files
@@ -47,9 +48,9 @@ pub record Ground : Type 0 where
   pub store : StoreSeen
   pub nodes : Nodes
 
-abbrev pub ground : Option (List File) → List Opened → ℕ → ℕ → Nodes → Ground
-ground files opened room faults nodes = record {
-  store = seen_store files opened room faults;
+abbrev pub ground : Option (List File) → List Opened → ℕ → ℕ → Option CallOnFile → Nodes → Ground
+ground files opened room faults failed_call nodes = record {
+  store = seen_store files opened room faults failed_call;
   nodes = nodes;
 }
 
@@ -90,7 +91,7 @@ HaveLeft t x (node ∷ nodes) = HasLeft x node × HaveLeft t (left t node x) nod
 -- ---- a world
 
 abbrev pub ground_of : WorldSeen → Ground
-ground_of w = ground w.files w.opened w.room w.faults w.nodes
+ground_of w = ground w.files w.opened w.room w.faults w.failed_call w.nodes
 
 -- a node goes, from the table too
 abbrev pub after_deletion : ℕ → WorldSeen → WorldSeen

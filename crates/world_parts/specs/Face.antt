@@ -1,5 +1,6 @@
 -- What contracts see of the world.
 use Rattle.std.specs.Prelude.{ℕ, ◌+◌, ◌==◌, List, [], ◌∷◌, map, find, Option, Some, None, option_and_then, option_map, unwrap_or}
+use Rattle.blk_base.specs.declared.file.CallOnFile.{CallOnFile}
 use Rattle.blk_base.specs.declared.file.File.{File}
 use Rattle.blk_base.specs.declared.file.Opened.{Opened}
 use Rattle.blk_bitmaps.specs.declared.row.Bitmap.{Bitmap}
@@ -17,7 +18,7 @@ use Rattle.world_parts.specs.Progress.{Progress, ended_in}
 use Rattle.world_parts.specs.Stores.{StoreInRun}
 
 -- The store: its files where it tells them, the openings before the run and those of the run, the capacity of files that are
--- made, its count of faults now and when the world was made. Then the nodes with their devices, the table of names, the guests
+-- made, its count of faults now, which call failed last, and the count when the world was made. Then the nodes with their devices, the table of names, the guests
 -- and the history, the disks that are drained, and the dirty bitmaps. A device's number is the place of its opening among
 -- those of the run.
 pub record WorldSeen : Type 0 where
@@ -26,6 +27,7 @@ pub record WorldSeen : Type 0 where
   pub opened : List Opened
   pub room : ℕ
   pub faults : ℕ
+  pub failed_call : Option CallOnFile
   pub first_faults : ℕ
   pub nodes : Nodes
   pub table : RunTable
@@ -42,6 +44,7 @@ face_of store first_faults nodes table progress drains bitmaps = record {
   opened = store.opened;
   room = store.room;
   faults = store.faults;
+  failed_call = store.failed_call;
   first_faults = first_faults;
   nodes = nodes;
   table = table;

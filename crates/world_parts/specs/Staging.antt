@@ -32,6 +32,7 @@ store_of w = record {
   opened = w.opened;
   room = w.room;
   faults = w.faults;
+  failed_call = w.failed_call;
 }
 
 abbrev pub site_of : WorldSeen → Site

@@ -1,5 +1,6 @@
 -- What each event leaves of the world, and when each of its answers comes.
 use Rattle.std.specs.Prelude.{◌≡◌, ℕ, zero, suc, Bool, true, false, List, [], length, slice_get, Option, Some, None, IsSome, is_some}
+use Rattle.blk_base.specs.declared.file.CallOnFile.{CallOnFile}
 use Rattle.blk_base.specs.declared.file.File.{File}
 use Rattle.blk_base.specs.declared.file.Opened.{Opened}
 use Rattle.blk_base.specs.declared.memory.Room.{Room}
@@ -27,18 +28,21 @@ pub record StoreSeen : Type 0 where
   pub opened : List Opened
   pub room : ℕ
   pub faults : ℕ
+  pub failed_call : Option CallOnFile
 
-abbrev pub seen_store : Option (List File) → List Opened → ℕ → ℕ → StoreSeen
-seen_store files opened room faults = record {
+abbrev pub seen_store : Option (List File) → List Opened → ℕ → ℕ → Option CallOnFile → StoreSeen
+seen_store files opened room faults failed_call = record {
   files = files;
   opened = opened;
   room = room;
   faults = faults;
+  failed_call = failed_call;
 }
 
 -- the same of a store in a run, with the run's openings alone
 abbrev pub seen_in_run : StoreInRun → StoreSeen
-seen_in_run store = seen_store store.files store.opened store.room store.faults
+seen_in_run store =
+    seen_store store.files store.opened store.room store.faults store.failed_call
 
 -- a new world: no node is there, nothing has been opened, and no guest has asked for anything
 abbrev pub new_world : StoreSeen → List (List ℕ) → Room → WorldSeen
@@ -48,6 +52,7 @@ new_world store guests room = record {
   opened = [];
   room = store.room;
   faults = store.faults;
+  failed_call = store.failed_call;
   first_faults = store.faults;
   nodes = no_nodes;
   table = opening_table guests;

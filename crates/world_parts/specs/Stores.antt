@@ -3,19 +3,21 @@ use Rattle.std.specs.Prelude.{◌≡◌, ℕ, ◌-◌, ◌≤◌, false, IsTrue,
 use Rattle.blk_base.specs.Answers.{HasFile, IsIn, LacksFile}
 use Rattle.blk_base.specs.Counts.{Rose}
 use Rattle.blk_base.specs.Files.{IfTold, is_out}
+use Rattle.blk_base.specs.declared.file.CallOnFile.{CallOnFile}
 use Rattle.blk_base.specs.declared.file.File.{File}
 use Rattle.blk_base.specs.declared.file.Opened.{Opened}
 use Rattle.blk_base.specs.declared.store.StoreStop.{StoreStop}
 use Rattle.blk_base.specs.declared.store.StoreStop.TheVariants.{Absent, InUse, TooLong, Failed, NoMemory}
 
--- its files where it tells them, the openings before the run and those of the run, the capacity of files that are made, and
--- its count of faults
+-- its files where it tells them, the openings before the run and those of the run, the capacity of files that are made, its
+-- count of faults, and which call failed last where it tells that
 pub record StoreInRun : Type 0 where
   pub files : Option (List File)
   pub earlier : List Opened
   pub opened : List Opened
   pub room : ℕ
   pub faults : ℕ
+  pub failed_call : Option CallOnFile
 
 -- the last so many openings, and those before them
 abbrev pub last_opened : ℕ → List Opened → List Opened
@@ -30,9 +32,16 @@ pub record AreLast (n : ℕ) (opened : List Opened) : Type 0 where
   pub back : (name : List ℕ) → is_out name (first_opened n opened) ≡ false
 
 -- a store that is found before a run: none of its openings is the run's
-abbrev pub found_store : Option (List File) → List Opened → ℕ → ℕ → StoreInRun
-found_store files opened room faults =
-    record { files = files; earlier = opened; opened = []; room = room; faults = faults }
+abbrev pub found_store : Option (List File) → List Opened → ℕ → ℕ → Option CallOnFile
+    → StoreInRun
+found_store files opened room faults failed_call = record {
+  files = files;
+  earlier = opened;
+  opened = [];
+  room = room;
+  faults = faults;
+  failed_call = failed_call;
+}
 
 -- ---- why a file is opened or not
 
