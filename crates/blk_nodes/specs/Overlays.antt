@@ -10,15 +10,15 @@ use Rattle.blk_graph.specs.Permissions.{node_edge}
 use Rattle.blk_graph.specs.declared.edge.Edge.{Edge}
 use Rattle.blk_graph.specs.declared.edge.Role.TheVariants as roles
 use Rattle.blk_graph.specs.declared.kind.Kind.TheVariants as kinds
-use Rattle.q2_format.specs.Header.{IsWithinLimits}
 use Rattle.q2_format.specs.References.{reach_of}
 use Rattle.q2_format.specs.Sound.{image_refusal}
 use Rattle.q2_format.specs.declared.header.HeaderStop.TheVariants.{Short}
 use Rattle.q2_format.specs.declared.header.TheConstants.{MIN_HEADER_LENGTH}
 use Rattle.q2_format.specs.declared.entries.L2Entry.TheVariants as entries
 use Rattle.q2_image.specs.Image.{Known, IsImageOf, IsOpen, clusters_in, entry_in}
-use Rattle.q2_image.specs.Opening.{Names, fault_in_image}
+use Rattle.q2_image.specs.Opening.{IsRefusalFor, Names, fault_in_image}
 use Rattle.q2_image.specs.OpeningCalls.{IsOpeningCall}
+use Rattle.q2_image.specs.Placed.{IsPlacedIn}
 use Rattle.q2_image.specs.declared.stop.ImageStop.{ImageStop}
 use Rattle.q2_image.specs.declared.stop.ImageStop.TheVariants as images
 use Rattle.blk_nodes.specs.Adding.{with_node_row, file_edge, kind_with, IsDenied, IsAllowed}
@@ -92,12 +92,13 @@ pub record IsOpenedOn (device : DeviceSeen) (image : Known) : Type 0 where
   pub known : (bytes : List ℕ) → device.content ≡ Some bytes → IsImageOf bytes image
   pub reach : length image.refs.counts ≡ reach_of image.header device.size
   pub long : MIN_HEADER_LENGTH ≤ device.size
-  pub limits : IsWithinLimits image.header device.size
+  pub placed : IsPlacedIn device.size image
 
 -- why it isn't opened: one that is too short for a header, for that
 pub record IsUnopenedOn (old new : DeviceSeen) (stop : ImageStop) : Type 0 where
   pub named : (bytes : List ℕ) → old.content ≡ Some bytes → Names (image_refusal bytes) stop
   pub short : old.size < MIN_HEADER_LENGTH → stop ≡ images.Header Short
+  pub refusal : IsRefusalFor stop old.size
   pub cause : CountsFault (fault_in_image stop) old.faults new.faults
   pub call : FailsReading (fault_in_image stop) old.failed_call new.failed_call
   pub which : FailsAt (IsOpeningCall old.size old.content) (fault_in_image stop) new.failed_call

@@ -6,6 +6,7 @@ pub mod OpeningCalls
 pub mod Guest
 pub mod Merge
 pub mod Image
+pub mod Placed
 pub mod Reading
 pub mod Writing
 pub mod Room

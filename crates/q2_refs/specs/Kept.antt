@@ -1,5 +1,5 @@
 -- What is kept in memory of an image's refcounts, and of which file it is.
-use Rattle.std.specs.Prelude.{◌≡◌, ◌≢◌, ℕ, ◌*◌, ◌%◌, ◌^◌, ◌<◌, ◌≤◌, List, length, slice_index}
+use Rattle.std.specs.Prelude.{◌≡◌, ◌≢◌, ℕ, ◌*◌, ◌/◌, ◌%◌, ◌^◌, ◌<◌, ◌≤◌, List, length, slice_index}
 use Rattle.q2_format.specs.Sizes.{cluster_size, block_entries}
 use Rattle.q2_format.specs.Entry.{block_offset}
 use Rattle.q2_format.specs.Tables.{refcount_table, refcount_of}
@@ -36,6 +36,12 @@ AreWholeClusters c table = (i : ℕ) → i < length table → block_offset (slic
 -- and begins below the end of a file of `len` bytes
 abbrev pub BeginBelow : ℕ → List ℕ → Type 0
 BeginBelow len table = (i : ℕ) → i < length table → block_offset (slice_index table i) < len
+
+-- a cluster whose block is absent counts 0
+abbrev pub AreAbsentFree : KeptRefs → Type 0
+AreAbsentFree kept = (k : ℕ) → k < length kept.counts
+    → block_offset (slice_index kept.table (k / per_block kept)) ≡ 0
+    → slice_index kept.counts k ≡ 0
 
 -- each of the first counts, below a number, is above 0
 abbrev pub AreTaken : List ℕ → ℕ → Type 0

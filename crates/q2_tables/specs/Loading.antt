@@ -1,5 +1,5 @@
 -- What loading refuses, and what it keeps.
-use Rattle.std.specs.Prelude.{◌≡◌, ◌≢◌, ◌⊎◌, ℕ, ◌*◌, ◌<◌, true, false, List, [], ◌∷◌, length, slice_index, Option, None, Some, Result, Ok, Err}
+use Rattle.std.specs.Prelude.{◌≡◌, ◌≢◌, ◌⊎◌, ℕ, ◌*◌, ◌/◌, ◌<◌, true, false, List, [], ◌∷◌, length, slice_index, Option, None, Some, Result, Ok, Err}
 use Rattle.std.specs.Option.{option_map}
 use Rattle.blk_base.specs.Files.{IfTold}
 use Rattle.blk_base.specs.declared.device.DeviceCall.{DeviceCall}
@@ -66,6 +66,10 @@ pub record IsLoaded (h : Header) (len : ℕ) (kept : KeptTables) : Type 0 where
       → is_misplaced kept.c len (host_offset (slice_index kept.l1 i)) ≡ false
   pub hosts : (cluster : ℕ) → cluster < length kept.words
       → is_misplaced kept.c len (own_offset (slice_index kept.words cluster)) ≡ false
+  -- a cluster without an L2 table has no word
+  pub unnamed : (cluster : ℕ) → cluster < length kept.words
+      → host_offset (slice_index kept.l1 (cluster / entries_in_cluster kept.c)) ≡ 0
+      → slice_index kept.words cluster ≡ 0
   pub unreserved : (i : ℕ) → i < length kept.l1 → has_reserved_in_l1 (slice_index kept.l1 i) ≡ false
   pub plain : (cluster : ℕ) → cluster < length kept.words
       → is_plain (slice_index kept.words cluster) ≡ true

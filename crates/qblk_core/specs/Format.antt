@@ -2,8 +2,9 @@
 use Rattle.std.specs.Prelude.{◌≡◌, ℕ, ◌≤◌, ⊤, List, [], length, None}
 use Rattle.q2_format.specs.Header.{header_of}
 use Rattle.q2_format.specs.Contents.{image_disk}
+use Rattle.q2_format.specs.Sizes.{cluster_size, clusters_for}
 use Rattle.q2_format.specs.Sound.{IsSound}
-use Rattle.q2_format.specs.declared.header.TheConstants.{MAX_DISK_SIZE, MIN_HEADER_LENGTH}
+use Rattle.q2_format.specs.declared.header.TheConstants.{MAX_DISK_SIZE, MAX_FILE_CLUSTERS, MIN_HEADER_LENGTH}
 use Rattle.qblk_core.specs.declared.words.Format.{Format}
 use Rattle.qblk_core.specs.declared.words.Format.TheVariants.{Raw, Qcow2}
 
@@ -17,10 +18,12 @@ abbrev pub IsGoodImage : Format → List ℕ → Type 0
 IsGoodImage Raw bytes = length bytes ≤ MAX_DISK_SIZE
 IsGoodImage Qcow2 bytes = IsSound bytes × ((header_of bytes).name ≡ None)
 
--- what the length of a file must be, that it can be opened: a raw image isn't too large, and a qcow2 image no shorter than a header
+-- What the length of a file must be, that it can be opened: a raw image isn't too large, and a qcow2 image has the length of a header
+-- and no more clusters than are supported.
 abbrev pub HasGoodLength : Format → ℕ → Type 0
 HasGoodLength Raw size = size ≤ MAX_DISK_SIZE
-HasGoodLength Qcow2 size = MIN_HEADER_LENGTH ≤ size
+HasGoodLength Qcow2 size =
+    (MIN_HEADER_LENGTH ≤ size) × (clusters_for (cluster_size 16) size ≤ MAX_FILE_CLUSTERS)
 
 -- what is left of it after a run: a sound image stays sound, and names no backing file
 abbrev pub IsSoundAs : Format → List ℕ → Type 0

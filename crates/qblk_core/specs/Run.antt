@@ -25,7 +25,7 @@ use Rattle.q2_format.specs.Header.{header_of}
 use Rattle.q2_format.specs.Sound.{IsSound, image_refusal}
 use Rattle.q2_format.specs.declared.header.HeaderStop.TheVariants as headers
 use Rattle.q2_format.specs.declared.header.TheConstants.{MAX_DISK_SIZE, MIN_HEADER_LENGTH}
-use Rattle.q2_image.specs.Opening.{refusal_of}
+use Rattle.q2_image.specs.Opening.{IsRefusalFor, refusal_of}
 use Rattle.q2_image.specs.OpeningCalls.{IsOpeningCall}
 use Rattle.q2_image.specs.declared.stop.ImageStop.TheVariants as images
 use Rattle.qblk_core.specs.Format.{disk_by_format, HasGoodLength, IsGoodImage, IsSoundAs}
@@ -35,7 +35,7 @@ use Rattle.blk_base.specs.declared.fault.Outcome.{Outcome}
 use Rattle.blk_base.specs.Outcomes.{is_good}
 use Rattle.blk_nodes.specs.Nodes.{Nodes, DeviceSeen}
 use Rattle.blk_nodes.specs.Reading.{HasRisen, StoppedBy}
-use Rattle.qblk_inputs.specs.Inputs.{IsTraceFlaw, most_text}
+use Rattle.qblk_inputs.specs.Inputs.{most_text}
 use Rattle.qblk_inputs.specs.Reading.{OnFile, FailsOn, input_read}
 use Rattle.qblk_inputs.specs.declared.stop.InputFlaw.{InputFlaw}
 use Rattle.qblk_inputs.specs.declared.stop.InputFlaw.TheVariants as flaws
@@ -43,6 +43,8 @@ use Rattle.qblk_core.specs.Along.{CountsOutcome, HaveNodes, GoesInTurn}
 use Rattle.qblk_core.specs.Face.{state_with, new_io_guest, machine_on}
 use Rattle.qblk_core.specs.ImageNodes.{AreMadeOf, device_faults, only_device}
 use Rattle.blk_pieces.specs.Pieces.{FlushesPart}
+use Rattle.qblk_core.specs.declared.input.TraceRead.{TraceRead}
+use Rattle.qblk_core.specs.declared.input.TraceRead.TheVariants as reads
 use Rattle.qblk_core.specs.declared.status.InputWhy.{InputWhy}
 use Rattle.qblk_core.specs.declared.status.InputWhy.TheVariants.{Absent, NotUtf8, TooLong, BadLine, TooMany, TooLarge, NeedsBacking, Image}
 use Rattle.qblk_core.specs.declared.status.Status.{Status}
@@ -157,11 +159,13 @@ pub record IsIoRun (format : Format) (image : List ℕ) (ops : List Op) (flushed
 abbrev pub HasImage : Format → List ℕ → List File → Type 0
 HasImage format image files = HasFile image (λ f. IsGoodImage format f.bytes) files
 
--- the trace is there, and asks for this
+-- the bytes of a trace that asks for this
+abbrev pub AskFor : List Op → List ℕ → Type 0
+AskFor ops bytes = (length bytes ≤ most_text) × IsUtf8 bytes × (ops_of bytes ≡ Ok ops)
+
+-- the trace is there, and asks for it
 abbrev pub HasTrace : List ℕ → List Op → List File → Type 0
-HasTrace trace ops files =
-    HasFile trace
-    (λ f. (length f.bytes ≤ most_text) × IsUtf8 f.bytes × (ops_of f.bytes ≡ Ok ops)) files
+HasTrace trace ops files = HasFile trace (λ f. AskFor ops f.bytes) files
 
 -- why a trace's bytes are refused, and at which line
 abbrev pub IsFlawInTrace : InputWhy → ℕ → List ℕ → Type 0
@@ -215,16 +219,23 @@ IsImageCause Qcow2 NeedsBacking = ⊤
 IsImageCause Qcow2 (Image stop) = IsSome (refusal_of stop)
 IsImageCause format why = ⊥
 
-abbrev pub IsTraceCause : InputWhy → ℕ → Type 0
-IsTraceCause why line = (flaw : InputFlaw) × (why ≡ why_of flaw) × IsTraceFlaw flaw line
+-- why what was read of a trace is refused
+abbrev pub IsRefusedRead : TraceRead → InputWhy → ℕ → Type 0
+IsRefusedRead (reads.Whole bytes) why line = IsFlawInTrace why line bytes
+IsRefusedRead reads.Absent why line = (line ≡ 0) × (why ≡ Absent)
+IsRefusedRead reads.TooLong why line = (line ≡ 0) × (why ≡ TooLong)
 
--- How long an image is that is refused so: too large, or long enough for a header. One that is refused as short for a header may
--- also have a header that is longer than it.
+abbrev pub IsTraceCause : InputWhy → ℕ → Type 0
+IsTraceCause why line = (read : TraceRead) × IsRefusedRead read why line
+
+-- How long an image is that is refused so: too large; or of qcow2, as long as some bytes that are refused so, and long enough for
+-- a header. One that is refused as short for a header may also have a header that is longer than it.
 abbrev pub HasLengthFor : InputWhy → ℕ → Type 0
 HasLengthFor TooLarge size = MAX_DISK_SIZE < size
-HasLengthFor NeedsBacking size = MIN_HEADER_LENGTH ≤ size
-HasLengthFor (Image (images.Header headers.Short)) size = ⊤
-HasLengthFor (Image stop) size = MIN_HEADER_LENGTH ≤ size
+HasLengthFor NeedsBacking size = HasGoodLength Qcow2 size
+HasLengthFor (Image (images.Header headers.Short)) size =
+    IsRefusalFor (images.Header headers.Short) size
+HasLengthFor (Image stop) size = (MIN_HEADER_LENGTH ≤ size) × IsRefusalFor stop size
 HasLengthFor why size = ⊤
 
 -- the image's device was opened so and is back, and no call of it failed
@@ -265,6 +276,8 @@ NothingDone image old new = NothingWrittenIo old new
 -- the requests were made, and of the transcript the first n bytes went out
 pub record WasIoRun (format : Format) (image trace : List ℕ) (flushed : Bool) (old new : Outside)
     (ops : List Op) (h : List Event) (before now n : ℕ) : Type 0 where
+  -- whatever the files tell, these are the requests of a trace
+  pub asked : (bytes : List ℕ) × AskFor ops bytes
   pub inputs : IfTold old.files (λ files. HasImage format image files × HasTrace trace ops files)
   pub run : IsIoRun format image ops flushed old new h before now
   pub sent : new.sent ≡ option_map (λ s. s ++ take n (transcript guest_names h)) old.sent
@@ -330,8 +343,14 @@ SinkStands (Fault Sink count) before now = Unit {0}
 SinkStands (Fault (Dev dev) count) before now = Unit {0}
 SinkStands status before now = now ≡ before
 
+-- which call of the store failed last stands, but where the status names it
+abbrev pub CallStands : Status → Option CallOnFile → Option CallOnFile → Type 0
+CallStands (Fault Store count) before now = Unit {0}
+CallStands status before now = now ≡ before
+
 -- no fault of the store or the sink goes untold
 pub record TellsFaults (old new : Outside) (status : Status) : Type 0 where
+  pub call : CallStands status old.failed_call new.failed_call
   pub store : StoreStands status old.store_faults new.store_faults
   pub sink : SinkStands status old.sink_faults new.sink_faults
 

@@ -26,7 +26,7 @@ use Rattle.qblk_core.specs.ImageNodes.{AreMadeOf, HaveOneImage}
 use Rattle.blk_pieces.specs.Pieces.{FlushesPart}
 use Rattle.qblk_core.specs.declared.words.Format.{Format}
 use Rattle.qblk_core.specs.declared.words.Format.TheVariants.{Qcow2}
-use Rattle.qblk_core.specs.Run.{machine_of, HasLengthFor, IsFlawInTrace, IsBadBytes, IsImageCause}
+use Rattle.qblk_core.specs.Run.{AskFor, machine_of, HasLengthFor, IsRefusedRead, IsBadBytes, IsImageCause}
 use Rattle.qblk_core.specs.Output.{SendsFront}
 use Rattle.qblk_core.specs.declared.input.TraceRead.{TraceRead}
 use Rattle.qblk_core.specs.declared.input.TraceRead.TheVariants as reads
@@ -99,20 +99,13 @@ pub record AreRequestsMade (format : Format) (trace : List ℕ) (before now : De
   pub flush : Outcome
   pub made : AreMadeOf format before first
   pub good : TellsGoodImage format first before.content
-  pub text : IsUtf8 trace
-  pub ops : ops_of trace ≡ Ok (asked_by 0 w.log.events)
+  pub asked : AskFor (asked_by 0 w.log.events) trace
   pub comes : ComesFrom first w
   pub idle : w.guest.flight ≡ None
   pub one : HaveOneImage w.nodes
   pub closed : AreNodesClosed w.nodes last flush now fault
   pub tells : (bytes : List ℕ) → now.content ≡ Some bytes → is_some now.is_flushed ≡ true
   pub sized : (bytes : List ℕ) → now.content ≡ Some bytes → now.size ≡ length bytes
-
--- why what was read of a trace is refused
-abbrev pub IsRefusedRead : TraceRead → InputWhy → ℕ → Type 0
-IsRefusedRead (reads.Whole bytes) why line = IsFlawInTrace why line bytes
-IsRefusedRead reads.Absent why line = (line ≡ 0) × (why ≡ Absent)
-IsRefusedRead reads.TooLong why line = (line ≡ 0) × (why ≡ TooLong)
 
 -- the trace is refused, or memory wasn't had
 abbrev pub IsTraceStop : List ℕ → TraceRead → Status → Type 0

@@ -53,6 +53,19 @@ pub record HasWork (cast : Cast) (work : Work) (files : List File) : Type 0 wher
   pub script : HasFile cast.script (λ f. IsScript (guests_of cast) work.script f.bytes) files
   pub traces : HasTraces nothing cast.players work.traces files
 
+-- texts that say this, one for each guest, each counted behind those before it
+abbrev pub AreTraces : Amounts → List Player → List (List Wish) → Type 0
+AreTraces before [] [] = Unit {0}
+AreTraces before (p ∷ players) (wishes ∷ traces) =
+    (bytes : List ℕ) × (asked : Amounts) × ReadsAsTrace before wishes asked bytes
+    × AreTraces asked players traces
+AreTraces before _ _ = ⊥
+
+-- whatever files tell, this is what some script and traces say
+pub record IsWork (cast : Cast) (work : Work) : Type 0 where
+  pub script : (bytes : List ℕ) × IsScript (guests_of cast) work.script bytes
+  pub traces : AreTraces nothing cast.players work.traces
+
 -- ---- inputs that are refused
 
 -- why a file's bytes are no text, or not read: a line is none that a trace may have, or passes a count
@@ -109,13 +122,12 @@ IsScriptFlaw TooLong line = line ≡ 0
 IsScriptFlaw BadLine line = ⊥
 IsScriptFlaw TooMany line = line ≡ 4097
 
--- those that a trace may have
+-- those that a trace may have: some text has such a line, behind traces that ask for so much
 abbrev pub IsTraceFlaw : InputFlaw → ℕ → Type 0
 IsTraceFlaw Absent line = line ≡ 0
 IsTraceFlaw NotUtf8 line = line ≡ 0
 IsTraceFlaw TooLong line = line ≡ 0
-IsTraceFlaw BadLine line = 0 < line
-IsTraceFlaw TooMany line = 0 < line
+IsTraceFlaw why line = (before : Amounts) × (bytes : List ℕ) × IsBadTrace before why line bytes
 
 -- it speaks of one of the traces, with a flaw of a trace
 abbrev pub SpeaksOfTrace : List Player → List ℕ → ℕ → InputFlaw → Type 0

@@ -33,7 +33,7 @@ use Rattle.world_commands.specs.Counting.{HaveNotFallen}
 use Rattle.world_parts.specs.Face.{WorldSeen, counts_now}
 use Rattle.world_parts.specs.Steps.{StoreSeen, IsOpeningOf, new_world, seen_store}
 use Rattle.world_commands.specs.Tabling.{IsTableAfter}
-use Rattle.qblk_inputs.specs.Inputs.{Work, HasWork, IsRefusedInput, SpeaksOfCast}
+use Rattle.qblk_inputs.specs.Inputs.{Work, HasWork, IsWork, IsRefusedInput, SpeaksOfCast}
 use Rattle.qblk_inputs.specs.Reading.{FailsOn, OnInputs, input_read}
 use Rattle.qblk_inputs.specs.Room.{bytes_for_all, entries_for_all}
 use Rattle.qblk_inputs.specs.Words.{Cast, guests_of}
@@ -223,6 +223,7 @@ whole_transcript a = transcript_of a.opening a.events
 -- script and traces are what the words name, they were run, and of the transcript the first n bytes went out
 pub record WasRun (cast : Cast) (work : Work) (fault : Option FaultAt) (old new : Setting)
     (a : Account) (n : ℕ) : Type 0 where
+  pub asked : IsWork cast work
   pub inputs : IfTold old.store.files (HasWork cast work)
   pub run : IsRun cast work true fault old.store new.store a
   pub sent : new.sent ≡ option_map (λ s. s ++ take n (whole_transcript a)) old.sent
@@ -277,7 +278,7 @@ seen_waits (waits.Ended id) = waits.Ended id.bytes
 -- an input is refused: the script or a trace, for a flaw that it may have; and where files are told, the first that has one
 abbrev pub IsInputRefused : Cast → Setting → Setting → List ℕ → ℕ → InputWhy → Type 0
 IsInputRefused cast old new name line why =
-    NothingWritten old new × (new.store.faults ≡ old.store.faults)
+    NothingWritten old new × (new.store ≡ old.store)
     × ((flaw : InputFlaw) × (why ≡ why_of flaw) × SpeaksOfCast cast name line flaw
     × IfTold old.store.files (IsRefusedInput cast name line flaw))
 
@@ -286,7 +287,7 @@ abbrev pub IsUnsent : Cast → Setting → Setting → Type 0
 IsUnsent cast old new = (new.sent ≡ old.sent) × (new.sink_faults ≡ old.sink_faults)
     × ((new.store ≡ old.store)
     ⊎ ((work : Work) × (fault : Option FaultAt) × (a : Account)
-    × IfTold old.store.files (HasWork cast work)
+    × IsWork cast work × IfTold old.store.files (HasWork cast work)
     × IsRun cast work false fault old.store new.store a))
 
 -- why a run of these words ended so
