@@ -1,12 +1,13 @@
 -- Files and openings of a store, by the place of their name.
-use Rattle.std.proofs.Common.{◌≡◌, ℕ, zero, suc, ◌<◌, ◌≤◌, nat_lt, Bool, true, false, cond, List, [], ◌∷◌, ◌++◌, length, map, get_or, set, refl, sym, ◌∙◌, ap, arith, Some, None, IsTrue}
+use Rattle.std.proofs.Common.{◌≡◌, ℕ, zero, suc, ◌<◌, ◌≤◌, nat_lt, Bool, true, false, cond, List, [], ◌∷◌, ◌++◌, length, map, get_or, set, refl, sym, ◌∙◌, ap, arith, Option, Some, None, IsTrue}
 use Rattle.std.specs.Prelude.{bytes_eq, is_none, ◌||◌, ◌&&◌}
 use Rattle.std.specs.List.{position, position_or_len}
 use Rattle.std.proofs.lemmas.List.Quantifiers.{position-Some}
 use Rattle.std.proofs.lemmas.List.Sums.{fails_before_first}
 use Rattle.std.proofs.lemmas.Bool.Decides.{nat_tests}
 use Rattle.std.proofs.lemmas.Slice.Eq.{bytes_eq-Decides}
-use Rattle.blk_base.specs.Files.{file_at, put_file, is_out_as, is_out, given_back}
+use Rattle.blk_base.specs.Files.{file_at, put_file, is_out_as, is_out, closed_with, given_back}
+use Rattle.blk_base.specs.declared.device.DeviceCall.{DeviceCall}
 use Rattle.blk_base.specs.declared.file.File.{File}
 use Rattle.blk_base.specs.declared.file.Opened.{Opened}
 use Rattle.blk_fakes.specs.Disk.{DeviceState}
@@ -110,18 +111,18 @@ held_at name (f ∷ files) zero d is = rw is.passes refl
 held_at name (f ∷ files) (suc at) d is = rw (is.before 0 (omega arith)) (held_at name files at d (later _ f files at d is))
 
 -- the openings at their places
-pub back_found : (name : List ℕ) (count : ℕ) (opened : List Opened) (at : ℕ) (d : Opened) → IsFirst (is_out_as name) opened at d
-    → given_back name count opened ≡ set opened at (record (get_or opened at d) { returned = Some count })
-back_found name count [] at d is = absurd (omega (arith, is.within))
-back_found name count (o ∷ opened) zero d is = rw is.passes refl
-back_found name count (o ∷ opened) (suc at) d is = rw (is.before 0 (omega arith)) (ap (λ (os : List Opened). o ∷ os) (back_found name count opened at d (later _ o opened at d is)))
+pub back_found : (name : List ℕ) (count : ℕ) (call : Option DeviceCall) (opened : List Opened) (at : ℕ) (d : Opened) → IsFirst (is_out_as name) opened at d
+    → given_back name count call opened ≡ set opened at (closed_with count call (get_or opened at d))
+back_found name count call [] at d is = absurd (omega (arith, is.within))
+back_found name count call (o ∷ opened) zero d is = rw is.passes refl
+back_found name count call (o ∷ opened) (suc at) d is = rw (is.before 0 (omega arith)) (ap (λ (os : List Opened). o ∷ os) (back_found name count call opened at d (later _ o opened at d is)))
 
-back_none : (name : List ℕ) (count : ℕ) (opened : List Opened) → ((k : ℕ) (d : Opened) → k < length opened → is_out_as name (get_or opened k d) ≡ false) → given_back name count opened ≡ opened
-back_none name count [] none = refl
-back_none name count (o ∷ opened) none = rw (none 0 o (omega arith)) (ap (λ (os : List Opened). o ∷ os) (back_none name count opened (λ k d below. none (suc k) d (omega arith))))
+back_none : (name : List ℕ) (count : ℕ) (call : Option DeviceCall) (opened : List Opened) → ((k : ℕ) (d : Opened) → k < length opened → is_out_as name (get_or opened k d) ≡ false) → given_back name count call opened ≡ opened
+back_none name count call [] none = refl
+back_none name count call (o ∷ opened) none = rw (none 0 o (omega arith)) (ap (λ (os : List Opened). o ∷ os) (back_none name count call opened (λ k d below. none (suc k) d (omega arith))))
 
-pub back_missing : (name : List ℕ) (count : ℕ) (opened : List Opened) → position (is_out_as name) opened ≡ None → given_back name count opened ≡ opened
-back_missing name count opened is = back_none name count opened (λ k d below. nowhere (is_out_as name) opened d is k below)
+pub back_missing : (name : List ℕ) (count : ℕ) (call : Option DeviceCall) (opened : List Opened) → position (is_out_as name) opened ≡ None → given_back name count call opened ≡ opened
+back_missing name count call opened is = back_none name count call opened (λ k d below. nowhere (is_out_as name) opened d is k below)
 
 or_left : (a b : Bool) → IsTrue a → IsTrue (a || b)
 or_left true b is = refl
@@ -141,14 +142,14 @@ returned_in : (b : Bool) → IsTrue (b && false) → ⊥
 returned_in true is = cc is
 returned_in false is = cc is
 
-out_back_by : (q name : List ℕ) (count : ℕ) (o : Opened) (opened : List Opened) (b : Bool) → (IsTrue (is_out q (given_back name count opened)) → IsTrue (is_out q opened))
-    → IsTrue (is_out q (cond b (record o { returned = Some count } ∷ opened) (o ∷ given_back name count opened))) → IsTrue (is_out q (o ∷ opened))
-out_back_by q name count o opened true more out = out_or (bytes_eq q o.name && false) (is_out q opened) (is_out_as q o) (is_out q opened) out (λ h. absurd (returned_in (bytes_eq q o.name) h)) (λ h. h)
-out_back_by q name count o opened false more out = out_or (is_out_as q o) (is_out q (given_back name count opened)) (is_out_as q o) (is_out q opened) out (λ h. h) more
+out_back_by : (q name : List ℕ) (count : ℕ) (call : Option DeviceCall) (o : Opened) (opened : List Opened) (b : Bool) → (IsTrue (is_out q (given_back name count call opened)) → IsTrue (is_out q opened))
+    → IsTrue (is_out q (cond b (closed_with count call o ∷ opened) (o ∷ given_back name count call opened))) → IsTrue (is_out q (o ∷ opened))
+out_back_by q name count call o opened true more out = out_or (bytes_eq q o.name && false) (is_out q opened) (is_out_as q o) (is_out q opened) out (λ h. absurd (returned_in (bytes_eq q o.name) h)) (λ h. h)
+out_back_by q name count call o opened false more out = out_or (is_out_as q o) (is_out q (given_back name count call opened)) (is_out_as q o) (is_out q opened) out (λ h. h) more
 
-pub out_back : (q name : List ℕ) (count : ℕ) (opened : List Opened) → IsTrue (is_out q (given_back name count opened)) → IsTrue (is_out q opened)
-out_back q name count [] out = out
-out_back q name count (o ∷ opened) out = out_back_by q name count o opened (is_out_as name o) (out_back q name count opened) out
+pub out_back : (q name : List ℕ) (count : ℕ) (call : Option DeviceCall) (opened : List Opened) → IsTrue (is_out q (given_back name count call opened)) → IsTrue (is_out q opened)
+out_back q name count call [] out = out
+out_back q name count call (o ∷ opened) out = out_back_by q name count call o opened (is_out_as name o) (out_back q name count call opened) out
 
 -- a file that is held stays so when it is opened
 out_more_by : (a b : Bool) (P : Type 0) → IsTrue (a || b) → (IsTrue a → P) → (IsTrue b → P) → P
@@ -184,11 +185,11 @@ pub put_at_place : (name : List ℕ) (files : List FileState) (at : ℕ) (d : Fi
 put_at_place name files at d dev place = file_put name files at d dev (first (λ (f : FileState). bytes_eq name f.name) files at d place)
 
 -- an opening that was read at the place of the first that is out under a name
-pub back_read : (name : List ℕ) (count : ℕ) (opened : List Opened) (at : ℕ) (r n : Opened) → position (is_out_as name) opened ≡ Some at → r ≡ get_or opened at r → n ≡ record r { returned = Some count }
-    → set opened at n ≡ given_back name count opened
-back_read name count opened at r n place read is =
-    let back = back_found name count opened at r (first (is_out_as name) opened at r place) in
-    let same : n ≡ record (get_or opened at r) { returned = Some count } = is ∙ ap (λ (o : Opened). let p : Opened = record o { returned = Some count } in p) read in
+pub back_read : (name : List ℕ) (count : ℕ) (call : Option DeviceCall) (opened : List Opened) (at : ℕ) (r n : Opened) → position (is_out_as name) opened ≡ Some at → r ≡ get_or opened at r → n ≡ closed_with count call r
+    → set opened at n ≡ given_back name count call opened
+back_read name count call opened at r n place read is =
+    let back = back_found name count call opened at r (first (is_out_as name) opened at r place) in
+    let same : n ≡ closed_with count call (get_or opened at r) = is ∙ ap (closed_with count call) read in
     rw same (sym back)
 
 pub out_push : (q : List ℕ) (o : Opened) (opened : List Opened) (files : List FileState) (done : Bool) → (IsTrue (is_out q opened) → IsTrue (is_held q files)) → IsTrue (is_held o.name files)

@@ -49,6 +49,7 @@ opened_as name device = record {
   capacity = device.disk.capacity;
   faults = device.calls.faults;
   returned = None;
+  failed_call = None;
 }
 
 -- each name that is out is that of a file

@@ -66,6 +66,7 @@ pub(crate) struct Opening {
 }
 
 impl Model for Opening {
+    ghost use Rattle.std.specs.Prelude.{None};
     ghost use Rattle.blk_base.specs.declared.file.Opened.{Opened};
 
     ghost Value = { Opened };
@@ -76,13 +77,14 @@ impl Model for Opening {
       capacity = o.capacity;
       faults = o.faults;
       returned = o.returned;
+      failed_call = None;
     } };
 }
 
 impl Opening {
-    ghost use Rattle.std.specs.Prelude.{◌≡◌, Some, IfOk};
+    ghost use Rattle.std.specs.Prelude.{◌≡◌, None, IfOk};
     ghost use Rattle.blk_base.specs.declared.file.Opened.{Opened};
-    ghost use Rattle.blk_base.specs.Files.{is_out_as};
+    ghost use Rattle.blk_base.specs.Files.{is_out_as, closed_with};
     ghost use Rattle.blk_fakes.specs.Shelf.{opened_as};
 
     /// An opening of this device.
@@ -106,7 +108,7 @@ impl Opening {
     }
 
     pub fn set_returned(&mut self, faults: u64)
-        ensures { self.new ≡ record self.old { returned = Some faults } }
+        ensures { self.new ≡ closed_with faults None self.old }
     {
         self.returned = Some(faults);
     }

@@ -245,7 +245,7 @@ impl MemStore {
     /// Counts in the record of openings that the device of that name is back.
     fn set_returned(&mut self, name: &str, faults: u64)
         ensures { self.new
-            ≡ record self.old { opened = given_back name.now faults self.old.opened } }
+            ≡ record self.old { opened = given_back name.now faults None self.old.opened } }
     {
         match self.place_of_opening(name) {
             Some(at) => {
@@ -276,7 +276,7 @@ impl Store for MemStore {
 
     ghost faults = { λ s. s.calls.faults };
 
-    ghost failed_file = { λ _. None };
+    ghost failed_call = { λ _. None };
 
     #[tactic(auto, using(crate::proofs::Shelves::lacks))]
     fn open_file(&mut self, name: &str) -> Result<MemDevice, StoreStop>
@@ -400,7 +400,8 @@ impl Store for MemStore {
         // what each store promises
         ensures files { told_files self.new
             ≡ put_file (told_as name.now dev) (told_files self.old) }
-        ensures opened { self.new.opened ≡ given_back name.now dev.calls.faults self.old.opened }
+        ensures opened { self.new.opened
+            ≡ given_back name.now dev.calls.faults None self.old.opened }
         ensures room { self.new.room ≡ self.old.room }
         ensures faults { self.old.calls.faults ≤ self.new.calls.faults }
     {

@@ -95,7 +95,7 @@ impl Store for SureStore {
 
     ghost faults = { λ s. 0 };
 
-    ghost failed_file = { λ _. None };
+    ghost failed_call = { λ _. None };
 
     /// Never fails.
     #[tactic(auto, using(crate::proofs::Sure::next_goes, crate::proofs::Sure::sure_after, crate::proofs::Sure::sure_lent))]
@@ -165,7 +165,7 @@ impl Store for SureStore {
         // what each store promises
         ensures files { told_files self.new
             ≡ put_file (told_as name.now dev) (told_files self.old) }
-        ensures opened { self.new.opened ≡ given_back name.now 0 self.old.opened }
+        ensures opened { self.new.opened ≡ given_back name.now 0 None self.old.opened }
         ensures room { self.new.room ≡ self.old.room }
     {
         self.store.give_back(name, dev.into_device());
