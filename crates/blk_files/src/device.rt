@@ -136,6 +136,13 @@ impl FileDevice {
         self.failure = Some(error);
     }
 
+    /// Which of its calls failed last.
+    pub(crate) fn failed_call(&self) -> Option<DeviceCall>
+        ensures { result ≡ self.now.failed_call }
+    {
+        self.failed_call
+    }
+
     /// What the system said when it failed last.
     pub fn failure(&self) -> Option<io::Error> {
         self.failure

@@ -2,12 +2,12 @@
 
 use crate::FileDevice;
 use crate::failure::Failure;
-use blk_base::{Device, Text};
+use blk_base::{Device, DeviceCall, Text};
 use std::io;
 use std::marker::Model;
 
 /// An opening of a file: the device's length, capacity and count of faults then, and its count once it was given back,
-/// with what the system said when it failed last.
+/// with which call failed last and what the system said.
 #[derive(Debug, Drop)]
 pub(crate) struct Opening {
     name: Text,
@@ -15,6 +15,7 @@ pub(crate) struct Opening {
     capacity: u64,
     faults: u64,
     returned: Option<u64>,
+    failed_call: Option<DeviceCall>,
     failure: Option<io::Error>,
 }
 
@@ -29,13 +30,14 @@ impl Model for Opening {
       capacity = o.capacity;
       faults = o.faults;
       returned = o.returned;
+      failed_call = o.failed_call;
     } };
 }
 
 impl Opening {
-    ghost use Rattle.std.specs.Prelude.{◌≡◌, Some};
+    ghost use Rattle.std.specs.Prelude.{◌≡◌};
     ghost use Rattle.blk_base.specs.declared.file.Opened.{Opened};
-    ghost use Rattle.blk_base.specs.Files.{is_out_as};
+    ghost use Rattle.blk_base.specs.Files.{is_out_as, closed_with};
     ghost use Rattle.blk_files.specs.Seen.{opened_file_as};
 
     /// An opening of this device.
@@ -48,6 +50,7 @@ impl Opening {
             capacity: dev.capacity(),
             faults: dev.faults(),
             returned: None,
+            failed_call: dev.failed_call(),
             failure: None,
         }
     }
@@ -60,10 +63,16 @@ impl Opening {
     }
 
     /// The device is back.
-    pub fn set_returned(&mut self, faults: u64, failure: Option<io::Error>)
-        ensures { self.new ≡ record self.old { returned = Some faults } }
+    pub fn set_returned(
+        &mut self,
+        faults: u64,
+        failed_call: Option<DeviceCall>,
+        failure: Option<io::Error>,
+    )
+        ensures { self.new ≡ closed_with faults failed_call self.old }
     {
         self.returned = Some(faults);
+        self.failed_call = failed_call;
         self.failure = failure;
     }
 

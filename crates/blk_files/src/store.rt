@@ -3,13 +3,13 @@ ghost use Rattle.std.specs.Prelude.{◌≡◌, ◌⊎◌, ◌<◌, ◌≤◌, []
 ghost use Rattle.std.specs.List.{position};
 ghost use Rattle.blk_base.specs.Files.{is_out_as, is_out, given_back, IfTold};
 ghost use Rattle.blk_base.specs.Answers.{StandsAt};
-ghost use Rattle.blk_base.specs.Calls.{IsFileAfterStop};
+ghost use Rattle.blk_base.specs.Calls.{IsStoreCallAfterStop};
 ghost use Rattle.blk_base.specs.Counts.{Rose};
 
 use crate::device::CAPACITY;
 use crate::opening::Opening;
 use crate::{Failure, FileDevice, access};
-use blk_base::{Bytes, Device, Store, StoreStop, Text};
+use blk_base::{Bytes, Device, DeviceCall, Store, StoreCall, StoreStop, Text};
 use std::alloc::Global;
 use std::fs::File;
 use std::io;
@@ -38,10 +38,11 @@ fn read_up_to(alloc: Global, file: &mut File, limit: u64) -> io::Result<Vec<u8>>
     Err(io::Error::from(io::ErrorKind::TimedOut))
 }
 
-/// A call of the store that failed: the file's name and what the system said.
+/// A call of the store that failed: the file's name, which call it was and what the system said.
 #[derive(Debug, Drop)]
 struct Failed {
     name: Text,
+    call: StoreCall,
     error: io::Error,
 }
 
@@ -64,14 +65,14 @@ impl<'a, R: Files> Model for FileStore<'a, R> {
     ghost view = { λ s. record {
       opened = s.openings.items;
       faults = s.faults;
-      failed_file = option_map (λ f. f.name.bytes) s.failed;
+      failed_call = option_map (λ f. record { name = f.name.bytes; call = f.call }) s.failed;
     } };
 }
 
 impl<'a, R: Files> FileStore<'a, R> {
     /// The files, none of which is open.
     pub fn new(rt: &'a R, alloc: Global) -> Self
-        ensures { result ≡ record { opened = []; faults = 0; failed_file = None } }
+        ensures { result ≡ record { opened = []; faults = 0; failed_call = None } }
     {
         FileStore {
             rt,
@@ -97,41 +98,49 @@ impl<'a, R: Files> FileStore<'a, R> {
     }
 
     /// Counts in the record of openings that the device of that name is back.
-    fn set_returned(&mut self, name: &str, faults: u64, failure: Option<io::Error>)
+    fn set_returned(
+        &mut self,
+        name: &str,
+        faults: u64,
+        failed_call: Option<DeviceCall>,
+        failure: Option<io::Error>,
+    )
         ensures { self.new
-            ≡ record self.old { opened = given_back name.now faults self.old.opened } }
+            ≡ record self.old { opened = given_back name.now faults failed_call self.old.opened } }
     {
         match self.place_of_opening(name) {
             Some(at) => {
                 let opening = &mut self.openings[at];
-                opening.set_returned(faults, failure);
+                opening.set_returned(faults, failed_call, failure);
             }
             None => {}
         }
     }
 
-    /// Counts a failure, and keeps what the system said where there is memory for the name.
-    fn count(&mut self, name: &str, error: io::Error)
+    /// Counts a failure, and keeps the call and what the system said where there is memory for the name.
+    fn count(&mut self, name: &str, call: StoreCall, error: io::Error)
         ensures rose { Rose self.old.faults self.new.faults }
         ensures faults { self.old.faults ≤ self.new.faults }
-        ensures file { IfTold self.new.failed_file (λ last. last ≡ name.now) }
+        ensures call { IfTold self.new.failed_call
+            (λ last. last ≡ record { name = name.now; call = call }) }
         ensures kept { self.new
-            ≡ record self.old { faults = self.new.faults; failed_file = self.new.failed_file } }
+            ≡ record self.old { faults = self.new.faults; failed_call = self.new.failed_call } }
     {
         self.faults = self.faults.saturating_add(1);
         self.failed = match Text::copied(self.alloc, name) {
-            Ok(name) => Some(Failed { name, error }),
+            Ok(name) => Some(Failed { name, call, error }),
             Err(_) => None,
         };
     }
 
     /// What an error of the system is answered as.
-    fn stopped(&mut self, name: &str, error: io::Error) -> StoreStop
+    fn stopped(&mut self, name: &str, call: StoreCall, error: io::Error) -> StoreStop
         ensures stop { (result ≡ StoreStop.Absent) ⊎ (result ≡ StoreStop.NoMemory)
             ⊎ ((result ≡ StoreStop.Failed) × Rose self.old.faults self.new.faults) }
-        ensures file { IsFileAfterStop result name.now self.old.failed_file self.new.failed_file }
+        ensures call { IsStoreCallAfterStop result (record { name = name.now; call = call })
+            self.old.failed_call self.new.failed_call }
         ensures kept { self.new
-            ≡ record self.old { faults = self.new.faults; failed_file = self.new.failed_file } }
+            ≡ record self.old { faults = self.new.faults; failed_call = self.new.failed_call } }
         ensures quiet { StandsAt self.old.faults self.new.faults result }
         ensures faults { self.old.faults ≤ self.new.faults }
     {
@@ -139,7 +148,7 @@ impl<'a, R: Files> FileStore<'a, R> {
             io::ErrorKind::NotFound => StoreStop::Absent,
             io::ErrorKind::OutOfMemory => StoreStop::NoMemory,
             _ => {
-                self.count(name, error);
+                self.count(name, call, error);
                 StoreStop::Failed
             }
         }
@@ -173,7 +182,7 @@ impl<R: Files<File = File>> Store for FileStore<'_, R> {
 
     ghost faults = { λ s. s.faults };
 
-    ghost failed_file = { λ s. s.failed_file };
+    ghost failed_call = { λ s. s.failed_call };
 
     fn open_file(&mut self, name: &str) -> Result<Self::Dev, StoreStop> {
         if self.is_out(name) {
@@ -187,7 +196,7 @@ impl<R: Files<File = File>> Store for FileStore<'_, R> {
         }
         let (file, length) = match access::open(self.rt, name) {
             Ok(opened) => opened,
-            Err(error) => return Err(self.stopped(name, error)),
+            Err(error) => return Err(self.stopped(name, StoreCall::Open, error)),
         };
         let dev = FileDevice::new(file, length);
         self.openings.push_reserved(Opening::new(text, &dev));
@@ -204,7 +213,7 @@ impl<R: Files<File = File>> Store for FileStore<'_, R> {
         match access::create(self.rt, name, len) {
             Ok(()) => Ok(()),
             Err(error) => {
-                self.count(name, error);
+                self.count(name, StoreCall::Create { len }, error);
                 Err(StoreStop::Failed)
             }
         }
@@ -216,17 +225,17 @@ impl<R: Files<File = File>> Store for FileStore<'_, R> {
         }
         let mut file = match File::open(self.rt, name) {
             Ok(file) => file,
-            Err(error) => return Err(self.stopped(name, error)),
+            Err(error) => return Err(self.stopped(name, StoreCall::Read { limit }, error)),
         };
         match read_up_to(self.alloc, &mut file, limit) {
             Ok(bytes) if bytes.len() as u64 > limit => Err(StoreStop::TooLong),
             Ok(bytes) => Ok(Bytes::from_vec(bytes)),
-            Err(error) => Err(self.stopped(name, error)),
+            Err(error) => Err(self.stopped(name, StoreCall::Read { limit }, error)),
         }
     }
 
     fn give_back(&mut self, name: &str, dev: Self::Dev) {
-        self.set_returned(name, dev.faults(), dev.failure());
+        self.set_returned(name, dev.faults(), dev.failed_call(), dev.failure());
     }
 
     fn room(&self) -> u64 {

@@ -10,9 +10,9 @@ returns-in-Some g c =
     let name = c.args.name.now in
     let opened = c.self.inside.openings.items in
     let place : position (is_out_as name) opened ≡ Some c.in-Some.at = rw (ap (λ (s : SystemStore). s.opened) c.self.view_is) (sym c.place_of_opening.ensures.place ∙ c.in-Some.is) in
-    let back = back_read name c.args.faults opened c.in-Some.at c.index_mut-opening.result.now c.set_returned.new.self place c.index_mut-opening.ensures.value c.set_returned.ensures in
+    let back = back_read name c.args.faults c.args.failed_call opened c.in-Some.at c.index_mut-opening.result.now c.set_returned.new.self place c.index_mut-opening.ensures.value c.set_returned.ensures in
     rw (← c.self.view_is, back) refl
 
 pub returns-in-None : goal.returns-in-None
 returns-in-None g c =
-    rw (back_missing c.args.name.now c.args.faults c.args.self.now.opened (sym c.place_of_opening.ensures.place ∙ c.in-None.is)) refl
+    rw (back_missing c.args.name.now c.args.faults c.args.failed_call c.args.self.now.opened (sym c.place_of_opening.ensures.place ∙ c.in-None.is)) refl
