@@ -36,7 +36,6 @@ impl Model for Opening {
 
 impl Opening {
     ghost use Rattle.std.specs.Prelude.{◌≡◌};
-    ghost use Rattle.blk_base.specs.declared.file.Opened.{Opened};
     ghost use Rattle.blk_base.specs.Files.{is_out_as, closed_with};
     ghost use Rattle.blk_files.specs.Seen.{opened_file_as};
 
