@@ -1,15 +1,17 @@
 //! Reading the refcount table and the blocks that it names.
 ghost use Rattle.std.specs.Prelude.{◌≡◌, ◌+◌, ◌-◌, ◌*◌, ◌%◌, ◌^◌, ◌<◌, ◌≤◌, ℕ, List, length, slice_index, None, Some, IfOk, IfErr, OnOk};
 ghost use Rattle.std.specs.Option.{option_map};
+ghost use Rattle.blk_base.specs.Calls.{FailsAt};
 ghost use Rattle.blk_base.specs.Content.{bytes_at};
 ghost use Rattle.blk_base.specs.Device.{Reads};
+ghost use Rattle.blk_base.specs.declared.device.DeviceCall.{DeviceCall};
 ghost use Rattle.q2_format.specs.Bytes.{number_at, words_at};
 ghost use Rattle.q2_format.specs.Header.{CanBeRead, refusal_in};
 ghost use Rattle.q2_format.specs.Sizes.{cluster_size, block_entries};
 ghost use Rattle.q2_format.specs.Sound.{bad_refcount_table};
 ghost use Rattle.q2_format.specs.Tables.{refcount_table};
 ghost use Rattle.q2_refs.specs.Kept.{AreWholeClusters, BeginBelow, IsCountsOf, IsShapedBy};
-ghost use Rattle.q2_refs.specs.Loading.{table_entries, table_reach, refcounts_refusal, RefusedBy, fault_in_refs, fault_of_refs, IsRefsReadStop, HasShape, AreCounts, AreZeroFrom};
+ghost use Rattle.q2_refs.specs.Loading.{table_entries, table_reach, refcounts_refusal, RefusedBy, fault_in_refs, fault_of_refs, IsRefsReadStop, HasShape, AreCounts, AreZeroFrom, table_call, IsTableCall, IsBlockCall, IsRefsCall};
 
 use crate::entries::{block_offset, check_words, is_misplaced};
 use crate::refs::{Refs, first_free};
@@ -69,6 +71,8 @@ fn read<D: Device>(dev: &mut D, at: u64, buf: &mut [u8]) -> Result<(), RefsStop>
         → buf.new ≡ bytes_at file at (length buf.old)) }
     ensures stop { IfErr result IsRefsReadStop }
     ensures device { Reads D.Device (fault_of_refs result) dev.old dev.new }
+    ensures call { FailsAt (λ call. call ≡ DeviceCall.Read at (length buf.old))
+        (fault_of_refs result) (D.failed_call dev.new) }
 {
     match dev.read_at(at, buf) {
         Ok(()) => Ok(()),
@@ -114,6 +118,8 @@ fn read_words<D: Device>(
         → words.new ≡ words_at file at (length words.old)) }
     ensures stop { IfErr result IsRefsReadStop }
     ensures device { Reads D.Device (fault_of_refs result) dev.old dev.new }
+    ensures call { FailsAt (λ call. call ≡ DeviceCall.Read at (length buffer.old))
+        (fault_of_refs result) (D.failed_call dev.new) }
 {
     read(dev, at, buffer)?;
     decode_words(buffer, words);
@@ -130,6 +136,8 @@ fn read_table<D: Device>(alloc: Global, dev: &mut D, h: &Header) -> Result<Vec<u
     ensures len { IfOk result (λ words. length words.items ≡ table_entries h.now) }
     ensures stop { IfErr result IsRefsReadStop }
     ensures device { Reads D.Device (fault_of_refs result) dev.old dev.new }
+    ensures call { FailsAt (λ call. call ≡ table_call h.now)
+        (fault_of_refs result) (D.failed_call dev.new) }
 {
     let entries = table_len(h);
     let mut buffer = zero_bytes(alloc, 8 * entries)?;
@@ -193,6 +201,8 @@ fn read_block<D: Device>(
         ((i + 1) * block_entries (cluster_size h.now.cluster_bits) h.now.refcount_order) }
     ensures stop { IfErr result IsRefsReadStop }
     ensures device { Reads D.Device (fault_of_refs result) dev.old dev.new }
+    ensures call { FailsAt (IsBlockCall h.now (length counts.old) table.now)
+        (fault_of_refs result) (D.failed_call dev.new) }
 {
     let offset = block_offset(table[i]);
     if offset == 0 {
@@ -224,6 +234,8 @@ fn read_counts<D: Device>(
         → AreCounts file h.now counts.new 0 (length counts.old)) }
     ensures stop { IfErr result IsRefsReadStop }
     ensures device { Reads D.Device (fault_of_refs result) dev.old dev.new }
+    ensures call { FailsAt (IsBlockCall h.now (length counts.old) table.now)
+        (fault_of_refs result) (D.failed_call dev.new) }
 {
     let blocks = counts.len().div_ceil(block_len(h));
     for i in 0..blocks {
@@ -246,6 +258,8 @@ pub fn load_table<D: Device>(alloc: Global, dev: &mut D, h: &Header) -> Result<V
         → words.items ≡ refcount_table file h.now) }
     ensures len { IfOk result (λ words. length words.items ≡ table_entries h.now) }
     ensures device { Reads D.Device (fault_of_refs result) dev.old dev.new }
+    ensures call { FailsAt (IsTableCall h.now (D.size dev.old))
+        (fault_of_refs result) (D.failed_call dev.new) }
 {
     let len = dev.length();
     check_place(h, len)?;
@@ -310,6 +324,8 @@ pub fn load_counts<D: Device>(
 
     // the device
     ensures device { Reads D.Device (fault_of_refs result) dev.old dev.new }
+    ensures call { FailsAt (IsBlockCall h.now reach table.items)
+        (fault_of_refs result) (D.failed_call dev.new) }
 {
     let mut counts = zero_counts(alloc, reach as usize)?;
     let mut buffer = zero_bytes(alloc, cluster_len(h))?;
@@ -355,6 +371,8 @@ pub fn load_refs<D: Device>(
 
     // the device
     ensures device { Reads D.Device (fault_of_refs result) dev.old dev.new }
+    ensures call { FailsAt (IsRefsCall h.now (D.size dev.old) reach (D.content dev.old))
+        (fault_of_refs result) (D.failed_call dev.new) }
 {
     let table = load_table(alloc, dev, h)?;
     load_counts(alloc, dev, h, table, reach)
