@@ -1,6 +1,8 @@
 -- What the steps of loading do, in lists of words.
-use Rattle.std.specs.Prelude.{◌≡◌, ℕ, ◌*◌, ◌/◌, ◌%◌, ◌<◌, not, ◌&&◌, List, [], ◌∷◌, length, position, slice_index, Option}
+use Rattle.std.specs.Prelude.{◌≡◌, ◌≢◌, ℕ, ◌*◌, ◌/◌, ◌%◌, ◌<◌, not, ◌&&◌, List, [], ◌∷◌, length, position, slice_index, Option}
 use Rattle.std.specs.Option.{option_map}
+use Rattle.blk_base.specs.declared.device.DeviceCall.{DeviceCall}
+use Rattle.blk_base.specs.declared.device.DeviceCall.TheVariants as calls
 use Rattle.q2_format.specs.Sizes.{entries_in_cluster}
 use Rattle.q2_format.specs.Entry.{host_offset, is_compressed, has_reserved_in_l1, has_reserved_in_l2}
 use Rattle.q2_format.specs.Header.{first}
@@ -16,6 +18,12 @@ pub record AreTablesOf (file : List ℕ) (c : ℕ) (l1 words : List ℕ) : Type 
       → slice_index words k
       ≡ slice_index (l2_table file c (slice_index l1 (k / entries_in_cluster c)))
       (k % entries_in_cluster c)
+
+-- the read of an L2 table of `c` bytes that an entry of an L1 table names
+abbrev pub IsReadOfTable : ℕ → List ℕ → DeviceCall → Type 0
+IsReadOfTable c l1 call =
+    (i : ℕ) × (i < length l1) × (host_offset (slice_index l1 i) ≢ 0)
+    × (call ≡ calls.Read (host_offset (slice_index l1 i)) c)
 
 -- reading stops at a fault, or for want of memory
 abbrev pub IsTablesReadStop : TablesStop → Type 0

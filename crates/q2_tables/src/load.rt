@@ -1,13 +1,15 @@
 //! Loading the tables of an image: one read a table, and a look at each word for each kind of fault.
 ghost use Rattle.std.specs.Prelude.{◌≡◌, ◌*◌, ◌/◌, ◌^◌, ◌<◌, ◌≤◌, ℕ, List, length, slice_index, Some, None, IfOk, IfErr, OnOk, option_map};
+ghost use Rattle.blk_base.specs.Calls.{FailsAt};
 ghost use Rattle.blk_base.specs.Device.{Reads};
+ghost use Rattle.blk_base.specs.declared.device.DeviceCall.{DeviceCall};
 ghost use Rattle.q2_format.specs.Bytes.{words_at};
 ghost use Rattle.q2_format.specs.Sizes.{cluster_size, entries_in_cluster};
 ghost use Rattle.q2_format.specs.Header.{CanBeRead};
 ghost use Rattle.q2_format.specs.Sound.{bad_l1_table};
 ghost use Rattle.q2_format.specs.Tables.{active_tree};
-ghost use Rattle.q2_tables.specs.Loading.{Loads, fault_of_tables, load_refusal, IsLoaded, IsTableRefusal};
-ghost use Rattle.q2_tables.specs.Words.{AreTablesOf, IsTablesReadStop, misplaced_table};
+ghost use Rattle.q2_tables.specs.Loading.{Loads, fault_of_tables, load_refusal, IsLoaded, IsTableRefusal, IsTablesCall};
+ghost use Rattle.q2_tables.specs.Words.{AreTablesOf, IsReadOfTable, IsTablesReadStop, misplaced_table};
 ghost use Rattle.q2_tables.specs.declared.stop.TablesStop.TheVariants.{Offset};
 
 use crate::check::{check_l1_table, check_l2_tables, check_words};
@@ -32,6 +34,8 @@ fn read_table<D: Device>(
         → words.new ≡ words_at file at (length words.old)) }
     ensures stop { IfErr result IsTablesReadStop }
     ensures device { Reads D.Device (fault_of_tables result) dev.old dev.new }
+    ensures call { FailsAt (λ call. call ≡ DeviceCall.Read at (length buffer.old))
+        (fault_of_tables result) (D.failed_call dev.new) }
 {
     match dev.read_at(at, buffer) {
         Ok(()) => {
@@ -60,6 +64,8 @@ fn read_l2_tables<D: Device>(
         → AreTablesOf file (length buffer.old) l1.now words.new) }
     ensures stop { IfErr result IsTablesReadStop }
     ensures device { Reads D.Device (fault_of_tables result) dev.old dev.new }
+    ensures call { FailsAt (IsReadOfTable (length buffer.old) l1.now)
+        (fault_of_tables result) (D.failed_call dev.new) }
 {
     let entries = buffer.len() / ENTRY;
     for (i, word) in l1.iter().enumerate() {
@@ -101,6 +107,8 @@ fn read_l1<D: Device>(
     ensures len { IfOk result (λ l1. length l1.items ≡ entries) }
     ensures stop { IfErr result IsTablesReadStop }
     ensures device { Reads D.Device (fault_of_tables result) dev.old dev.new }
+    ensures call { FailsAt (λ call. call ≡ DeviceCall.Read at (8 * entries))
+        (fault_of_tables result) (D.failed_call dev.new) }
 {
     let mut l1 = zero_words(alloc, entries)?;
     let mut bytes = zero_bytes(alloc, ENTRY * entries)?;
@@ -124,6 +132,8 @@ fn read_l2<D: Device>(
         (λ words. length words.items ≡ length l1.now * entries_in_cluster (length buffer.old)) }
     ensures stop { IfErr result IsTablesReadStop }
     ensures device { Reads D.Device (fault_of_tables result) dev.old dev.new }
+    ensures call { FailsAt (IsReadOfTable (length buffer.old) l1.now)
+        (fault_of_tables result) (D.failed_call dev.new) }
 {
     let mut words = zero_words(alloc, l1.len() * (buffer.len() / ENTRY))?;
     read_l2_tables(dev, l1, buffer, words.as_mut_slice())?;
@@ -151,6 +161,9 @@ fn load_l1<D: Device>(
         × (misplaced_table c len l1.items ≡ None)) }
     ensures entries { IfOk result (λ l1. length l1.items ≡ h.now.l1_size) }
     ensures device { Reads D.Device (fault_of_tables result) dev.old dev.new }
+    ensures call { FailsAt (λ call. (bad_l1_table h.now len ≡ None)
+        × (call ≡ DeviceCall.Read h.now.l1_offset (8 * h.now.l1_size)))
+        (fault_of_tables result) (D.failed_call dev.new) }
 {
     check_l1_table(h, c, len)?;
     let l1 = read_l1(alloc, dev, h.l1_offset, h.l1_size as usize)?;
@@ -185,6 +198,8 @@ pub fn load_tables<D: Device>(alloc: Global, dev: &mut D, h: &Header) -> Result<
         → Loads h.now (D.size dev.old) (active_tree file h.now) result }
     ensures loaded { IfOk result (IsLoaded h.now (D.size dev.old)) }
     ensures device { Reads D.Device (fault_of_tables result) dev.old dev.new }
+    ensures call { FailsAt (IsTablesCall h.now (D.size dev.old) (D.content dev.old))
+        (fault_of_tables result) (D.failed_call dev.new) }
 {
     let len = dev.length();
     let c = cluster_len(h, len);
