@@ -8,6 +8,7 @@ use Rattle.blk_base.specs.Writes.{write_of, first_bytes, end_of_writes, IsPart, 
 use Rattle.blk_base.specs.declared.device.Device.{Ghosts}
 use Rattle.blk_base.specs.declared.fault.DevStop.{DevStop}
 use Rattle.blk_base.specs.declared.fault.DevStop.TheVariants.{Io, NoSpace}
+use Rattle.blk_base.proofs.DeviceLemmas.{beyond-within}
 use Rattle.blk_base.proofs.WriteLists.{part-later}
 use Rattle.byteorder.specs.Numbers.{length-bytes_high_first}
 use Rattle.q2_format.specs.Entry.{host_of, l2_spelling}
@@ -75,7 +76,9 @@ module _ {D : Type 0} (g : Ghosts D) where
       let r : Result (Unit {0}) DevStop = Err stop in
       let one = makes_one g image mid left (block_writes_for image.refs n) r a b block.1 tt (ap (λ (k : refs.KeptRefs). record image { refs = k }) block.0) in
       makes_sooner g image left (record { writes = block_writes_for image.refs n; known = mid } ∷ []) (count ∷ []) stop a b one
-  take_stopped image NoSpace next a b fits writes (inr placed) = absurd (let beyond = writes.cause.0 in omega (arith, fits, beyond))
+  take_stopped image NoSpace next a b fits writes (inr placed) =
+      let ws : List Write = allocation_writes image.refs (free_cluster image.refs 0) in
+      let beyond = beyond-within g ws writes.made (g.capacity a) writes.cause.0 in absurd (omega (arith, fits, beyond))
   take_stopped image (Io fault) next a b fits writes (inr placed) =
       let n : ℕ = free_cluster image.refs 0 in
       let block : refs.KeptRefs = with_block_for image.refs n in
@@ -222,4 +225,4 @@ pub one_fault : {D : Type 0} (g : Ghosts D) (ws : List Write) (r : Result (Unit 
     → IfErr r TellsFault
 one_fault g ws (Ok done) a b fits writes = tt
 one_fault g ws (Err (Io count)) a b fits writes = tt
-one_fault g ws (Err NoSpace) a b fits writes = let beyond = writes.cause.0 in absurd (omega (arith, fits, beyond))
+one_fault g ws (Err NoSpace) a b fits writes = let beyond = beyond-within g ws writes.made (g.capacity a) writes.cause.0 in absurd (omega (arith, fits, beyond))

@@ -8,7 +8,7 @@ use Rattle.blk_base.specs.Device.{IsMade, Writes, Wrote}
 use Rattle.blk_base.specs.Writes.{write_of, IsCutBy, IsPart}
 use Rattle.blk_base.specs.declared.device.Device.{Ghosts}
 use Rattle.blk_base.specs.declared.fault.DevStop.{DevStop}
-use Rattle.blk_base.proofs.DeviceLemmas.{wrote-then, writes_sooner, writes_then}
+use Rattle.blk_base.proofs.DeviceLemmas.{cause-later, cause-sooner, wrote-then}
 use Rattle.blk_base.proofs.WriteLists.{part-later, part-sooner}
 use Rattle.q2_format.specs.Created.{IsNewFormat}
 use Rattle.q2_format.specs.Renamed.{format_bytes, format_room}
@@ -123,7 +123,8 @@ module _ {D : Type 0} (g : Ghosts D) where
       made = vs ++ later.made;
       part = made_later vs ws later.made stop later.part;
       wrote = wrote-then g vs later.made a b c (subst (λ (xs : List Write). Wrote g xs a b) first.part first.wrote) later.wrote;
-      cause = (writes_then g vs ws stop a b c first later).cause;
+      cause = cause-later g vs ws first.made later.made stop (g.capacity a) (g.capacity b) (g.faults a) (g.faults b) (g.faults c)
+          first.wrote.capacity later.part first.cause later.cause;
       call = call_later vs ws later.made stop (g.failed_call a) (g.failed_call b) (g.failed_call c) later.part first.call later.call;
     },
     refl,
@@ -136,7 +137,7 @@ module _ {D : Type 0} (g : Ghosts D) where
       made = first.made;
       part = part-sooner (IsCutBy stop) vs ws first.made first.part;
       wrote = first.wrote;
-      cause = (writes_sooner g vs ws stop a b first).cause;
+      cause = cause-sooner g vs ws first.made stop (g.capacity a) (g.faults a) (g.faults b) first.part first.cause;
       call = call_sooner vs ws first.made stop (g.failed_call a) (g.failed_call b) first.part first.call;
     },
     refl,

@@ -3,6 +3,7 @@ use Rattle.std.proofs.Common.{◌≡◌, ◌≢◌, ℕ, ◌+◌, ◌*◌, ◌/�
 use Rattle.std.proofs.lemmas.Bool.{cases_eq, ne_eqb, eqb-true}
 use Rattle.std.specs.Prelude.{IfErr}
 use Rattle.blk_base.specs.Device.{Writes, stop_of}
+use Rattle.blk_base.proofs.DeviceLemmas.{beyond-within}
 use Rattle.blk_base.specs.declared.device.Device.{Ghosts}
 use Rattle.blk_base.specs.declared.fault.DevStop.{DevStop}
 use Rattle.blk_base.specs.declared.fault.DevStop.TheVariants.{Io, NoSpace}
@@ -251,5 +252,5 @@ pub link_fault : {D : Type 0} (g : Ghosts D) (kept : tables.KeptTables) (cluster
 link_fault g kept cluster word table (Ok done) a b fits writes = tt
 link_fault g kept cluster word table (Err (Io count)) a b fits writes = tt
 link_fault g kept cluster word table (Err NoSpace) a b fits writes =
-    let beyond = writes.cause.0 in
+    let beyond = beyond-within g (link_writes kept cluster word table) writes.made (g.capacity a) writes.cause.0 in
     absurd (omega (arith, fits, beyond, end-link_writes kept cluster word table))

@@ -21,7 +21,7 @@ use Rattle.blk_base.specs.declared.device.Stop.TheVariants as why
 use Rattle.blk_base.specs.declared.fault.DevStop.{DevStop}
 use Rattle.blk_base.specs.declared.fault.DevStop.TheVariants.{Io, NoSpace}
 use Rattle.blk_base.proofs.Calls.{write_failed}
-use Rattle.blk_base.proofs.DeviceLemmas.{only_reads-wrote, untouched-writes, wrote-then, writes_then}
+use Rattle.blk_base.proofs.DeviceLemmas.{beyond-within, only_reads-wrote, untouched-writes, wrote-then, writes_then}
 use Rattle.blk_base.proofs.WriteLists.{cut-sector, end_of_writes-append}
 use Rattle.q2_format.specs.Created.{IsNewName, IsNewFormat}
 use Rattle.q2_format.specs.Renamed.{ending_place, format_bytes, format_room, name_fields, needs_ending, next_extension, new_name_offset}
@@ -97,13 +97,13 @@ module _ {D : Type 0} (g : Ghosts D) where
 
   -- Which calls fail, where there is room.
 
-  stop_cause : (ws : List Write) (stop : DevStop) (capacity before now : ℕ) → end_of_writes ws ≤ capacity → StopsBy (Some stop) ws capacity before now → TellsFault stop
-  stop_cause ws (Io count) capacity before now fits cause = tt
-  stop_cause ws NoSpace capacity before now fits cause = let beyond = cause.0 in absurd (omega (arith, beyond, fits))
+  stop_cause : (ws made : List Write) (stop : DevStop) (capacity before now : ℕ) → end_of_writes ws ≤ capacity → StopsBy (Some stop) ws made capacity before now → TellsFault stop
+  stop_cause ws made (Io count) capacity before now fits cause = tt
+  stop_cause ws made NoSpace capacity before now fits cause = let beyond = beyond-within g ws made capacity cause.0 in absurd (omega (arith, beyond, fits))
 
   pub writes_fault : (ws : List Write) (r : Result (Unit {0}) DevStop) (a b : D) → Writes g ws (stop_of r) a b → end_of_writes ws ≤ g.capacity a → IfErr r TellsFault
   writes_fault ws (Ok done) a b writes fits = tt
-  writes_fault ws (Err stop) a b writes fits = stop_cause ws stop (g.capacity a) (g.faults a) (g.faults b) fits writes.cause
+  writes_fault ws (Err stop) a b writes fits = stop_cause ws writes.made stop (g.capacity a) (g.faults a) (g.faults b) fits writes.cause
 
   pub fields_fault : (h : Header) (early : List Write) (name : Option (List ℕ)) (r : Result (Unit {0}) DevStop) (a b : D) → EndsWithFields g h early name (stop_of r) a b
       → 104 ≤ h.ext_end → end_of_writes early ≤ g.capacity a → fields_end h ≤ g.capacity a → IfErr r TellsFault
@@ -111,7 +111,7 @@ module _ {D : Type 0} (g : Ghosts D) where
   fields_fault h early name (Err stop) a b (inl last) list fits last_fits =
       let end = last_length h last.between name last.whole list in
       let both = end_of_writes-append early (last_writes h last.between name) in
-      stop_cause (early ++ last_writes h last.between name) stop (g.capacity a) (g.faults a) (g.faults b) (omega (arith, both, end, fits, last_fits)) last.writes.cause
+      stop_cause (early ++ last_writes h last.between name) last.writes.made stop (g.capacity a) (g.faults a) (g.faults b) (omega (arith, both, end, fits, last_fits)) last.writes.cause
   fields_fault h early name (Err (Io count)) a b (inr fails) list fits last_fits = tt
   fields_fault h early name (Err NoSpace) a b (inr fails) list fits last_fits = absurd (let is = fails.is in cc)
 
@@ -199,7 +199,7 @@ module _ {D : Type 0} (g : Ghosts D) where
           made = write_of at (take done bytes) ∷ [];
           part = inr (ap (λ (n : ℕ). write_of at (take n bytes)) refused.1, refl);
           wrote = wrote;
-          cause = (let beyond = refused.0 in omega (arith, beyond), refused.2);
+          cause = ((write_of at bytes, refl, refused.0), refused.2);
           call = call;
         },
         refl,

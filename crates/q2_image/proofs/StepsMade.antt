@@ -9,7 +9,7 @@ use Rattle.blk_base.specs.Writes.{IsCutBy, IsPart}
 use Rattle.blk_base.specs.declared.device.Device.{Ghosts}
 use Rattle.blk_base.specs.declared.fault.DevStop.{DevStop}
 use Rattle.blk_base.specs.declared.fault.DevStop.TheVariants.{Io, NoSpace}
-use Rattle.blk_base.proofs.DeviceLemmas.{untouched-same, untouched-writes, wrote-then, writes_sooner, writes_then}
+use Rattle.blk_base.proofs.DeviceLemmas.{cause-later, cause-sooner, untouched-same, untouched-writes, wrote-then}
 use Rattle.blk_base.proofs.WriteLists.{part-later, part-sooner}
 use Rattle.blk_base.proofs.Calls.{call_later, call_sooner}
 use Rattle.q2_image.specs.Image.{Known}
@@ -79,8 +79,9 @@ module _ {D : Type 0} (g : Ghosts D) where
           made = vs ++ made;
           part = subst (λ (xs : List Write). IsMade stop xs (vs ++ made)) (sym same) (made-later vs ws made stop later.writes.part);
           wrote = wrote-then g vs made a b c (subst (λ (xs : List Write). Wrote g xs a b) first.writes.part first.writes.wrote) later.writes.wrote;
-          cause = subst (λ (xs : List Write). StopsBy stop xs (g.capacity a) (g.faults a) (g.faults c)) (sym same)
-              (writes_then g vs ws stop a b c first.writes later.writes).cause;
+          cause = subst (λ (xs : List Write). StopsBy stop xs (vs ++ made) (g.capacity a) (g.faults a) (g.faults c)) (sym same)
+              (cause-later g vs ws first.writes.made made stop (g.capacity a) (g.capacity b) (g.faults a) (g.faults b) (g.faults c)
+              first.writes.wrote.capacity later.writes.part first.writes.cause later.writes.cause);
           call = subst (λ (xs : List Write). FailsWriting stop xs (vs ++ made) (g.failed_call a) (g.failed_call c)) (sym same)
               (call_later vs ws made stop (g.failed_call a) (g.failed_call b) (g.failed_call c) later.writes.part first.writes.call later.writes.call);
         };
@@ -98,8 +99,8 @@ module _ {D : Type 0} (g : Ghosts D) where
           made = stopped.writes.made;
           part = subst (λ (xs : List Write). IsPart (IsCutBy stop) xs stopped.writes.made) (sym same) (part-sooner (IsCutBy stop) vs ws stopped.writes.made stopped.writes.part);
           wrote = stopped.writes.wrote;
-          cause = subst (λ (xs : List Write). StopsBy (Some stop) xs (g.capacity a) (g.faults a) (g.faults b)) (sym same)
-              (writes_sooner g vs ws stop a b stopped.writes).cause;
+          cause = subst (λ (xs : List Write). StopsBy (Some stop) xs stopped.writes.made (g.capacity a) (g.faults a) (g.faults b)) (sym same)
+              (cause-sooner g vs ws stopped.writes.made stop (g.capacity a) (g.faults a) (g.faults b) stopped.writes.part stopped.writes.cause);
           call = subst (λ (xs : List Write). FailsWriting (Some stop) xs stopped.writes.made (g.failed_call a) (g.failed_call b)) (sym same)
               (call_sooner vs ws stopped.writes.made stop (g.failed_call a) (g.failed_call b) stopped.writes.part stopped.writes.call);
         };
@@ -114,7 +115,7 @@ module _ {D : Type 0} (g : Ghosts D) where
       made = writes.made;
       part = writes.part ∙ sym (append-nil ws);
       wrote = writes.wrote;
-      cause = subst (λ (xs : List Write). StopsBy None xs (g.capacity a) (g.faults a) (g.faults b)) (sym (append-nil ws)) writes.cause;
+      cause = subst (λ (xs : List Write). StopsBy None xs writes.made (g.capacity a) (g.faults a) (g.faults b)) (sym (append-nil ws)) writes.cause;
       call = writes.call;
     };
     known = ok;
@@ -124,7 +125,7 @@ module _ {D : Type 0} (g : Ghosts D) where
       made = writes.made;
       part = subst (λ (xs : List Write). IsPart (IsCutBy stop) xs writes.made) (sym (append-nil ws)) writes.part;
       wrote = writes.wrote;
-      cause = subst (λ (xs : List Write). StopsBy (Some stop) xs (g.capacity a) (g.faults a) (g.faults b)) (sym (append-nil ws)) writes.cause;
+      cause = subst (λ (xs : List Write). StopsBy (Some stop) xs writes.made (g.capacity a) (g.faults a) (g.faults b)) (sym (append-nil ws)) writes.cause;
       call = subst (λ (xs : List Write). FailsWriting (Some stop) xs writes.made (g.failed_call a) (g.failed_call b)) (sym (append-nil ws)) writes.call;
     };
     known = record {

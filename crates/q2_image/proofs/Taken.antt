@@ -11,6 +11,7 @@ use Rattle.q2_format.specs.Sizes.{cluster_size}
 use Rattle.q2_format.specs.Tables.{Tree, active_tree, refcount_of}
 use Rattle.q2_format.specs.declared.header.Header.{Header}
 use Rattle.blk_base.specs.Device.{Writes}
+use Rattle.blk_base.proofs.DeviceLemmas.{beyond-within}
 use Rattle.blk_base.specs.declared.device.Device.{Ghosts}
 use Rattle.blk_base.specs.declared.fault.DevStop.{DevStop}
 use Rattle.blk_base.specs.declared.fault.DevStop.TheVariants.{Io, NoSpace}
@@ -183,4 +184,6 @@ by_size n size is = rw is (omega arith)
 pub taken_fault : {D : Type 0} (g : Ghosts D) (kept : refs.KeptRefs) (stop : DevStop) (a b : D) → end_of_allocation kept (free_cluster kept 0) ≤ g.capacity a
     → Writes g (allocation_writes kept (free_cluster kept 0)) (Some stop) a b → TellsFault stop
 taken_fault g kept (Io count) a b fits writes = tt
-taken_fault g kept NoSpace a b fits writes = let beyond = writes.cause.0 in absurd (omega (arith, fits, beyond))
+taken_fault g kept NoSpace a b fits writes =
+    let beyond = beyond-within g (allocation_writes kept (free_cluster kept 0)) writes.made (g.capacity a) writes.cause.0 in
+    absurd (omega (arith, fits, beyond))
