@@ -1,6 +1,6 @@
 -- The refcounts of the clusters that one block counts.
-use Rattle.std.proofs.Common.{◌≡◌, ◌≢◌, ℕ, ◌+◌, ◌-◌, ◌*◌, ◌<◌, ◌≤◌, List, get_or, refl, sym, ap, ◌∙◌, arith, eq-eqb}
-use Rattle.std.proofs.lemmas.Bool.{ne_eqb}
+use Rattle.std.proofs.Common.{◌≡◌, ◌≢◌, ℕ, ◌+◌, ◌-◌, ◌*◌, ◌/◌, ◌<◌, ◌≤◌, List, get_or, refl, sym, ap, ◌∙◌, arith, eq-eqb, inl, inr}
+use Rattle.std.proofs.lemmas.Bool.{cases_lt, ne_eqb}
 use Rattle.std.proofs.lemmas.Nat.{div-mul-add, mod-mul-add}
 use Rattle.blk_base.specs.Content.{bytes_at as read_bytes}
 use Rattle.q2_format.specs.Bytes.{number_at}
@@ -8,7 +8,8 @@ use Rattle.q2_format.specs.Entry.{block_offset}
 use Rattle.q2_format.specs.Sizes.{cluster_size, refcount_bytes, block_entries}
 use Rattle.q2_format.specs.Tables.{refcount_table, refcount_of}
 use Rattle.q2_format.specs.declared.header.Header.{Header}
-use Rattle.q2_refs.specs.Loading.{HasShape}
+use Rattle.q2_refs.specs.Kept.{AreAbsentZero}
+use Rattle.q2_refs.specs.Loading.{AreZeroFrom, HasShape}
 use Rattle.q2_refs.proofs.Decoding.{number_read}
 
 -- how many clusters a block counts
@@ -36,6 +37,19 @@ refcount_of-present file h i j below some =
     let column = mod-mul-add i (in_block h) j below in
     let test = ne_eqb (block_at file h i) 0 some in
     rw (row, column, test) refl
+
+-- counts of absent blocks, one block further
+pub absent_further : (n i : ℕ) (table old new : List ℕ) → AreAbsentZero n table old (i * n) → AreZeroFrom old (i * n)
+    → ((k : ℕ) → k < i * n → get_or new k 0 ≡ get_or old k 0) → (block_offset (get_or table i 0) ≡ 0 → new ≡ old) → AreAbsentZero n table new ((i + 1) * n)
+absent_further n i table old new had zeros same here = λ k below none. elim (cases_lt k (i * n)) [
+  | inl before ↦ same k before ∙ had k before none
+  | inr from ↦
+      let place : i * n + (k - i * n) ≡ k = omega arith in
+      let row : (i + 1) * n ≡ i * n + n = omega arith in
+      let column : k - i * n < n = omega (arith, row) in
+      let at : k / n ≡ i = ap (λ (m : ℕ). m / n) (sym place) ∙ div-mul-add i n (k - i * n) column in
+      ap (λ (counts : List ℕ). get_or counts k 0) (here (ap (λ (m : ℕ). block_offset (get_or table m 0)) (sym at) ∙ none)) ∙ zeros k from
+]
 
 -- in the shape that is supported
 pub width_two : (h : Header) → HasShape h → refcount_bytes h.refcount_order ≡ 2

@@ -37,11 +37,14 @@ AreWholeClusters c table = (i : ℕ) → i < length table → block_offset (slic
 abbrev pub BeginBelow : ℕ → List ℕ → Type 0
 BeginBelow len table = (i : ℕ) → i < length table → block_offset (slice_index table i) < len
 
+-- of the first counts, below a number, those of absent blocks are 0, where each block has n
+abbrev pub AreAbsentZero : ℕ → List ℕ → List ℕ → ℕ → Type 0
+AreAbsentZero n table counts below = (k : ℕ) → k < below
+    → block_offset (slice_index table (k / n)) ≡ 0 → slice_index counts k ≡ 0
+
 -- a cluster whose block is absent counts 0
 abbrev pub AreAbsentFree : KeptRefs → Type 0
-AreAbsentFree kept = (k : ℕ) → k < length kept.counts
-    → block_offset (slice_index kept.table (k / per_block kept)) ≡ 0
-    → slice_index kept.counts k ≡ 0
+AreAbsentFree kept = AreAbsentZero (per_block kept) kept.table kept.counts (length kept.counts)
 
 -- each of the first counts, below a number, is above 0
 abbrev pub AreTaken : List ℕ → ℕ → Type 0

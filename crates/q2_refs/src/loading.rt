@@ -6,11 +6,12 @@ ghost use Rattle.blk_base.specs.Content.{bytes_at};
 ghost use Rattle.blk_base.specs.Device.{Reads};
 ghost use Rattle.blk_base.specs.declared.device.DeviceCall.{DeviceCall};
 ghost use Rattle.q2_format.specs.Bytes.{number_at, words_at};
+ghost use Rattle.q2_format.specs.Entry.{block_offset};
 ghost use Rattle.q2_format.specs.Header.{CanBeRead, refusal_in};
 ghost use Rattle.q2_format.specs.Sizes.{cluster_size, block_entries};
 ghost use Rattle.q2_format.specs.Sound.{bad_refcount_table};
 ghost use Rattle.q2_format.specs.Tables.{refcount_table};
-ghost use Rattle.q2_refs.specs.Kept.{AreWholeClusters, BeginBelow, IsCountsOf, IsShapedBy};
+ghost use Rattle.q2_refs.specs.Kept.{AreAbsentFree, AreAbsentZero, AreWholeClusters, BeginBelow, IsCountsOf, IsShapedBy};
 ghost use Rattle.q2_refs.specs.Loading.{table_entries, table_reach, refcounts_refusal, RefusedBy, fault_in_refs, fault_of_refs, IsRefsReadStop, HasShape, AreCounts, AreZeroFrom, table_call, IsTableCall, IsBlockCall, IsRefsCall};
 
 use crate::entries::{block_offset, check_words, is_misplaced};
@@ -194,6 +195,7 @@ fn read_block<D: Device>(
         ((file : List ℕ) → D.content dev.old ≡ Some file → table.now ≡ refcount_table file h.now
         → let per_block = block_entries (cluster_size h.now.cluster_bits) h.now.refcount_order in
         AreCounts file h.now counts.new (i * per_block) (i * per_block + per_block)) }
+    ensures absent { block_offset (slice_index table.now i) ≡ 0 → counts.new ≡ counts.old }
     ensures before { (k : ℕ)
         → k < i * block_entries (cluster_size h.now.cluster_bits) h.now.refcount_order
         → slice_index counts.new k ≡ slice_index counts.old k }
@@ -232,6 +234,9 @@ fn read_counts<D: Device>(
     ensures counts { OnOk result
         ((file : List ℕ) → D.content dev.old ≡ Some file → table.now ≡ refcount_table file h.now
         → AreCounts file h.now counts.new 0 (length counts.old)) }
+    ensures absent { OnOk result (AreAbsentZero
+        (block_entries (cluster_size h.now.cluster_bits) h.now.refcount_order) table.now
+        counts.new (length counts.old)) }
     ensures stop { IfErr result IsRefsReadStop }
     ensures device { Reads D.Device (fault_of_refs result) dev.old dev.new }
     ensures call { FailsAt (IsBlockCall h.now (length counts.old) table.now)
@@ -321,6 +326,7 @@ pub fn load_counts<D: Device>(
     ensures blocks { IfOk result
         (λ refs. AreWholeClusters (cluster_size h.now.cluster_bits) refs.table) }
     ensures below { IfOk result (λ refs. BeginBelow (D.size dev.old) refs.table) }
+    ensures absent { IfOk result AreAbsentFree }
 
     // the device
     ensures device { Reads D.Device (fault_of_refs result) dev.old dev.new }
@@ -368,6 +374,7 @@ pub fn load_refs<D: Device>(
     ensures blocks { IfOk result
         (λ refs. AreWholeClusters (cluster_size h.now.cluster_bits) refs.table) }
     ensures below { IfOk result (λ refs. BeginBelow (D.size dev.old) refs.table) }
+    ensures absent { IfOk result AreAbsentFree }
 
     // the device
     ensures device { Reads D.Device (fault_of_refs result) dev.old dev.new }
