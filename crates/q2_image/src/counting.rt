@@ -1,12 +1,14 @@
 //! Loading the refcounts of an image, and refusing a cluster that is named and not counted.
 
 ghost use Rattle.std.specs.Prelude.{◌≡◌, ◌≤◌, ◌+◌, ◌*◌, ◌<◌, ◌^◌, ℕ, List, length, Some, None, Option, IfOk, IfErr, IfSome};
+ghost use Rattle.blk_base.specs.Calls.{FailsAt};
 ghost use Rattle.blk_base.specs.Device.{Reads};
 ghost use Rattle.q2_format.specs.Header.{CanBeRead, IsWithinLimits};
 ghost use Rattle.q2_format.specs.Sound.{lowest};
 ghost use Rattle.q2_format.specs.References.{cluster_bound, reach_of};
 ghost use Rattle.q2_format.specs.Tables.{refcount_table};
 ghost use Rattle.q2_refs.specs.Kept.{IsCountsOf};
+ghost use Rattle.q2_refs.specs.Loading.{IsBlockCall, table_call};
 ghost use Rattle.q2_image.specs.Seen.{IsSeen, is_uncounted};
 ghost use Rattle.q2_image.specs.Opening.{Judges, fault_of_image, IsNoFault, place_stops, refusal_of, uncounted_stop};
 ghost use Rattle.q2_image.specs.Loading.{counts_loaded, reserved_entry, IsTableOf, IsTableRead, IsTableAnswer, HasCounts, TableTells, IsBlockStop};
@@ -68,6 +70,8 @@ pub(crate) fn load_ref_table<D: Device>(
         → IfSome (refusal_of stop) (IsBlockStop file header.now (D.size dev.old))) }
     ensures read { IfOk result (IsTableAnswer header.now (D.size dev.old)) }
     ensures device { Reads D.Device (fault_of_image result) dev.old dev.new }
+    ensures call { FailsAt (λ call. call ≡ table_call header.now)
+        (fault_of_image result) (D.failed_call dev.new) }
 {
     match load_table(alloc, dev, header) {
         Ok(words) => Ok(RefTable::Read(words)),
@@ -99,6 +103,9 @@ pub(crate) fn load_refcounts<D: Device>(
     ensures table { IfOk result (λ refs. refs.table ≡ table.items) }
     ensures stop { IfErr result (λ stop. refusal_of stop ≡ None) }
     ensures device { Reads D.Device (fault_of_image result) dev.old dev.new }
+    ensures call { FailsAt
+        (IsBlockCall header.now (counts_loaded header.now (D.size dev.old)) table.items)
+        (fault_of_image result) (D.failed_call dev.new) }
 {
     let len = dev.length();
     let loaded = bound(header, len).max(reach(header, len));

@@ -1,8 +1,10 @@
 //! Reading and judging an image's header.
 
 ghost use Rattle.std.specs.Prelude.{◌≡◌, ◌+◌, ◌<◌, ◌^◌, ℕ, Bool, false, List, length, Some, None, Option, Err, IfOk, IfErr, IfSome};
+ghost use Rattle.blk_base.specs.Calls.{FailsAt};
 ghost use Rattle.blk_base.specs.Content.{bytes_at};
 ghost use Rattle.blk_base.specs.Device.{Reads};
+ghost use Rattle.blk_base.specs.declared.device.DeviceCall.{DeviceCall};
 ghost use Rattle.q2_format.specs.Sizes.{cluster_size};
 ghost use Rattle.q2_format.specs.Header.{header_of, header_refusal, IsWithinLimits, CanBeRead};
 ghost use Rattle.q2_format.specs.Sound.{is_misplaced};
@@ -10,6 +12,7 @@ ghost use Rattle.q2_format.specs.declared.header.HeaderStop.TheVariants.{Short};
 ghost use Rattle.q2_format.specs.declared.header.TheConstants.{MIN_HEADER_LENGTH};
 ghost use Rattle.q2_image.specs.declared.header.TheConstants.{CLUSTER};
 ghost use Rattle.q2_image.specs.Opening.{Judges, fault_of_image, IsNoFault, refusal_of, header_stops, place_stops};
+ghost use Rattle.q2_image.specs.OpeningCalls.{IsFirstCall};
 
 use crate::stop::ImageStop;
 use blk_base::{Device, NoMemory};
@@ -33,6 +36,8 @@ fn read_first_cluster<D: Device>(alloc: Global, dev: &mut D) -> Result<Vec<u8>, 
         → cluster.items ≡ bytes_at file 0 CLUSTER) }
     ensures stop { IfErr result (λ stop. refusal_of stop ≡ None) }
     ensures device { Reads D.Device (fault_of_image result) dev.old dev.new }
+    ensures call { FailsAt (λ call. call ≡ DeviceCall.Read 0 CLUSTER)
+        (fault_of_image result) (D.failed_call dev.new) }
 {
     let mut cluster = cluster_buffer(alloc)?;
     match dev.read_at(0, &mut cluster) {
@@ -54,6 +59,8 @@ pub(crate) fn open_header<D: Device>(alloc: Global, dev: &mut D) -> Result<Heade
     ensures readable { IfOk result (λ h. CanBeRead h (D.size dev.old)) }
     ensures short { D.size dev.old < MIN_HEADER_LENGTH → result ≡ Err (ImageStop.Header Short) }
     ensures device { Reads D.Device (fault_of_image result) dev.old dev.new }
+    ensures call { FailsAt (IsFirstCall (D.size dev.old))
+        (fault_of_image result) (D.failed_call dev.new) }
 {
     let len = dev.length();
     if len < u64::from(MIN_HEADER_LENGTH) {

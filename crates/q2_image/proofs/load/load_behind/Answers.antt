@@ -1,7 +1,9 @@
 use Rattle.std.proofs.Common.{◌≡◌, ℕ, Option, None, sym, ap, subst, ◌∙◌}
+use Rattle.blk_base.specs.Calls.{FailsAt}
 use Rattle.blk_base.specs.Device.{Reads}
+use Rattle.blk_base.specs.declared.device.DeviceCall.{DeviceCall}
 use Rattle.q2_format.specs.Tables.{active_tree, refcount_table}
-use Rattle.q2_tables.specs.Loading.{fault_in_tables}
+use Rattle.q2_tables.specs.Loading.{fault_in_tables, IsTablesCall}
 use Rattle.q2_image.specs.Loading.{table_stops, reserved_entry, TableTells, IsTableOf, IsTableAnswer}
 use Rattle.q2_image.specs.Opening.{Names, fault_in_image}
 use Rattle.q2_image.specs.Merge.{merged_stop}
@@ -55,3 +57,10 @@ returns-in-Err-clause-device g c =
     let same : fault_in_image c.merge.result ≡ fault_in_tables c.in-Err.stop =
     ap fault_in_image c.merge.ensures ∙ merged_fault c.args.header.now c.reserved_in.result c.in-Err.stop in
     subst (λ told. Reads g.D.Device told c.args.dev.now c.load_tables.new.dev) (sym same) c.in-Err.ensures.device
+
+pub returns-in-Err-clause-call : goal.returns-in-Err-clause-call
+returns-in-Err-clause-call g c =
+    let same : fault_in_image c.merge.result ≡ fault_in_tables c.in-Err.stop =
+    ap fault_in_image c.merge.ensures ∙ merged_fault c.args.header.now c.reserved_in.result c.in-Err.stop in
+    let P : DeviceCall → Type 0 = IsTablesCall c.args.header.now (g.D.Device.size c.args.dev.now) (g.D.Device.content c.args.dev.now) in
+    subst (λ told. FailsAt P told (g.D.Device.failed_call c.load_tables.new.dev)) (sym same) c.in-Err.ensures.call
