@@ -15,7 +15,7 @@ use Rattle.q2_format.specs.Tables.{active_tree, tree_at, l2_table, l2_word_of}
 use Rattle.q2_format.specs.declared.header.Header.{Header}
 use Rattle.q2_format.proofs.Trees.{l1_of_tree, l2_of_tree}
 use Rattle.q2_tables.specs.Kept.{KeptTables, IsTreeOf}
-use Rattle.q2_tables.specs.Words.{AreTablesOf}
+use Rattle.q2_tables.specs.Words.{AreTablesOf, AreUnnamedZero}
 use Rattle.q2_format.proofs.ByPlace.{big_from-moved, get_or-words_at, length-words_at}
 
 -- Words out of a buffer.
@@ -153,6 +153,37 @@ fewer_zeros e i words zeros_there = λ n from. zeros_there n (omega arith)
 
 pub row_below : (n i e k : ℕ) → n ≤ i → k < n * e → k < i * e
 row_below n i e k past below = grind arith
+
+-- Words under entries that name no table.
+
+unnamed_further : (e i : ℕ) (l1 old new : List ℕ) → AreUnnamedZero e l1 old (i * e) → ((k : ℕ) → k < i * e → get_or new k 0 ≡ get_or old k 0)
+    → (host_offset (get_or l1 i 0) ≡ 0 → (k : ℕ) → i * e ≤ k → get_or new k 0 ≡ 0) → AreUnnamedZero e l1 new ((i + 1) * e)
+unnamed_further e i l1 old new had same here = λ k below none. elim (cases_lt k (i * e)) [
+  | inl before ↦ same k before ∙ had k before none
+  | inr from ↦
+      let place : i * e + (k - i * e) ≡ k = omega arith in
+      let row : (i + 1) * e ≡ i * e + e = omega arith in
+      let column : k - i * e < e = omega (arith, row) in
+      let at : k / e ≡ i = ap (λ (m : ℕ). m / e) (sym place) ∙ div-mul-add i e (k - i * e) column in
+      here (ap (λ (m : ℕ). host_offset (get_or l1 m 0)) (sym at) ∙ none) k from
+]
+
+pub unnamed_passed : (e i : ℕ) (l1 words : List ℕ) → AreUnnamedZero e l1 words (i * e) → HasZerosFrom e i words → AreUnnamedZero e l1 words ((i + 1) * e)
+unnamed_passed e i l1 words had zeros_there = unnamed_further e i l1 words words had (λ k below. refl) (λ none. zeros_there)
+
+pub unnamed_read : (e i k : ℕ) (l1 words table : List ℕ) → AreUnnamedZero e l1 words (i * e) → host_offset (get_or l1 i 0) ≢ 0 → (i + 1) * e ≤ length words
+    → k ≡ e → length table ≡ length (mid_of (i * e) k words) → AreUnnamedZero e l1 (put_mid (i * e) k words table) ((i + 1) * e)
+unnamed_read e i k l1 words table had some fits size same =
+    let room : i * e + e ≤ length words = omega arith in
+    let whole : length table ≡ e = same ∙ part_length words (i * e) k e room size in
+    unnamed_further e i l1 words (put_mid (i * e) k words table) had (part_before words table (i * e) k e room size whole) (λ none. absurd (some none))
+
+pub all_unnamed : (e n i len : ℕ) (l1 words : List ℕ) → AreUnnamedZero e l1 words (i * e) → n ≤ i → len ≡ n * e → AreUnnamedZero e l1 words len
+all_unnamed e n i len l1 words had past is = λ k below. had k (row_below n i e k past (omega (arith, below, is)))
+
+pub unnamed_kept : (e f : ℕ) (l m words : List ℕ) (n len : ℕ) → e ≡ f → l ≡ m → n ≡ len → AreUnnamedZero e l words n → AreUnnamedZero f m words len
+unnamed_kept e f l m words n len same list size had =
+    subst (λ (x : ℕ). AreUnnamedZero f m words x) size (subst (λ (x : List ℕ). AreUnnamedZero f x words n) list (subst (λ (x : ℕ). AreUnnamedZero x l words n) same had))
 
 -- after the last
 pub all_tables : (file : List ℕ) (c i : ℕ) (l1 words : List ℕ) → HasTables file c i l1 words → length l1 ≤ i → AreTablesOf file c l1 words

@@ -1,5 +1,5 @@
 -- What loading refuses, and what it keeps.
-use Rattle.std.specs.Prelude.{◌≡◌, ◌≢◌, ◌⊎◌, ℕ, ◌*◌, ◌/◌, ◌<◌, true, false, List, [], ◌∷◌, length, slice_index, Option, None, Some, Result, Ok, Err}
+use Rattle.std.specs.Prelude.{◌≡◌, ◌≢◌, ◌⊎◌, ℕ, ◌*◌, ◌<◌, true, false, List, [], ◌∷◌, length, slice_index, Option, None, Some, Result, Ok, Err}
 use Rattle.std.specs.Option.{option_map}
 use Rattle.blk_base.specs.Files.{IfTold}
 use Rattle.blk_base.specs.declared.device.DeviceCall.{DeviceCall}
@@ -13,7 +13,7 @@ use Rattle.q2_format.specs.References.{own_offset}
 use Rattle.q2_format.specs.Sound.{is_misplaced, bad_l1_table, bad_l2_table, bad_host, reserved_in_l1, reserved_in_l2, compressed_cluster}
 use Rattle.q2_format.specs.declared.header.Header.{Header}
 use Rattle.q2_tables.specs.Kept.{KeptTables, IsTreeOf, is_plain}
-use Rattle.q2_tables.specs.Words.{misplaced_table}
+use Rattle.q2_tables.specs.Words.{AreUnnamedZero, misplaced_table}
 use Rattle.q2_tables.specs.declared.stop.TablesStop.{TablesStop}
 use Rattle.q2_tables.specs.declared.stop.TablesStop.TheVariants.{Offset, ReservedInL1, ReservedInL2, Compressed, Io, NoMemory}
 
@@ -67,9 +67,7 @@ pub record IsLoaded (h : Header) (len : ℕ) (kept : KeptTables) : Type 0 where
   pub hosts : (cluster : ℕ) → cluster < length kept.words
       → is_misplaced kept.c len (own_offset (slice_index kept.words cluster)) ≡ false
   -- a cluster without an L2 table has no word
-  pub unnamed : (cluster : ℕ) → cluster < length kept.words
-      → host_offset (slice_index kept.l1 (cluster / entries_in_cluster kept.c)) ≡ 0
-      → slice_index kept.words cluster ≡ 0
+  pub unnamed : AreUnnamedZero (entries_in_cluster kept.c) kept.l1 kept.words (length kept.words)
   pub unreserved : (i : ℕ) → i < length kept.l1 → has_reserved_in_l1 (slice_index kept.l1 i) ≡ false
   pub plain : (cluster : ℕ) → cluster < length kept.words
       → is_plain (slice_index kept.words cluster) ≡ true

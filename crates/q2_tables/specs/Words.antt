@@ -19,6 +19,12 @@ pub record AreTablesOf (file : List ℕ) (c : ℕ) (l1 words : List ℕ) : Type 
       ≡ slice_index (l2_table file c (slice_index l1 (k / entries_in_cluster c)))
       (k % entries_in_cluster c)
 
+-- Of the first words, below a number, those under an entry of an L1 table that names no table are 0, where each table has so
+-- many.
+abbrev pub AreUnnamedZero : ℕ → List ℕ → List ℕ → ℕ → Type 0
+AreUnnamedZero entries l1 words below = (k : ℕ) → k < below
+    → host_offset (slice_index l1 (k / entries)) ≡ 0 → slice_index words k ≡ 0
+
 -- the read of an L2 table of `c` bytes that an entry of an L1 table names
 abbrev pub IsReadOfTable : ℕ → List ℕ → DeviceCall → Type 0
 IsReadOfTable c l1 call =

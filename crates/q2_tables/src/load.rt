@@ -9,7 +9,7 @@ ghost use Rattle.q2_format.specs.Header.{CanBeRead};
 ghost use Rattle.q2_format.specs.Sound.{bad_l1_table};
 ghost use Rattle.q2_format.specs.Tables.{active_tree};
 ghost use Rattle.q2_tables.specs.Loading.{Loads, fault_of_tables, load_refusal, IsLoaded, IsTableRefusal, IsTablesCall};
-ghost use Rattle.q2_tables.specs.Words.{AreTablesOf, IsReadOfTable, IsTablesReadStop, misplaced_table};
+ghost use Rattle.q2_tables.specs.Words.{AreTablesOf, AreUnnamedZero, IsReadOfTable, IsTablesReadStop, misplaced_table};
 ghost use Rattle.q2_tables.specs.declared.stop.TablesStop.TheVariants.{Offset};
 
 use crate::check::{check_l1_table, check_l2_tables, check_words};
@@ -62,6 +62,8 @@ fn read_l2_tables<D: Device>(
     ensures told { OnOk result
         ((file : List ℕ) → D.content dev.old ≡ Some file
         → AreTablesOf file (length buffer.old) l1.now words.new) }
+    ensures unnamed { OnOk result (AreUnnamedZero (entries_in_cluster (length buffer.old)) l1.now
+        words.new (length words.old)) }
     ensures stop { IfErr result IsTablesReadStop }
     ensures device { Reads D.Device (fault_of_tables result) dev.old dev.new }
     ensures call { FailsAt (IsReadOfTable (length buffer.old) l1.now)
@@ -128,6 +130,9 @@ fn read_l2<D: Device>(
     ensures told { IfOk result
         (λ words. (file : List ℕ) → D.content dev.old ≡ Some file
         → AreTablesOf file (length buffer.old) l1.now words.items) }
+    ensures unnamed { IfOk result
+        (λ words. AreUnnamedZero (entries_in_cluster (length buffer.old)) l1.now words.items
+        (length words.items)) }
     ensures len { IfOk result
         (λ words. length words.items ≡ length l1.now * entries_in_cluster (length buffer.old)) }
     ensures stop { IfErr result IsTablesReadStop }

@@ -8,7 +8,7 @@ use Rattle.q2_format.specs.Sound.{is_misplaced}
 use Rattle.q2_tables.specs.Kept.{KeptTables, IsTreeOf}
 use Rattle.q2_tables.specs.Loading.{load_refusal}
 use Rattle.q2_tables.specs.Words.{misplaced_table, refused_words}
-use Rattle.q2_tables.proofs.Loaded.{read_as, filled_again}
+use Rattle.q2_tables.proofs.Loaded.{read_as, filled_again, unnamed_kept}
 use Rattle.q2_tables.proofs.Refusals.{refused_of, in_order, tables_placed, l1_placed, placed_parts, aligned_to_entries}
 use Rattle.q2_tables.proofs.load.load_tables.Goals as goal
 
@@ -79,6 +79,8 @@ returns-clause-loaded g c =
           ∙ ap (λ (m : ℕ). length l1 * entries_in_cluster m) room;
       tables = tables_placed n (g.D.Device.size c.args.dev.now) l1 tables;
       hosts = found.hosts;
+      unnamed = unnamed_kept (entries_in_cluster (length c.as_mut_slice.result.now)) (entries_in_cluster n) c.as_slice.result.now l1 words (length words) (length words)
+          (ap entries_in_cluster room) c.as_slice.ensures.value refl c.in_ok-words.ensures.unnamed;
       unreserved = found.unreserved;
       plain = found.plain;
     }
