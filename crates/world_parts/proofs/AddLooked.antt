@@ -21,7 +21,7 @@ use Rattle.qmp_asks.specs.declared.look.Look.TheVariants as look
 use Rattle.qmp_rules.specs.declared.told.Told.{Told}
 use Rattle.flat_machine.specs.Wiring.{HaveDistinctIds}
 use Rattle.flat_machine.proofs.Accepted.{is_protocol}
-use Rattle.world_parts.specs.Adding.{Adding, IsTakenOut, Looks, Opens, Taken}
+use Rattle.world_parts.specs.Adding.{Adding, IsTakenOut, Looks, Opens, Taken, opening_of}
 use Rattle.world_parts.specs.Coherent.{AreAlike, AreNodesOf}
 use Rattle.world_parts.specs.Looking.{HasCalled, HasLooked, HaveFileNodes, LooksAtImage, LooksAtPart, LooksBy, Site}
 use Rattle.world_parts.specs.Staging.{IsOutForAddition, opened_name}
@@ -51,7 +51,7 @@ called_itself nodes = record { kept = refl; risen = risen-itself nodes.devices; 
 
 pub taken-is-out : (old new : StoreInRun) (name : List ℕ) (device : Taken) → IsTakenOut old new name device → is_out name new.opened ≡ true
 taken-is-out old new name device out =
-    ap (λ (s : StoreInRun). is_out name s.opened) out.kept ∙ out-opened name old.opened device.size device.capacity device.faults
+    ap (λ (s : StoreInRun). is_out name s.opened) out.kept ∙ out-opened old.opened (opening_of name device) refl
 
 module _ (t : RunTable) (c : Adding) (told : Told) (old new : StoreInRun) (image : Option Known) where
   out-at : (at : Opens) (out : Option Taken) → Looks t c at old new out image told → (device : Taken) → out ≡ Some device → is_out at.filename new.opened ≡ true

@@ -1,9 +1,10 @@
 -- What is found in lists of which one element has gone, and openings of which one is back.
 use Rattle.std.proofs.Common.{◌≡◌, ◌≢◌, ◌⊎◌, ℕ, zero, suc, Bool, true, false, cond, List, [], ◌∷◌, get_or, Some, None, refl, sym, ◌∙◌, ap, subst, arith, inl, inr}
-use Rattle.std.specs.Prelude.{IsSome, Contains, AllPairs, find, filter, slice_get, ◌||◌}
+use Rattle.std.specs.Prelude.{Option, IsSome, Contains, AllPairs, find, filter, slice_get, ◌||◌}
 use Rattle.std.proofs.lemmas.Bool.{cases_lt}
 use Rattle.std.proofs.lemmas.List.{get_or_default}
-use Rattle.blk_base.specs.Files.{is_out_as, is_out, given_back}
+use Rattle.blk_base.specs.Files.{is_out_as, is_out, closed_with, given_back}
+use Rattle.blk_base.specs.declared.device.DeviceCall.{DeviceCall}
 use Rattle.blk_base.specs.declared.file.Opened.{Opened}
 use Rattle.blk_graph.proofs.Members.{Contains-nil, Contains-here, Contains-there, Contains-cases}
 
@@ -93,25 +94,25 @@ out_there name (p ∷ opened) (suc k) o at out = rw (out_there name opened k o a
     or_true true = refl
     or_true false = refl
 
--- its opening has its count once it is back
-pub given-there : (name : List ℕ) (count : ℕ) (opened : List Opened) (k : ℕ) (o : Opened) → IsOnlyOut name opened k o
-    → slice_get (given_back name count opened) k ≡ Some (record o { returned = Some count })
-given-there name count [] k o is = absurd (let bad : ⊥ = cc is.at in bad)
-given-there name count (p ∷ opened) zero o is =
+-- its opening has its count and its call once it is back
+pub given-there : (name : List ℕ) (count : ℕ) (call : Option DeviceCall) (opened : List Opened) (k : ℕ) (o : Opened) → IsOnlyOut name opened k o
+    → slice_get (given_back name count call opened) k ≡ Some (closed_with count call o)
+given-there name count call [] k o is = absurd (let bad : ⊥ = cc is.at in bad)
+given-there name count call (p ∷ opened) zero o is =
     let same : p ≡ o = cc is.at in
     rw (same, is.out) refl
-given-there name count (p ∷ opened) (suc k) o is =
-    rw (first_is_in name p opened k o is) (given-there name count opened k o (later name p opened k o is))
+given-there name count call (p ∷ opened) (suc k) o is =
+    rw (first_is_in name p opened k o is) (given-there name count call opened k o (later name p opened k o is))
 
 -- and all others are as before
-pub given-other : (name : List ℕ) (count : ℕ) (opened : List Opened) (k : ℕ) (o : Opened) → IsOnlyOut name opened k o
-    → (j : ℕ) → j ≢ k → slice_get (given_back name count opened) j ≡ slice_get opened j
-given-other name count [] k o is j apart = absurd (let bad : ⊥ = cc is.at in bad)
-given-other name count (p ∷ opened) zero o is zero apart = absurd (apart refl)
-given-other name count (p ∷ opened) zero o is (suc j) apart =
+pub given-other : (name : List ℕ) (count : ℕ) (call : Option DeviceCall) (opened : List Opened) (k : ℕ) (o : Opened) → IsOnlyOut name opened k o
+    → (j : ℕ) → j ≢ k → slice_get (given_back name count call opened) j ≡ slice_get opened j
+given-other name count call [] k o is j apart = absurd (let bad : ⊥ = cc is.at in bad)
+given-other name count call (p ∷ opened) zero o is zero apart = absurd (apart refl)
+given-other name count call (p ∷ opened) zero o is (suc j) apart =
     let same : p ≡ o = cc is.at in
     rw (same, is.out) refl
-given-other name count (p ∷ opened) (suc k) o is zero apart = rw (first_is_in name p opened k o is) refl
-given-other name count (p ∷ opened) (suc k) o is (suc j) apart =
+given-other name count call (p ∷ opened) (suc k) o is zero apart = rw (first_is_in name p opened k o is) refl
+given-other name count call (p ∷ opened) (suc k) o is (suc j) apart =
     rw (first_is_in name p opened k o is)
-    (given-other name count opened k o (later name p opened k o is) j (λ same. apart (ap suc same)))
+    (given-other name count call opened k o (later name p opened k o is) j (λ same. apart (ap suc same)))

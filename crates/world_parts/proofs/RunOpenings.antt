@@ -7,6 +7,7 @@ use Rattle.std.proofs.lemmas.List.Folds.{list_any-append}
 use Rattle.std.proofs.Math.Seq.{drop-append_seam, take-append_seam}
 use Rattle.blk_base.specs.Answers.{CreateAnswers, IsIn, OpenAnswers}
 use Rattle.blk_base.specs.Files.{is_out, is_out_as, given_back}
+use Rattle.blk_base.specs.declared.device.DeviceCall.{DeviceCall}
 use Rattle.blk_base.specs.declared.file.File.{File}
 use Rattle.blk_base.specs.declared.store.StoreStop.{StoreStop}
 use Rattle.blk_base.specs.declared.store.StoreStop.TheVariants.{Absent, InUse, TooLong, Failed, NoMemory}
@@ -79,34 +80,34 @@ out-last n opened last name =
 
 -- ---- one that comes back
 
-back-behind : (name : List ℕ) (count : ℕ) (xs ys : List Opened) → is_out name xs ≡ false → given_back name count (xs ++ ys) ≡ xs ++ given_back name count ys
-back-behind name count [] ys none = refl
-back-behind name count (x ∷ xs) ys none = by_test (is_out_as name x) refl (back-behind name count xs ys)
+back-behind : (name : List ℕ) (count : ℕ) (call : Option DeviceCall) (xs ys : List Opened) → is_out name xs ≡ false → given_back name count call (xs ++ ys) ≡ xs ++ given_back name count call ys
+back-behind name count call [] ys none = refl
+back-behind name count call (x ∷ xs) ys none = by_test (is_out_as name x) refl (back-behind name count call xs ys)
   where
-    by_test : (b : Bool) → is_out_as name x ≡ b → (is_out name xs ≡ false → given_back name count (xs ++ ys) ≡ xs ++ given_back name count ys)
-        → given_back name count (x ∷ xs ++ ys) ≡ x ∷ xs ++ given_back name count ys
+    by_test : (b : Bool) → is_out_as name x ≡ b → (is_out name xs ≡ false → given_back name count call (xs ++ ys) ≡ xs ++ given_back name count call ys)
+        → given_back name count call (x ∷ xs ++ ys) ≡ x ∷ xs ++ given_back name count call ys
     by_test true is rest = absurd (let bad : true ≡ false = rw is at none in false≢true (sym bad))
     by_test false is rest =
         let later : is_out name xs ≡ false = rw is at none in
         rw is (ap (λ (more : List Opened). x ∷ more) (rest later))
 
 -- openings are as many once one is back
-pub length-back : (name : List ℕ) (count : ℕ) (xs : List Opened) → length (given_back name count xs) ≡ length xs
-length-back name count [] = refl
-length-back name count (x ∷ xs) = by_test (is_out_as name x) refl (length-back name count xs)
+pub length-back : (name : List ℕ) (count : ℕ) (call : Option DeviceCall) (xs : List Opened) → length (given_back name count call xs) ≡ length xs
+length-back name count call [] = refl
+length-back name count call (x ∷ xs) = by_test (is_out_as name x) refl (length-back name count call xs)
   where
-    by_test : (b : Bool) → is_out_as name x ≡ b → length (given_back name count xs) ≡ length xs → length (given_back name count (x ∷ xs)) ≡ length (x ∷ xs)
+    by_test : (b : Bool) → is_out_as name x ≡ b → length (given_back name count call xs) ≡ length xs → length (given_back name count call (x ∷ xs)) ≡ length (x ∷ xs)
     by_test true is rest = rw is refl
     by_test false is rest = rw is (ap suc rest)
 
-module _ (n : ℕ) (opened : List Opened) (last : AreLast n opened) (name : List ℕ) (count : ℕ) where
+module _ (n : ℕ) (opened : List Opened) (last : AreLast n opened) (name : List ℕ) (count : ℕ) (call : Option DeviceCall) where
   abbrev seam : ℕ
   seam = length opened - n
 
-  split : given_back name count opened ≡ first_opened n opened ++ given_back name count (last_opened n opened)
+  split : given_back name count call opened ≡ first_opened n opened ++ given_back name count call (last_opened n opened)
   split =
-      ap (given_back name count) (sym (take-append-drop seam opened))
-      ∙ back-behind name count (first_opened n opened) (last_opened n opened) (last.back name)
+      ap (given_back name count call) (sym (take-append-drop seam opened))
+      ∙ back-behind name count call (first_opened n opened) (last_opened n opened) (last.back name)
 
   length-first : length (first_opened n opened) ≡ seam
   length-first =
@@ -115,24 +116,24 @@ module _ (n : ℕ) (opened : List Opened) (last : AreLast n opened) (name : List
       let rest = length-last n opened last in
       omega (arith, all, rest)
 
-  seam-back : length (given_back name count opened) - n ≡ length (first_opened n opened)
-  seam-back = let same = length-back name count opened in let first = length-first in omega (arith, same, first)
+  seam-back : length (given_back name count call opened) - n ≡ length (first_opened n opened)
+  seam-back = let same = length-back name count call opened in let first = length-first in omega (arith, same, first)
 
-  pub last-back : last_opened n (given_back name count opened) ≡ given_back name count (last_opened n opened)
+  pub last-back : last_opened n (given_back name count call opened) ≡ given_back name count call (last_opened n opened)
   last-back =
-      ap (λ (k : ℕ). drop k (given_back name count opened)) seam-back
+      ap (λ (k : ℕ). drop k (given_back name count call opened)) seam-back
       ∙ ap (drop (length (first_opened n opened))) split
-      ∙ drop-append_seam (first_opened n opened) (given_back name count (last_opened n opened))
+      ∙ drop-append_seam (first_opened n opened) (given_back name count call (last_opened n opened))
 
-  pub first-back : first_opened n (given_back name count opened) ≡ first_opened n opened
+  pub first-back : first_opened n (given_back name count call opened) ≡ first_opened n opened
   first-back =
-      ap (λ (k : ℕ). take k (given_back name count opened)) seam-back
+      ap (λ (k : ℕ). take k (given_back name count call opened)) seam-back
       ∙ ap (take (length (first_opened n opened))) split
-      ∙ take-append_seam (first_opened n opened) (given_back name count (last_opened n opened))
+      ∙ take-append_seam (first_opened n opened) (given_back name count call (last_opened n opened))
 
-  pub are-last-back : AreLast n (given_back name count opened)
+  pub are-last-back : AreLast n (given_back name count call opened)
   are-last-back =
-      let same = length-back name count opened in
+      let same = length-back name count call opened in
       record { many = omega (arith, same, last.many); back = λ other. ap (is_out other) first-back ∙ last.back other }
 
 -- ---- answers of the store, by the openings of the run

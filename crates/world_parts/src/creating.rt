@@ -106,7 +106,7 @@ fn make_file<S: Store>(store: &mut RunStore<S>, name: &str, size: u64) -> Result
     ensures made { OnOk result
         (seen_in_run store.new ≡ with_zeroed_file name.now size (seen_in_run store.old)) }
     ensures stop { IfErr result
-        (IsUnmade name.now (seen_in_run store.old) (seen_in_run store.new)) }
+        (IsUnmade name.now size (seen_in_run store.old) (seen_in_run store.new)) }
     ensures earlier { store.new.earlier ≡ store.old.earlier }
     ensures faults { store.old.faults ≤ store.new.faults }
 {

@@ -1,12 +1,13 @@
 //! A store, of whose openings a run counts its own.
 ghost use Rattle.std.specs.Prelude.{◌≡◌, ◌≢◌, ◌≤◌, ℕ, List, [], ◌∷◌, ◌++◌, length, replicate, None, option_map, true, false, IsTrue, IfOk, IfErr, OnOk, OnErr, MatchResult};
 ghost use Rattle.blk_base.specs.Answers.{CreateAnswers, StandsUnlessFailed};
+ghost use Rattle.blk_base.specs.Calls.{IsStoreCallAfter};
 ghost use Rattle.blk_base.specs.Device.{opened_now};
 ghost use Rattle.blk_base.specs.Files.{given_back, is_out, put_file};
 ghost use Rattle.blk_base.specs.Stored.{IsDeviceOf, LeavesOthers, files_with_returned};
 ghost use Rattle.world_parts.specs.Stores.{CanBeOpened, StopsOpening, found_store};
 
-use blk_base::{DevNo, Device, Store, StoreStop};
+use blk_base::{DevNo, Device, Store, StoreCall, StoreStop};
 use std::marker::Model;
 
 /// A store, and how many of its openings are this run's: the last ones. Those before them are over.
@@ -26,6 +27,7 @@ impl<S: Store> Model for RunStore<S> {
       opened = last_opened r.openings (S.opened r.store);
       room = S.room r.store;
       faults = S.faults r.store;
+      failed_call = S.failed_call r.store;
     } };
 
     ghost invariant = { λ r. AreLast r.openings (S.opened r.store) };
@@ -36,7 +38,8 @@ impl<S: Store> RunStore<S> {
     pub fn new(store: S) -> Self
         requires { (name : List ℕ) → is_out name (S.opened store) ≡ false }
         ensures { result
-            ≡ found_store (S.files store) (S.opened store) (S.room store) (S.faults store) }
+            ≡ found_store (S.files store) (S.opened store) (S.room store) (S.faults store)
+            (S.failed_call store) }
     {
         RunStore { store, openings: 0 }
     }
@@ -51,10 +54,15 @@ impl<S: Store> RunStore<S> {
               opened = self.old.opened
                   ++ opened_now S.Dev.Device name.now out.0 ∷ [];
             })
-            (λ _. self.new ≡ record self.old { faults = self.new.faults }) }
+            (λ _. self.new ≡ record self.old {
+              faults = self.new.faults;
+              failed_call = self.new.failed_call;
+            }) }
         ensures there { OnOk result (CanBeOpened name.now self.old) }
         ensures cause { IfErr result (StopsOpening name.now self.old self.new.faults) }
         ensures quiet { StandsUnlessFailed self.old.faults self.new.faults result }
+        ensures call { IsStoreCallAfter result (record { name = name.now; call = StoreCall.Open })
+            self.old.failed_call self.new.failed_call }
         ensures faults { self.old.faults ≤ self.new.faults }
     {
         let number = self.openings;
@@ -86,8 +94,14 @@ impl<S: Store> RunStore<S> {
         ensures cause { CreateAnswers name.now len self.old.room self.old.opened
             self.old.faults self.new.faults result }
         ensures quiet { StandsUnlessFailed self.old.faults self.new.faults result }
-        ensures kept { self.new
-            ≡ record self.old { files = self.new.files; faults = self.new.faults } }
+        ensures call { IsStoreCallAfter result
+            (record { name = name.now; call = StoreCall.Create len })
+            self.old.failed_call self.new.failed_call }
+        ensures kept { self.new ≡ record self.old {
+          files = self.new.files;
+          faults = self.new.faults;
+          failed_call = self.new.failed_call;
+        } }
         ensures faults { self.old.faults ≤ self.new.faults }
     {
         self.store.create_file(name, len)
@@ -99,7 +113,8 @@ impl<S: Store> RunStore<S> {
         ensures { self.new ≡ record self.old {
           files = files_with_returned name.now (S.Dev.content device) (S.Dev.capacity device)
               (S.Dev.is_flushed device) self.old.files;
-          opened = given_back name.now (S.Dev.faults device) self.old.opened;
+          opened = given_back name.now (S.Dev.faults device) (S.Dev.failed_call device)
+              self.old.opened;
         } }
     {
         self.store.give_back(name, device);
@@ -126,6 +141,7 @@ impl<S: Store> RunStore<S> {
         ensures earlier { (name : List ℕ) → is_out name self.earlier ≡ false }
         ensures room { S.room result ≡ self.room }
         ensures faults { S.faults result ≡ self.faults }
+        ensures call { S.failed_call result ≡ self.failed_call }
     {
         let RunStore { store, openings: _ } = self;
         store

@@ -20,6 +20,7 @@ returns-in-Err-clause-cause g c =
       opened = last_opened c.self.inside.openings whole;
       room = g.S.Store.room c.self.inside.store;
       faults = g.S.Store.faults c.self.inside.store;
+      failed_call = g.S.Store.failed_call c.self.inside.store;
     } in
     subst (λ (v : StoreInRun). StopsOpening c.args.name.now v (g.S.Store.faults c.open_file.new.self) c.in-Err.stop) c.self.view_is
     (stops-last c.args.name.now seen whole (g.S.Store.faults c.open_file.new.self) c.open_file.result c.in-Err.stop
