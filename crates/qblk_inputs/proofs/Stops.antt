@@ -3,6 +3,7 @@ use Rattle.std.proofs.Common.{◌≡◌, ℕ, ◌<◌, ◌≤◌, List, length, 
 use Rattle.std.specs.Prelude.{IsUtf8}
 use Rattle.blk_base.specs.Answers.{HasFile}
 use Rattle.blk_base.specs.Files.{IfTold}
+use Rattle.blk_base.specs.declared.file.CallOnFile.{CallOnFile}
 use Rattle.blk_base.specs.declared.file.File.{File}
 use Rattle.trace_codec.specs.Amounts.{Amounts}
 use Rattle.trace_codec.specs.Script.{Order, orders_of, count_of_lines}
@@ -15,7 +16,7 @@ use Rattle.qblk_inputs.specs.declared.stop.InputFlaw.TheVariants.{Absent, NotUtf
 use Rattle.qblk_inputs.specs.declared.stop.InputStop.{InputStop}
 use Rattle.qblk_inputs.specs.declared.stop.InputStop.TheVariants.{Refused, Failed, NoMemory}
 use Rattle.qblk_inputs.specs.Inputs.{IsText, IsScript, ReadsAsTrace, IsBadText, IsRefusedScript, IsRefusedTrace, IsScriptFlaw, IsTraceFlaw}
-use Rattle.qblk_inputs.specs.Reading.{IsReadOfFile, IsUnread, IsUnreadFlaw, IsInputRefusal, StopsFor, OfFile, IsShortFile, OnFile, FailsOn, StopsOn}
+use Rattle.qblk_inputs.specs.Reading.{IsReadOfFile, IsUnread, IsUnreadFlaw, IsInputRefusal, StopsFor, OfFile, IsShortFile, OnFile, FailsOn, StopsOn, input_read}
 use Rattle.qblk_inputs.proofs.LineNumbers.{wishes_at_line}
 
 pub told_map : {A : Type 0} (o : Option A) (P Q : A → Type 0) → ((a : A) → P a → Q a) → IfTold o P → IfTold o Q
@@ -53,19 +54,19 @@ stops_of Q P name a b before now stop is h =
 
 -- ---- which file a call failed on
 
-pub refused_on : (P : List ℕ → Type 0) (name : List ℕ) (line : ℕ) (why : InputFlaw) (before now : Option (List ℕ)) (stop : InputStop)
+pub refused_on : (P : List ℕ → Type 0) (name : List ℕ) (line : ℕ) (why : InputFlaw) (before now : Option CallOnFile) (stop : InputStop)
     → IsInputRefusal name line why stop → now ≡ before → StopsOn P before now stop
 refused_on P name line why before now (Refused n l w) is same = same
 refused_on P name line why before now NoMemory is same = same
 refused_on P name line why before now (Failed count) is same = absurd is
 
-pub stops_on_more : (P Q : List ℕ → Type 0) (before now : Option (List ℕ)) (stop : InputStop) → ((name : List ℕ) → P name → Q name)
+pub stops_on_more : (P Q : List ℕ → Type 0) (before now : Option CallOnFile) (stop : InputStop) → ((name : List ℕ) → P name → Q name)
     → StopsOn P before now stop → StopsOn Q before now stop
 stops_on_more P Q before now (Refused name line why) f h = h
 stops_on_more P Q before now (Failed count) f h = (h.0, f h.0 h.1, h.2)
 stops_on_more P Q before now NoMemory f h = h
 
-pub failed_on : (told : Option (List File)) (name : List ℕ) (now : Option (List ℕ)) → IfTold told (IsShortFile name) → IfTold now (λ last. last ≡ name) → FailsOn (OnFile told name) now
+pub failed_on : (told : Option (List File)) (name : List ℕ) (now : Option CallOnFile) → IfTold told (IsShortFile name) → IfTold now (λ last. last ≡ record { name = name; call = input_read }) → FailsOn input_read (OnFile told name) now
 failed_on told name now short last = (name, (refl, short), last)
 
 -- ---- a file that isn't read

@@ -49,8 +49,8 @@ fn read_file<S: Store>(alloc: Global, store: &mut S, name: &str) -> Result<Bytes
         (OfFile (S.files store.old) name.now IsUnreadFlaw IsUnread)
         (S.faults store.old) (S.faults store.new)) }
     ensures file { IfErr result (StopsOn (OnFile (S.files store.old) name.now)
-        (S.failed_file store.old) (S.failed_file store.new)) }
-    ensures last { OnOk result (S.failed_file store.new ≡ S.failed_file store.old) }
+        (S.failed_call store.old) (S.failed_call store.new)) }
+    ensures last { OnOk result (S.failed_call store.new ≡ S.failed_call store.old) }
     ensures files { S.files store.new ≡ S.files store.old }
     ensures opened { S.opened store.new ≡ S.opened store.old }
     ensures room { S.room store.new ≡ S.room store.old }
@@ -83,8 +83,8 @@ fn read_orders<S: Store>(
         (OfFile (S.files store.old) name.now IsScriptFlaw IsRefusedScript)
         (S.faults store.old) (S.faults store.new)) }
     ensures file { IfErr result (StopsOn (OnFile (S.files store.old) name.now)
-        (S.failed_file store.old) (S.failed_file store.new)) }
-    ensures last { OnOk result (S.failed_file store.new ≡ S.failed_file store.old) }
+        (S.failed_call store.old) (S.failed_call store.new)) }
+    ensures last { OnOk result (S.failed_call store.new ≡ S.failed_call store.old) }
     ensures files { S.files store.new ≡ S.files store.old }
     ensures opened { S.opened store.new ≡ S.opened store.old }
     ensures room { S.room store.new ≡ S.room store.old }
@@ -118,8 +118,8 @@ fn read_trace<S: Store>(
         (OfFile (S.files store.old) name.now IsTraceFlaw (IsRefusedTrace asked.old))
         (S.faults store.old) (S.faults store.new)) }
     ensures file { IfErr result (StopsOn (OnFile (S.files store.old) name.now)
-        (S.failed_file store.old) (S.failed_file store.new)) }
-    ensures last { OnOk result (S.failed_file store.new ≡ S.failed_file store.old) }
+        (S.failed_call store.old) (S.failed_call store.new)) }
+    ensures last { OnOk result (S.failed_call store.new ≡ S.failed_call store.old) }
     ensures files { S.files store.new ≡ S.files store.old }
     ensures opened { S.opened store.new ≡ S.opened store.old }
     ensures room { S.room store.new ≡ S.room store.old }
@@ -155,8 +155,8 @@ fn read_traces<S: Store>(
         (S.faults store.old) (S.faults store.new)) }
     ensures file { IfErr result (StopsOn
         (OnTraces (S.files store.old) (map player_of (texts_in players.now)))
-        (S.failed_file store.old) (S.failed_file store.new)) }
-    ensures last { OnOk result (S.failed_file store.new ≡ S.failed_file store.old) }
+        (S.failed_call store.old) (S.failed_call store.new)) }
+    ensures last { OnOk result (S.failed_call store.new ≡ S.failed_call store.old) }
     ensures files { S.files store.new ≡ S.files store.old }
     ensures opened { S.opened store.new ≡ S.opened store.old }
     ensures room { S.room store.new ≡ S.room store.old }
@@ -212,8 +212,8 @@ pub fn read_inputs<S: Store>(
         (S.faults store.old) (S.faults store.new)) }
     ensures file { IfErr result (StopsOn
         (OnInputs (S.files store.old) (cast_of script.now (texts_in players.now)))
-        (S.failed_file store.old) (S.failed_file store.new)) }
-    ensures last { OnOk result (S.failed_file store.new ≡ S.failed_file store.old) }
+        (S.failed_call store.old) (S.failed_call store.new)) }
+    ensures last { OnOk result (S.failed_call store.new ≡ S.failed_call store.old) }
     ensures files { S.files store.new ≡ S.files store.old }
     ensures opened { S.opened store.new ≡ S.opened store.old }
     ensures room { S.room store.new ≡ S.room store.old }

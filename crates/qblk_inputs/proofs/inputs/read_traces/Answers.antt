@@ -69,6 +69,6 @@ returns-in-Err-clause-file g c =
     let ahead = subst P (players_from c.args.players.now c.loop-word.word-index w (omega arith) c.word-item.is) invariant.ahead in
     let trace : c.player_of.result.1.now ≡ (player_of w.bytes).trace = c.player_of.ensures.trace ∙ ap (λ (bs : List ℕ). (player_of bs).trace) c.as_str.ensures in
     let here = rw (trace, invariant.files, invariant.last) at c.in-Err.ensures.file in
-    stops_on_more (OnFile files (player_of w.bytes).trace) (OnTraces files players) (g.S.Store.failed_file c.args.store.now)
-    (g.S.Store.failed_file c.read_trace.new.store) c.in-Err.stop
+    stops_on_more (OnFile files (player_of w.bytes).trace) (OnTraces files players) (g.S.Store.failed_call c.args.store.now)
+    (g.S.Store.failed_call c.read_trace.new.store) c.in-Err.stop
     (λ name bad. ahead-fails files players c.loop-word.asked (player_of w.bytes) rest (map (λ t. t.items) c.loop-word.traces.items) name ahead bad) here

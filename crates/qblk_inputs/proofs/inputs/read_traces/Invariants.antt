@@ -12,6 +12,6 @@ invariant-loop-word g l = record {
   files : g.S.Store.files l.store ≡ g.S.Store.files l.initial.store;
   opened : g.S.Store.opened l.store ≡ g.S.Store.opened l.initial.store;
   room : g.S.Store.room l.store ≡ g.S.Store.room l.initial.store;
-  last : g.S.Store.failed_file l.store ≡ g.S.Store.failed_file l.initial.store;
+  last : g.S.Store.failed_call l.store ≡ g.S.Store.failed_call l.initial.store;
   quiet : g.S.Store.faults l.store ≡ g.S.Store.faults l.initial.store;
 }
