@@ -128,15 +128,15 @@ not-rose before now count stood rose is = let below = stood.0 in let same = stoo
 
 opening-fails : (format : Format) (image : List ℕ) (old new : Outside) (count : ℕ) → NoneRises image old new → FailsToOpen format image old new count → ⊥
 opening-fails format image old new count none fails =
-    not-rose fails.device.faults fails.behind.faults count (none.device fails.device fails.behind.faults fails.opened) fails.stopped.rose fails.stopped.now
+    not-rose fails.device.faults fails.behind.faults count (none.device fails.device fails.behind fails.opened) fails.stopped.rose fails.stopped.now
 
 flush-fails : (format : Format) (image trace : List ℕ) (old new : Outside) (count : ℕ) → NoneRises image old new → FailsToFlushIo format image trace old new count → ⊥
 flush-fails format image trace old new count none fails =
     let run = fails.4.run in
     let before = fails.2 in
-    let stood = none.device run.device count run.opened in
+    let stood = none.device run.device run.back run.opened in
     let below : run.device.faults < 18446744073709551615 = stood.0 in
-    let same : count ≡ run.device.faults = stood.1 in
+    let same : count ≡ run.device.faults = sym run.ends.1 ∙ stood.1 in
     let start : run.device.faults ≡ before = run.ends.0 in
     let counts = run.counts in
     let opened : device_faults run.first ≡ before = counts.opening in

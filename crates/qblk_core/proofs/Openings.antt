@@ -1,7 +1,7 @@
 -- The nodes of a run, made step by step, and what stops them.
 use Rattle.std.proofs.Common.{◌≡◌, ◌≢◌, ℕ, ◌<◌, ◌≤◌, Bool, true, false, List, [], ◌∷◌, length, Option, Some, None, Result, Ok, Err, refl, sym, ◌∙◌, ap, subst, inl, inr, arith}
 use Rattle.std.specs.Prelude.{◌↔◌, Contains, IsSome, IsOk, IfErr, is_some}
-use Rattle.blk_base.specs.Calls.{FailsReading}
+use Rattle.blk_base.specs.Calls.{FailsAt}
 use Rattle.blk_base.specs.Counts.{Rose}
 use Rattle.blk_base.specs.Device.{CountsFault}
 use Rattle.blk_graph.specs.Graph.{HasName, HasNode, ids}
@@ -17,6 +17,7 @@ use Rattle.q2_format.specs.declared.header.HeaderStop.TheVariants as headers
 use Rattle.q2_format.specs.declared.header.TheConstants.{MIN_HEADER_LENGTH}
 use Rattle.q2_image.specs.Image.{Known, IsImageOf}
 use Rattle.q2_image.specs.Opening.{Names, fault_in_image, refusal_of}
+use Rattle.q2_image.specs.OpeningCalls.{IsOpeningCall}
 use Rattle.q2_image.specs.declared.stop.ImageStop.{ImageStop}
 use Rattle.q2_image.specs.declared.stop.ImageStop.TheVariants as stops
 use Rattle.blk_nodes.specs.Adding.{with_node_row, with_node_device, with_below, file_edge, guest_edge, raw_row, IsDenied, IsOverStop}
@@ -25,7 +26,7 @@ use Rattle.blk_nodes.specs.declared.stop.AddStop.TheVariants as adding
 use Rattle.blk_nodes.specs.Contents.{Unfolds}
 use Rattle.blk_nodes.specs.Joined.{IsJoined, IsFile}
 use Rattle.blk_nodes.specs.Nodes.{Nodes, DeviceSeen, no_nodes, row_at, node_size, device_in}
-use Rattle.blk_nodes.specs.Overlays.{Asked, IsOpened, IsUnopened, with_qcow2}
+use Rattle.blk_nodes.specs.Overlays.{Asked, IsOpened, IsUnopened, KeptBy, with_qcow2}
 use Rattle.blk_nodes.specs.Reading.{HaveRisen, HasRisen}
 use Rattle.blk_nodes.specs.declared.backing.Backing.TheVariants.{Unsaid}
 use Rattle.blk_nodes.specs.declared.row.Driver.TheVariants as drivers
@@ -100,17 +101,17 @@ length-for size (stops.Header headers.Short) short = tt
 length-for size stop short = not-short size (λ less. let is = short less in let no : ⊥ = cc is in no)
 
 named-stop : (d e : DeviceSeen) (stop : ImageStop) → ((bytes : List ℕ) → d.content ≡ Some bytes → Names (image_refusal bytes) stop) → (d.size < MIN_HEADER_LENGTH → stop ≡ stops.Header headers.Short) → CountsFault (fault_in_image stop) d.faults e.faults
-    → FailsReading (fault_in_image stop) d.failed_call e.failed_call → StopsAs Qcow2 d e (open_stop stop)
-named-stop d e (stops.Header stop) named short cause call = (refused-as d (stops.Header stop) named refl (length-for d.size (stops.Header stop) short), cause)
-named-stop d e (stops.Offset offset) named short cause call = (refused-as d (stops.Offset offset) named refl (length-for d.size (stops.Offset offset) short), cause)
-named-stop d e (stops.Reserved table index) named short cause call = (refused-as d (stops.Reserved table index) named refl (length-for d.size (stops.Reserved table index) short), cause)
-named-stop d e (stops.Compressed cluster) named short cause call = (refused-as d (stops.Compressed cluster) named refl (length-for d.size (stops.Compressed cluster) short), cause)
-named-stop d e (stops.Overlap cluster) named short cause call = (refused-as d (stops.Overlap cluster) named refl (length-for d.size (stops.Overlap cluster) short), cause)
-named-stop d e (stops.Refcount cluster) named short cause call = (refused-as d (stops.Refcount cluster) named refl (length-for d.size (stops.Refcount cluster) short), cause)
-named-stop d e stops.HeaderFull named short cause call = (refused-as d stops.HeaderFull named refl (length-for d.size stops.HeaderFull short), cause)
-named-stop d e (stops.Io count) named short cause call =
+    → FailsAt (IsOpeningCall d.size d.content) (fault_in_image stop) e.failed_call → KeptBy stop (d ∷ []) (e ∷ []) → StopsAs Qcow2 d e (open_stop stop)
+named-stop d e (stops.Header stop) named short cause call kept = (refused-as d (stops.Header stop) named refl (length-for d.size (stops.Header stop) short), head-same e d [] kept)
+named-stop d e (stops.Offset offset) named short cause call kept = (refused-as d (stops.Offset offset) named refl (length-for d.size (stops.Offset offset) short), head-same e d [] kept)
+named-stop d e (stops.Reserved table index) named short cause call kept = (refused-as d (stops.Reserved table index) named refl (length-for d.size (stops.Reserved table index) short), head-same e d [] kept)
+named-stop d e (stops.Compressed cluster) named short cause call kept = (refused-as d (stops.Compressed cluster) named refl (length-for d.size (stops.Compressed cluster) short), head-same e d [] kept)
+named-stop d e (stops.Overlap cluster) named short cause call kept = (refused-as d (stops.Overlap cluster) named refl (length-for d.size (stops.Overlap cluster) short), head-same e d [] kept)
+named-stop d e (stops.Refcount cluster) named short cause call kept = (refused-as d (stops.Refcount cluster) named refl (length-for d.size (stops.Refcount cluster) short), head-same e d [] kept)
+named-stop d e stops.HeaderFull named short cause call kept = (refused-as d stops.HeaderFull named refl (length-for d.size stops.HeaderFull short), head-same e d [] kept)
+named-stop d e (stops.Io count) named short cause call kept =
     (refl, cause.0, cause.1, not-short d.size (λ less. let is = short less in let no : ⊥ = cc is in no), call)
-named-stop d e stops.NoMemory named short cause call = cause
+named-stop d e stops.NoMemory named short cause call kept = head-same e d [] kept
 
 pub unopened : (d : DeviceSeen) (old new : Nodes) (file : ℕ) (stop : ImageStop) → IsFileOver d old → IsUnopened old.devices new.devices file stop → HaveRisen old.devices new.devices
     → StopsImageNode Qcow2 old new (open_stop stop)
@@ -132,7 +133,9 @@ unopened d old new file stop over is risen =
       cause = named-stop d r.0 stop (λ bytes told. is.on.named bytes (ap (λ (x : DeviceSeen). x.content) before ∙ told))
           (subst (λ (x : DeviceSeen). x.size < MIN_HEADER_LENGTH → stop ≡ stops.Header headers.Short) before is.on.short)
           (subst (λ (x : DeviceSeen). CountsFault (fault_in_image stop) d.faults x.faults) after (subst (λ (x : DeviceSeen). CountsFault (fault_in_image stop) x.faults is.after.faults) before is.on.cause))
-          (subst (λ (x : DeviceSeen). FailsReading (fault_in_image stop) d.failed_call x.failed_call) after (subst (λ (x : DeviceSeen). FailsReading (fault_in_image stop) x.failed_call is.after.failed_call) before is.on.call));
+          (subst (λ (x : DeviceSeen). FailsAt (IsOpeningCall d.size d.content) (fault_in_image stop) x.failed_call) after
+          (subst (λ (x : DeviceSeen). FailsAt (IsOpeningCall x.size x.content) (fault_in_image stop) is.after.failed_call) before is.on.which))
+          (subst (λ (ds : List DeviceSeen). KeptBy stop ds (r.0 ∷ [])) was (subst (KeptBy stop old.devices) r.1 is.kept));
       kept = r.2;
     }
 

@@ -16,24 +16,25 @@ open_opening image device = record {
   capacity = device.capacity;
   faults = device.faults;
   returned = None;
+  failed_call = device.failed_call;
 }
 
 -- and once it is back
-pub closed-is : (image : List ℕ) (device : DeviceSeen) (count : ℕ) (os new : List Opened) → (is_out image os ≡ true → ⊥)
-    → new ≡ given_back image count (os ++ open_opening image device ∷ []) → new ≡ os ++ closed_opening image device count ∷ []
-closed-is image device count os new none is = is ∙ back-opened image os device.size device.capacity device.faults count none
+pub closed-is : (image : List ℕ) (device back : DeviceSeen) (os new : List Opened) → (is_out image os ≡ true → ⊥)
+    → new ≡ given_back image back.faults back.failed_call (os ++ open_opening image device ∷ []) → new ≡ os ++ closed_opening image device back ∷ []
+closed-is image device back os new none is = is ∙ back-opened os (open_opening image device) back.faults back.failed_call refl none
 
 -- a device that is back is out under no name
 and-false : (b : Bool) → (b && false) ≡ false
 and-false true = refl
 and-false false = refl
 
-same-out : (name image : List ℕ) (device : DeviceSeen) (count : ℕ) (os : List Opened) → is_out name (os ++ closed_opening image device count ∷ []) ≡ is_out name os
-same-out name image device count [] = rw (and-false (bytes_eq name image)) refl
-same-out name image device count (o ∷ os) = rw (same-out name image device count os) refl
+same-out : (name image : List ℕ) (device back : DeviceSeen) (os : List Opened) → is_out name (os ++ closed_opening image device back ∷ []) ≡ is_out name os
+same-out name image device back [] = rw (and-false (bytes_eq name image)) refl
+same-out name image device back (o ∷ os) = rw (same-out name image device back os) refl
 
-pub none-out-back : (image : List ℕ) (device : DeviceSeen) (count : ℕ) (os new : List Opened) → NoneOut os
-    → new ≡ given_back image count (os ++ open_opening image device ∷ []) → NoneOut new
-none-out-back image device count os new none is =
-    let same = closed-is image device count os new (none image) is in
-    λ name out. none name (sym (ap (is_out name) same ∙ same-out name image device count os) ∙ out)
+pub none-out-back : (image : List ℕ) (device back : DeviceSeen) (os new : List Opened) → NoneOut os
+    → new ≡ given_back image back.faults back.failed_call (os ++ open_opening image device ∷ []) → NoneOut new
+none-out-back image device back os new none is =
+    let same = closed-is image device back os new (none image) is in
+    λ name out. none name (sym (ap (is_out name) same ∙ same-out name image device back os) ∙ out)

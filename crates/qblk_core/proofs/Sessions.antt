@@ -64,9 +64,6 @@ made-run format first last flush d n w log ops bytes fault made disks d-sized te
 same-device : (format : Format) (first : Nodes) (d n : DeviceSeen) → AreMadeOf format d first → first.devices ≡ n ∷ [] → d ≡ n
 same-device format first d n made given = head-same d n [] (sym (made-devices format d first made) ∙ given)
 
-count-stands : (format : Format) (first : Nodes) (d n : DeviceSeen) → AreMadeOf format d first → first.devices ≡ n ∷ [] → n.faults ≡ d.faults
-count-stands format first d n made given = sym (ap (λ (x : DeviceSeen). x.faults) (same-device format first d n made given))
-
 good-length : (format : Format) (d : DeviceSeen) (over : Nodes) → IsImageNodeOver format (file_node_alone d) over → HasGoodLength format d.size
 good-length Raw d over is = is.0
 good-length Qcow2 d over is =
@@ -86,12 +83,12 @@ pub trace-stops : (format : Format) (image trace : List ℕ) (read : TraceRead) 
 trace-stops format image trace read first d n Done made disks sized given stop = stop
 trace-stops format image trace read first d n Usage made disks sized given stop = stop
 trace-stops format image trace read first d n (Input name line why) made disks sized given stop = (
-  count-stands format first d n made given,
+  sym (same-device format first d n made given),
   inr (good-device format first d made disks sized, stop.0, stop.1),
 )
 trace-stops format image trace read first d n (Fault from count) made disks sized given stop = absurd stop
 trace-stops format image trace read first d n (Stuck actor waits) made disks sized given stop = stop
-trace-stops format image trace read first d n NoMemory made disks sized given stop = count-stands format first d n made given
+trace-stops format image trace read first d n NoMemory made disks sized given stop = sym (same-device format first d n made given)
 
 -- the image is
 pub image-stops : (format : Format) (image trace : List ℕ) (read : TraceRead) (d n : DeviceSeen) (stop : OpenStop) (status : Status) → IsStopped format d n stop → IsImageStatus image stop status

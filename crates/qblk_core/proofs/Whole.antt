@@ -8,7 +8,10 @@ use Rattle.blk_base.specs.Counts.{Rose}
 use Rattle.blk_base.specs.Files.{file_at, put_file, IfTold, given_back, is_out}
 use Rattle.blk_base.specs.Stored.{IsDeviceOf, files_with_returned}
 use Rattle.blk_base.specs.Answers.{HasFile, LacksFile}
+use Rattle.blk_base.specs.declared.file.CallOnFile.{CallOnFile}
 use Rattle.blk_base.specs.declared.file.File.{File}
+use Rattle.blk_base.specs.declared.store.StoreCall.{StoreCall}
+use Rattle.blk_base.specs.declared.store.StoreCall.TheVariants as calls
 use Rattle.blk_base.specs.declared.fault.FaultAt.{FaultAt}
 use Rattle.blk_base.specs.declared.fault.FaultFrom.{FaultFrom}
 use Rattle.blk_base.specs.declared.fault.FaultFrom.TheVariants.{Store, Dev, Sink}
@@ -22,7 +25,7 @@ use Rattle.blk_history.specs.Small.{IsSmall}
 use Rattle.blk_history.specs.Transcript.{transcript}
 use Rattle.blk_history.specs.declared.event.Event.{Event}
 use Rattle.trace_codec.specs.declared.stop.TraceStop.TheVariants as line_stops
-use Rattle.qblk_inputs.specs.Reading.{IsShortFile, OnFile, FailsOn}
+use Rattle.qblk_inputs.specs.Reading.{IsShortFile, OnFile, FailsOn, input_read}
 use Rattle.qblk_inputs.specs.declared.stop.InputFlaw.TheVariants as flaws
 use Rattle.qblk_core.proofs.Numbered.{names-line}
 use Rattle.qblk_core.proofs.Quiet.{quiet}
@@ -179,7 +182,7 @@ pub was-run : (format : Format) (image trace bytes : List ℕ) (read : TraceRead
     → IsDeviceOf old.files image d.content d.capacity d.is_flushed
     → IfTold old.files (IsTraceRead trace read) → read ≡ reads.Whole bytes → AreRequestsMade format bytes d n w fault
     → new.files ≡ files_with_returned image n.content n.capacity n.is_flushed old.files
-    → new.opened ≡ given_back image n.faults (old.opened ++ open_opening image d ∷ [])
+    → new.opened ≡ given_back image n.faults n.failed_call (old.opened ++ open_opening image d ∷ [])
     → new.sent ≡ option_map (λ s. s ++ take k (transcript guest_names w.log.events)) old.sent
     → WasIoRun format image trace flushed old new (asked_by 0 w.log.events) w.log.events d.faults n.faults k
 was-run format image trace bytes read d n w fault flushed old new k flag sized none device read-is is made files opened sent =
@@ -191,10 +194,10 @@ was-run format image trace bytes read d n w fault flushed old new k flag sized n
       run = record {
         asked = refl;
         small = all-small w.log.events made.comes.lines;
-        opened = closed-is image d n.faults old.opened new.opened none opened;
-        quiet = λ same below. quiet d.faults (device_faults w.nodes) w.log.events (rw start at made.comes.licensed.risen) (rw start at last) (let more = facts.more in omega arith) below;
         device = d;
         back = n;
+        opened = closed-is image d n old.opened new.opened none opened;
+        quiet = λ same below. quiet d.faults (device_faults w.nodes) w.log.events (rw start at made.comes.licensed.risen) (rw start at last) (let more = facts.more in omega arith) below;
         first = made.first;
         left = w.nodes;
         end = made.last;
@@ -253,7 +256,7 @@ pub ends : (format : Format) (image trace bytes : List ℕ) (read : TraceRead) (
     → IsDeviceOf old.files image d.content d.capacity d.is_flushed
     → IfTold old.files (IsTraceRead trace read) → read ≡ reads.Whole bytes → AreRequestsMade format bytes d n w fault
     → new.files ≡ files_with_returned image n.content n.capacity n.is_flushed old.files
-    → new.opened ≡ given_back image n.faults (old.opened ++ open_opening image d ∷ [])
+    → new.opened ≡ given_back image n.faults n.failed_call (old.opened ++ open_opening image d ∷ [])
     → EndsIoAs fault old.sent new.sent (transcript guest_names w.log.events) old.sink_faults new.sink_faults status
     → AnswersIo format image trace old new status
 ends format image trace bytes read d n w None old new Done sized none device read-is is made files opened end = (
@@ -378,12 +381,12 @@ quietly-for : (format : Format) (image : List ℕ) (d : DeviceSeen) (old new : O
 quietly-for format image d old new why.Absent refused opened = absurd (refused.there refl)
 quietly-for format image d old new cause refused opened = (d, opened, refused.length)
 
--- its device is back, and its count stands
-opened-quietly : (image : List ℕ) (d n : DeviceSeen) (old new : Outside) → (is_out image old.opened ≡ true → ⊥) → n.faults ≡ d.faults
-    → new.opened ≡ given_back image n.faults (old.opened ++ open_opening image d ∷ []) → IsBackQuietly image d old new
+-- its device is back as it was
+opened-quietly : (image : List ℕ) (d n : DeviceSeen) (old new : Outside) → (is_out image old.opened ≡ true → ⊥) → n ≡ d
+    → new.opened ≡ given_back image n.faults n.failed_call (old.opened ++ open_opening image d ∷ []) → IsBackQuietly image d old new
 opened-quietly image d n old new none stands opened =
-    let R : ℕ → Type 0 = λ c. new.opened ≡ old.opened ++ closed_opening image d c ∷ [] in
-    subst R stands (closed-is image d n.faults old.opened new.opened none opened)
+    let R : DeviceSeen → Type 0 = λ x. new.opened ≡ old.opened ++ closed_opening image d x ∷ [] in
+    subst R stands (closed-is image d n old.opened new.opened none opened)
 
 speaks-of : (format : Format) (image trace : List ℕ) (read : TraceRead) (d : DeviceSeen) (name : List ℕ) (line : ℕ) (cause : InputWhy)
     → ((name ≡ image) × (line ≡ 0) × IsRefusedImage format cause d)
@@ -421,7 +424,7 @@ pub stops : (format : Format) (image trace : List ℕ) (read : TraceRead) (d n :
     → IsDeviceOf old.files image d.content d.capacity d.is_flushed
     → IfTold old.files (IsTraceRead trace read) → IsRunStop format image trace read d n status → HasRisen d n
     → new.files ≡ files_with_returned image n.content n.capacity n.is_flushed old.files
-    → new.opened ≡ given_back image n.faults (old.opened ++ open_opening image d ∷ [])
+    → new.opened ≡ given_back image n.faults n.failed_call (old.opened ++ open_opening image d ∷ [])
     → new.sent ≡ old.sent → new.sink_faults ≡ old.sink_faults
     → AnswersIo format image trace old new status
 stops format image trace read d n old new NoMemory number sized none device read-is stop same files opened sent sink =
@@ -442,8 +445,9 @@ stops format image trace read d n old new (Fault from count) number sized none d
       nothing = record { files = files ∙ left image d n old.files sized device same; sent = sent };
       device = d;
       behind = n;
-      opened = closed-is image d n.faults old.opened new.opened none opened;
+      opened = closed-is image d n old.opened new.opened none opened;
       stopped = record { named = sym number; rose = stop.2; now = stop.3 };
+      call = stop.5;
       kept = same;
       long = stop.4;
       told = over-file old.files device;
@@ -460,40 +464,40 @@ stops format image trace read d n old new (Fault from count) number sized none d
 stops format image trace read d n old new status number sized none device read-is stop same files opened sent sink = absurd stop
 
 -- a store that failed on a file
-pub read-on : (told : Option (List File)) (name : List ℕ) (last : Option (List ℕ)) → IfTold told (IsShortFile name) → IfTold last (λ failed. failed ≡ name) → FailsOn (OnFile told name) last
+pub read-on : (told : Option (List File)) (name : List ℕ) (last : Option CallOnFile) → IfTold told (IsShortFile name) → IfTold last (λ it. it ≡ record { name = name; call = input_read }) → FailsOn input_read (OnFile told name) last
 read-on told name last short on = (name, (refl, short), on)
 
-pub opened-on : (told : Option (List File)) (name : List ℕ) (last : Option (List ℕ)) → IfTold told (HasFile name (λ _. Unit {0})) → IfTold last (λ failed. failed ≡ name) → FailsOn (OnOpened told name) last
+pub opened-on : (told : Option (List File)) (name : List ℕ) (last : Option CallOnFile) → IfTold told (HasFile name (λ _. Unit {0})) → IfTold last (λ it. it ≡ record { name = name; call = calls.Open }) → FailsOn calls.Open (OnOpened told name) last
 opened-on told name last there on = (name, (refl, there), on)
 
-pub trace-failed : (told : Option (List File)) (name : List ℕ) (count : ℕ) (last : Option (List ℕ)) (status : Status) → status ≡ Fault Store count → IfTold told (IsShortFile name)
-    → IfTold last (λ failed. failed ≡ name) → NamesStoreOn (OnFile told name) last status
-trace-failed told name count last status is short on = subst (NamesStoreOn (OnFile told name) last) (sym is) (read-on told name last short on)
+pub trace-failed : (told : Option (List File)) (name : List ℕ) (count : ℕ) (last : Option CallOnFile) (status : Status) → status ≡ Fault Store count → IfTold told (IsShortFile name)
+    → IfTold last (λ it. it ≡ record { name = name; call = input_read }) → NamesStoreOn input_read (OnFile told name) last status
+trace-failed told name count last status is short on = subst (NamesStoreOn input_read (OnFile told name) last) (sym is) (read-on told name last short on)
 
-pub image-failed : (told : Option (List File)) (name : List ℕ) (count : ℕ) (last : Option (List ℕ)) (status : Status) → status ≡ Fault Store count → IfTold told (HasFile name (λ _. Unit {0}))
-    → IfTold last (λ failed. failed ≡ name) → NamesStoreOn (OnOpened told name) last status
-image-failed told name count last status is there on = subst (NamesStoreOn (OnOpened told name) last) (sym is) (opened-on told name last there on)
+pub image-failed : (told : Option (List File)) (name : List ℕ) (count : ℕ) (last : Option CallOnFile) (status : Status) → status ≡ Fault Store count → IfTold told (HasFile name (λ _. Unit {0}))
+    → IfTold last (λ it. it ≡ record { name = name; call = calls.Open }) → NamesStoreOn calls.Open (OnOpened told name) last status
+image-failed told name count last status is there on = subst (NamesStoreOn calls.Open (OnOpened told name) last) (sym is) (opened-on told name last there on)
 
 -- a refusal doesn't name the store
-pub names-no-store : (P : List ℕ → Type 0) (last : Option (List ℕ)) (name : List ℕ) (line : ℕ) (cause : InputWhy) (status : Status) → IsRefusal name line cause status → NamesStoreOn P last status
-names-no-store P last name line cause (Input n l w) is = tt
-names-no-store P last name line cause NoMemory is = tt
-names-no-store P last name line cause status is = absurd is
+pub names-no-store : (call : StoreCall) (P : List ℕ → Type 0) (last : Option CallOnFile) (name : List ℕ) (line : ℕ) (cause : InputWhy) (status : Status) → IsRefusal name line cause status → NamesStoreOn call P last status
+names-no-store call P last name line cause (Input n l w) is = tt
+names-no-store call P last name line cause NoMemory is = tt
+names-no-store call P last name line cause status is = absurd is
 
 -- a store whose call failed, or want of memory
 pub store-stops : (format : Format) (image trace : List ℕ) (old new : Outside) (status : Status) → IsStoreStop old.store_faults new.store_faults status
-    → NamesStoreOn (OnFile old.files trace) new.failed_file status → new.files ≡ old.files → new.opened ≡ old.opened → new.sent ≡ old.sent → AnswersIo format image trace old new status
+    → NamesStoreOn input_read (OnFile old.files trace) new.failed_call status → new.files ≡ old.files → new.opened ≡ old.opened → new.sent ≡ old.sent → AnswersIo format image trace old new status
 store-stops format image trace old new NoMemory stop on files opened sent = (record { files = files; sent = sent }, inl opened)
 store-stops format image trace old new (Fault Store count) stop on files opened sent =
-    (record { files = files; sent = sent }, opened, stop.0, stop.1, (on.0, inl on.1, on.2))
+    (record { files = files; sent = sent }, opened, stop.0, stop.1, inl on)
 store-stops format image trace old new status stop on files opened sent = absurd stop
 
 -- an image that isn't opened
 pub open-stops : (format : Format) (image trace : List ℕ) (old new : Outside) (before : ℕ) (status : Status) → IsOpenStop image old.files before new.store_faults status
-    → NamesStoreOn (OnOpened old.files image) new.failed_file status → before ≡ old.store_faults → new.files ≡ old.files → new.opened ≡ old.opened → new.sent ≡ old.sent → AnswersIo format image trace old new status
+    → NamesStoreOn calls.Open (OnOpened old.files image) new.failed_call status → before ≡ old.store_faults → new.files ≡ old.files → new.opened ≡ old.opened → new.sent ≡ old.sent → AnswersIo format image trace old new status
 open-stops format image trace old new before NoMemory stop on same files opened sent = (record { files = files; sent = sent }, inl opened)
 open-stops format image trace old new before (Fault Store count) stop on same files opened sent =
-    (record { files = files; sent = sent }, opened, subst (λ (n : ℕ). Rose n count) same stop.0, stop.1, (on.0, inr on.1, on.2))
+    (record { files = files; sent = sent }, opened, subst (λ (n : ℕ). Rose n count) same stop.0, stop.1, inr on)
 open-stops format image trace old new before (Input name line cause) stop on same files opened sent =
     (record { files = files; sent = sent }, inl (stop.0, stop.1, absent-cause format cause stop.2, not-opened), absent old.files stop.3)
   where

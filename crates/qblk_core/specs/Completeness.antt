@@ -32,8 +32,9 @@ HasStood before now = (before < 18446744073709551615) × (now ≡ before)
 pub record NoneRises (image : List ℕ) (old new : Outside) : Type 0 where
   pub store : HasStood old.store_faults new.store_faults
   pub sink : HasStood old.sink_faults new.sink_faults
-  pub device : (device : DeviceSeen) (now : ℕ)
-      → new.opened ≡ old.opened ++ closed_opening image device now ∷ [] → HasStood device.faults now
+  pub device : (device back : DeviceSeen)
+      → new.opened ≡ old.opened ++ closed_opening image device back ∷ []
+      → HasStood device.faults back.faults
 
 -- ---- room
 

@@ -36,15 +36,15 @@ pub record IsOpenedAs (format : Format) (device : DeviceSeen) (nodes : Nodes) (i
     pub disks : Unfolds nodes
     pub one : HaveOneImage nodes
 
--- or why they aren't: where no read of the device failed, its count stands
+-- or why they aren't: where no read of the device failed, it is as before
 abbrev pub StopsAs : Format → DeviceSeen → DeviceSeen → OpenStop → Type 0
 StopsAs format before now (Refused why) =
-    IsRefusedImage format why before × (now.faults ≡ before.faults)
+    IsRefusedImage format why before × (now ≡ before)
 StopsAs format before now (Io count) =
     (format ≡ Qcow2) × Rose before.faults count × (count ≡ now.faults)
     × (MIN_HEADER_LENGTH ≤ before.size)
     × IfTold now.failed_call (IsOpeningCall before.size before.content)
-StopsAs format before now NoMemory = now.faults ≡ before.faults
+StopsAs format before now NoMemory = now ≡ before
 
 -- the image's node isn't added: of their device at most the count has changed, and which call failed last
 pub record StopsImageNode (format : Format) (old new : Nodes) (stop : OpenStop) : Type 0 where

@@ -134,7 +134,7 @@ abbrev pub IsRunStop : Format → List ℕ → List ℕ → TraceRead → Device
 IsRunStop format image trace read before now Done = ⊥
 IsRunStop format image trace read before now Usage = ⊥
 IsRunStop format image trace read before now (Input name line why) =
-    (now.faults ≡ before.faults)
+    (now ≡ before)
     × (((name.bytes ≡ image) × (line ≡ 0) × IsRefusedImage format why before)
     ⊎ (IsGoodDevice format before × (name.bytes ≡ trace) × IsRefusedRead read why line))
 IsRunStop format image trace read before now (Fault from count) =
@@ -142,7 +142,7 @@ IsRunStop format image trace read before now (Fault from count) =
     × (count ≡ now.faults) × (MIN_HEADER_LENGTH ≤ before.size)
     × IfTold now.failed_call (IsOpeningCall before.size before.content)
 IsRunStop format image trace read before now (Stuck actor waits) = ⊥
-IsRunStop format image trace read before now NoMemory = now.faults ≡ before.faults
+IsRunStop format image trace read before now NoMemory = now ≡ before
 
 -- A transcript went out whole, or a front of it did, and a put failed. The fault of the last flush is named before that.
 abbrev pub EndsIoAs : Option FaultAt → Option (List ℕ) → Option (List ℕ) → List ℕ → ℕ → ℕ → Status

@@ -29,7 +29,7 @@ pub fn run_io<S: Store, K: Sink>(
           files = S.files store;
           opened = S.opened store;
           store_faults = S.faults store;
-          failed_file = S.failed_file store;
+          failed_call = S.failed_call store;
           sent = K.sent out.old;
           sink_faults = K.faults out.old;
         })
@@ -37,7 +37,7 @@ pub fn run_io<S: Store, K: Sink>(
           files = S.files result.1;
           opened = S.opened result.1;
           store_faults = S.faults result.1;
-          failed_file = S.failed_file result.1;
+          failed_call = S.failed_call result.1;
           sent = K.sent out.new;
           sink_faults = K.faults out.new;
         })
@@ -48,7 +48,7 @@ pub fn run_io<S: Store, K: Sink>(
           files = S.files store;
           opened = S.opened store;
           store_faults = S.faults store;
-          failed_file = S.failed_file store;
+          failed_call = S.failed_call store;
           sent = K.sent out.old;
           sink_faults = K.faults out.old;
         })
@@ -56,7 +56,7 @@ pub fn run_io<S: Store, K: Sink>(
           files = S.files result.1;
           opened = S.opened result.1;
           store_faults = S.faults result.1;
-          failed_file = S.failed_file result.1;
+          failed_call = S.failed_call result.1;
           sent = K.sent out.new;
           sink_faults = K.faults out.new;
         })
@@ -83,7 +83,7 @@ pub fn qblk<S: Store, K: Sink>(alloc: Global, words: &[Text], store: S, out: &mu
           files = S.files store;
           opened = S.opened store;
           store_faults = S.faults store;
-          failed_file = S.failed_file store;
+          failed_call = S.failed_call store;
           sent = K.sent out.old;
           sink_faults = K.faults out.old;
         })
@@ -91,7 +91,7 @@ pub fn qblk<S: Store, K: Sink>(alloc: Global, words: &[Text], store: S, out: &mu
           files = S.files result.1;
           opened = S.opened result.1;
           store_faults = S.faults result.1;
-          failed_file = S.failed_file result.1;
+          failed_call = S.failed_call result.1;
           sent = K.sent out.new;
           sink_faults = K.faults out.new;
         })
@@ -108,7 +108,7 @@ pub fn qblk<S: Store, K: Sink>(alloc: Global, words: &[Text], store: S, out: &mu
           files = S.files store;
           opened = S.opened store;
           store_faults = S.faults store;
-          failed_file = S.failed_file store;
+          failed_call = S.failed_call store;
           sent = K.sent out.old;
           sink_faults = K.faults out.old;
         })
@@ -116,7 +116,7 @@ pub fn qblk<S: Store, K: Sink>(alloc: Global, words: &[Text], store: S, out: &mu
           files = S.files result.1;
           opened = S.opened result.1;
           store_faults = S.faults result.1;
-          failed_file = S.failed_file result.1;
+          failed_call = S.failed_call result.1;
           sent = K.sent out.new;
           sink_faults = K.faults out.new;
         })

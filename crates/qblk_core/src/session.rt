@@ -3,7 +3,8 @@ ghost use Rattle.std.specs.Prelude.{◌≡◌, ◌≤◌, List, ℕ, MatchResult
 ghost use Rattle.blk_base.specs.Device.{opened_now};
 ghost use Rattle.blk_base.specs.Files.{IfTold};
 ghost use Rattle.blk_base.specs.Stored.{IsDeviceOf};
-ghost use Rattle.qblk_inputs.specs.Reading.{NoneOut, OnFile};
+ghost use Rattle.blk_base.specs.declared.store.StoreCall.TheVariants as calls;
+ghost use Rattle.qblk_inputs.specs.Reading.{NoneOut, OnFile, input_read};
 ghost use Rattle.qblk_core.specs.Session.{IsTraceRead, IsStoreStop, NamesStoreOn, IsOpenStop, AreRequestsMade, IsRunStop, EndsIoAs, io_ended_as, failed_as};
 ghost use Rattle.blk_nodes.specs.Reading.{HasRisen};
 ghost use Rattle.qblk_core.specs.Opened.{IsImageStatus};
@@ -50,7 +51,8 @@ fn read_trace_file<S: Store>(store: &mut S, name: &str) -> Result<TraceRead, Sta
     ensures read { IfOk result (λ read. IfTold (S.files store.old) (IsTraceRead name.now read)) }
     ensures stop { IfErr result (IsStoreStop (S.faults store.old) (S.faults store.new)) }
     ensures file { IfErr result
-        (NamesStoreOn (OnFile (S.files store.old) name.now) (S.failed_file store.new)) }
+        (NamesStoreOn input_read (OnFile (S.files store.old) name.now)
+        (S.failed_call store.new)) }
     ensures files { S.files store.new ≡ S.files store.old }
     ensures opened { S.opened store.new ≡ S.opened store.old }
     ensures quiet { OnOk result (S.faults store.new ≡ S.faults store.old) }
@@ -80,7 +82,8 @@ fn open_image<S: Store>(alloc: Global, store: &mut S, name: &str) -> Result<S::D
     ensures stop { IfErr result
         (IsOpenStop name.now (S.files store.old) (S.faults store.old) (S.faults store.new)) }
     ensures file { IfErr result
-        (NamesStoreOn (OnOpened (S.files store.old) name.now) (S.failed_file store.new)) }
+        (NamesStoreOn calls.Open (OnOpened (S.files store.old) name.now)
+        (S.failed_call store.new)) }
     ensures files { S.files store.new ≡ S.files store.old }
     ensures quiet { OnOk result (S.faults store.new ≡ S.faults store.old) }
     ensures stands { IfErr result
@@ -215,7 +218,7 @@ pub(crate) fn run_on<S: Store, K: Sink>(
           files = S.files store.old;
           opened = S.opened store.old;
           store_faults = S.faults store.old;
-          failed_file = S.failed_file store.old;
+          failed_call = S.failed_call store.old;
           sent = K.sent out.old;
           sink_faults = K.faults out.old;
         })
@@ -223,7 +226,7 @@ pub(crate) fn run_on<S: Store, K: Sink>(
           files = S.files store.new;
           opened = S.opened store.new;
           store_faults = S.faults store.new;
-          failed_file = S.failed_file store.new;
+          failed_call = S.failed_call store.new;
           sent = K.sent out.new;
           sink_faults = K.faults out.new;
         })
@@ -233,7 +236,7 @@ pub(crate) fn run_on<S: Store, K: Sink>(
           files = S.files store.old;
           opened = S.opened store.old;
           store_faults = S.faults store.old;
-          failed_file = S.failed_file store.old;
+          failed_call = S.failed_call store.old;
           sent = K.sent out.old;
           sink_faults = K.faults out.old;
         })
@@ -241,7 +244,7 @@ pub(crate) fn run_on<S: Store, K: Sink>(
           files = S.files store.new;
           opened = S.opened store.new;
           store_faults = S.faults store.new;
-          failed_file = S.failed_file store.new;
+          failed_call = S.failed_call store.new;
           sent = K.sent out.new;
           sink_faults = K.faults out.new;
         })
