@@ -102,7 +102,7 @@ module _ (w : WorldSeen) (coherent : IsCoherent w.table w.nodes w.opened w.progr
   pub back-both : IsLookedSo (opened_name driver) (site_of w) now out → x ≡ site (back_if driver out now.store) now.nodes
       → IsCoherent w.table x.nodes x.store.opened w.progress × DevicesTell x.store.files x.nodes.devices
   back-both (inl called) is =
-      let store : x.store ≡ record (store_of w) { faults = now.store.faults } =
+      let store : x.store ≡ record (store_of w) { faults = now.store.faults; failed_call = now.store.failed_call } =
       ap (λ (y : Site). y.store) is ∙ ap (λ (o : Option Taken). back_if driver o now.store) called.none ∙ called.store in
       let nodes : x.nodes ≡ now.nodes = ap (λ (y : Site). y.nodes) is in
       let opened : x.store.opened ≡ w.opened = ap (λ (s : StoreInRun). s.opened) store in

@@ -52,6 +52,7 @@ sited w x u = record w {
   opened = x.store.opened;
   room = x.store.room;
   faults = x.store.faults;
+  failed_call = x.store.failed_call;
   nodes = x.nodes;
   table = u;
 }

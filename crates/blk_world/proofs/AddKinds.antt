@@ -22,7 +22,7 @@ use Rattle.world_parts.proofs.AddLooked.{called_itself}
 -- no device is out for it, and counts may have risen
 pub record IsCalled (old now : Site) (out : Option Taken) : Type 0 where
   pub none : out ≡ None
-  pub store : now.store ≡ record old.store { faults = now.store.faults }
+  pub store : now.store ≡ record old.store { faults = now.store.faults; failed_call = now.store.failed_call }
   pub faults : old.store.faults ≤ now.store.faults
   pub called : HasCalled old.nodes now.nodes
 
@@ -65,12 +65,15 @@ module _ (t : RunTable) (c : Adding) (old now : Site) (out : Option Taken) (imag
       inl
       (record {
         none = none;
-        store = subst (λ (x : Site). x.store ≡ record old.store { faults = x.store.faults }) (sym same) refl;
+        store = subst (λ (x : Site). x.store ≡ record old.store { faults = x.store.faults; failed_call = x.store.failed_call }) (sym same) refl;
         faults = subst (λ (x : Site). old.store.faults ≤ x.store.faults) (sym same) (omega arith);
         called = subst (λ (x : Site). HasCalled old.nodes x.nodes) (sym same) (called_itself old.nodes);
       })
 
-  in-store : (store : now.store ≡ record old.store { faults = now.store.faults }) → old.store.faults ≤ now.store.faults → now.nodes ≡ old.nodes → out ≡ None
+  but-counts : now.store ≡ old.store → now.store ≡ record old.store { faults = now.store.faults; failed_call = now.store.failed_call }
+  but-counts same = subst (λ (s : StoreInRun). s ≡ record old.store { faults = s.faults; failed_call = s.failed_call }) (sym same) refl
+
+  in-store : (store : now.store ≡ record old.store { faults = now.store.faults; failed_call = now.store.failed_call }) → old.store.faults ≤ now.store.faults → now.nodes ≡ old.nodes → out ≡ None
       → IsCalled old now out
   in-store store faults nodes none = record {
     none = none;
@@ -83,13 +86,13 @@ module _ (t : RunTable) (c : Adding) (old now : Site) (out : Option Taken) (imag
       → IsLookedSo at.filename old now out
   looked-out at found is nodes (inl away) =
       inl
-      (in-store (away.0.kept ∙ ap (λ (n : ℕ). record old.store { faults = n }) (sym (ap (λ (s : StoreInRun). s.faults) away.0.kept)))
+      (in-store (but-counts away.0.kept)
       (let same = ap (λ (s : StoreInRun). s.faults) away.0.kept in omega (arith, same)) nodes (is ∙ away.1))
   looked-out at None is nodes (inr looks) = inl (by_cause looks.0.cause)
     where
       by_cause : IsAbsent old.store now.store at.filename looks.0.why ⊎ HasOpeningFailed old.store now.store at.filename looks.0.why → IsCalled old now out
       by_cause (inl absent) =
-          in-store (absent.kept ∙ ap (λ (n : ℕ). record old.store { faults = n }) (sym (ap (λ (s : StoreInRun). s.faults) absent.kept)))
+          in-store (but-counts absent.kept)
           (let same = ap (λ (s : StoreInRun). s.faults) absent.kept in omega (arith, same)) nodes is
       by_cause (inr failed) = in-store failed.kept failed.faults nodes is
   looked-out at (Some device) is nodes (inr looks) =
@@ -116,7 +119,7 @@ module _ (t : RunTable) (c : Adding) (old now : Site) (out : Option Taken) (imag
       inl
       (record {
         none = looks.none;
-        store = looks.kept ∙ ap (λ (n : ℕ). record old.store { faults = n }) (sym (ap (λ (s : StoreInRun). s.faults) looks.kept));
+        store = but-counts looks.kept;
         faults = (let same = ap (λ (s : StoreInRun). s.faults) looks.kept in omega (arith, same));
         called = looks.called;
       })

@@ -23,9 +23,9 @@ use Rattle.world_commands.proofs.AddRuns.{back-is, closed-opening, runs-opened}
 use Rattle.blk_world.proofs.AddRunsOn.{runs-still}
 use Rattle.world_commands.proofs.CountLemmas.{not-fallen, out-same, same-risen}
 
--- the store, but for its count
+-- the store, but for its count and which call failed last
 pub record IsCounted (old new : StoreInRun) : Type 0 where
-  pub is : new ≡ record old { faults = new.faults }
+  pub is : new ≡ record old { faults = new.faults; failed_call = new.failed_call }
   pub faults : old.faults ≤ new.faults
 
 -- or with an opening that is over
@@ -116,7 +116,7 @@ module _ (w : WorldSeen) (coherent : IsCoherent w.table w.nodes w.opened w.progr
 
   counted-same : x.store ≡ store_of w → IsCounted (store_of w) x.store
   counted-same same = record {
-    is = same ∙ ap (λ (n : ℕ). record (store_of w) { faults = n }) (sym (ap (λ (s : StoreInRun). s.faults) same));
+    is = subst (λ (s : StoreInRun). s ≡ record (store_of w) { faults = s.faults; failed_call = s.failed_call }) (sym same) refl;
     faults = (let n = ap (λ (s : StoreInRun). s.faults) same in omega (arith, n));
   }
 
@@ -146,7 +146,7 @@ module _ (w : WorldSeen) (coherent : IsCoherent w.table w.nodes w.opened w.progr
       record {
         store = inl
             (record {
-              is = subst (λ (s : StoreInRun). s ≡ record (store_of w) { faults = s.faults }) (sym store) called.store;
+              is = subst (λ (s : StoreInRun). s ≡ record (store_of w) { faults = s.faults; failed_call = s.failed_call }) (sym store) called.store;
               faults = subst (λ (s : StoreInRun). w.faults ≤ s.faults) (sym store) called.faults;
             });
         called = subst (HasCalled w.nodes) (sym (ap (λ (y : Site). y.nodes) is)) called.called;

@@ -47,7 +47,7 @@ module _ (w v : WorldSeen) (first : v.first_faults ≡ w.first_faults) (now : Si
   -- a device that is out, of which nothing is left; or none
   pub runs-back : IsLookedSo (opened_name driver) (site_of w) now out → site_of v ≡ site (back_if driver out now.store) now.nodes → RunsOn w v
   runs-back (inl called) is =
-      let store : store_of v ≡ record (store_of w) { faults = now.store.faults } =
+      let store : store_of v ≡ record (store_of w) { faults = now.store.faults; failed_call = now.store.failed_call } =
       ap (λ (x : Site). x.store) is ∙ ap (λ (o : Option Taken). back_if driver o now.store) called.none ∙ called.store in
       let faults : v.faults ≡ now.store.faults = ap (λ (x : StoreInRun). x.faults) store in
       let least = called.faults in
@@ -69,7 +69,7 @@ module _ (w v : WorldSeen) (first : v.first_faults ≡ w.first_faults) (now : Si
   pub runs-added : (t : RunTable) (c : Adding) (image : Option Known) → IsLookedSo (opened_name driver) (site_of w) now out → store_of v ≡ now.store
       → HasAdded t c out image now.nodes v.nodes → RunsOn w v
   runs-added t c image (inl called) same has =
-      let store : store_of v ≡ record (store_of w) { faults = now.store.faults } = same ∙ called.store in
+      let store : store_of v ≡ record (store_of w) { faults = now.store.faults; failed_call = now.store.failed_call } = same ∙ called.store in
       let faults : v.faults ≡ now.store.faults = ap (λ (x : StoreInRun). x.faults) store in
       let least = called.faults in
       let devices : v.nodes.devices ≡ now.nodes.devices =

@@ -50,7 +50,7 @@ module _ (w v : WorldSeen) (c : BlockdevCreate (List ℕ)) (runs : RunsOn w v) (
 
   -- ---- the store failed
 
-  store-failed : (f : CreateFile (List ℕ)) (cause : Refusal) → HasMakingFailed f.filename (ground_of w).store (ground_of v).store cause → FitsSo cause
+  store-failed : (f : CreateFile (List ℕ)) (cause : Refusal) → HasMakingFailed f.filename (amount_or 0 (Some f.size)) (ground_of w).store (ground_of v).store cause → FitsSo cause
       → IsCaused w v (cmd (created.File f)) cause
   store-failed f cause failed fits =
       let rose = failed.rose in

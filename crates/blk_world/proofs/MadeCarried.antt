@@ -88,7 +88,7 @@ module _ (w : WorldSeen) (whole : IsWholeWorld w) (id : List ℕ) (c : CreateFil
   failed_table = all_changed w.table (spoiled w.table (created.File c))
 
   pub moves_failed : (none : refusal_to w.table (create_told (created.File c) w.room) file_cmd ≡ None) (store : StoreSeen) (cause : Refusal)
-      → HasMakingFailed c.filename (ground_of w).store store cause → w.faults ≤ store.faults
+      → HasMakingFailed c.filename size (ground_of w).store store cause → w.faults ≤ store.faults
       → Moves w (placed w (record { store = store; nodes = w.nodes }) failed_table)
   moves_failed none store cause failed least =
       let asked = file_asked w.table (create_told (created.File c) w.room) id c none in

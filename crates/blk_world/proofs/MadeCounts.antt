@@ -28,9 +28,9 @@ module _ (w : WorldSeen) (whole : IsWholeWorld w) (joined : IsJoined w.nodes) (x
   v = placed w x u
 
   -- the store failed to make a file
-  pub hides_failed : (name : List ℕ) (cause : Refusal) → x.nodes ≡ w.nodes → HasMakingFailed name (ground_of w).store x.store cause
+  pub hides_failed : (name : List ℕ) (size : ℕ) (cause : Refusal) → x.nodes ≡ w.nodes → HasMakingFailed name size (ground_of w).store x.store cause
       → HidesNoFault w v (fault_named cause)
-  hides_failed name cause nodes failed =
+  hides_failed name size cause nodes failed =
       subst (λ (c : Refusal). HidesNoFault w v (fault_named c)) (sym failed.names)
       (hides-store w v (ap (λ (s : StoreSeen). s.opened) failed.kept) x.store.faults refl
       (ap (λ (n : Nodes). counts_from n.devices 0 w.opened) nodes))

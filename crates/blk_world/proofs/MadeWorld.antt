@@ -210,7 +210,7 @@ module _ (w : WorldSeen) (whole : IsWholeWorld w) (joined : IsJoined w.nodes) (i
       let nodes = sym ended.failed.0 in
       stopped_carried w whole (asks_for (created.File c)) none x cause ended
       (subst (λ (n : Nodes). Moves w (spoiled_then (created.File c) (record { store = x.store; nodes = n }))) nodes (moves_failed w whole id c none x.store cause ended.failed.1 least))
-      (hides_failed w whole joined x (all_changed w.table (spoiled w.table (created.File c))) c.filename cause ended.failed.0 ended.failed.1)
+      (hides_failed w whole joined x (all_changed w.table (spoiled w.table (created.File c))) c.filename (amount_or 0 (Some c.size)) cause ended.failed.0 ended.failed.1)
       (λ s told same.
       subst (λ (n : Nodes). AllPerformed s (spoiled w.table (created.File c)) (contents_of w) (contents_of (spoiled_then (created.File c) (record { store = x.store; nodes = n })))) nodes
       (performed_failed w whole id c asked.closed s x.store ended.failed.1.others))

@@ -1,5 +1,6 @@
 //! Devices that are flushed and given back at the end.
 ghost use Rattle.std.specs.Prelude.{◌≡◌, ◌≤◌, [], length, true, is_some, MatchOption, IsSome, Some};
+ghost use Rattle.blk_base.specs.Calls.{FailedLast};
 ghost use Rattle.blk_base.specs.Counts.{Rose};
 ghost use Rattle.blk_base.specs.declared.fault.FaultFrom.{FaultFrom};
 ghost use Rattle.blk_nodes.specs.Handing.{device_state};
@@ -8,7 +9,7 @@ ghost use Rattle.world_commands.specs.Closing.{AreBack, IsBack, IsOutFor, flushe
 ghost use Rattle.world_parts.specs.Coherent.{AreHeld};
 ghost use Rattle.world_parts.specs.Steps.{seen_in_run};
 
-use blk_base::{DevNo, Device, FaultAt, FaultFrom, Store};
+use blk_base::{DevNo, Device, DeviceCall, FaultAt, FaultFrom, Store};
 use blk_graph::NodeId;
 use blk_nodes::DevicesLeft;
 use qmp_rules::Names;
@@ -33,6 +34,8 @@ fn last_flush<D: Device>(device: &mut D, number: DevNo) -> Option<FaultAt>
     ensures fault { MatchOption result (D.faults device.new ≡ D.faults device.old)
         (λ fault. (fault.from ≡ FaultFrom.Dev number) × (fault.count ≡ D.faults device.new)
         × Rose (D.faults device.old) fault.count) }
+    ensures call { MatchOption result (D.failed_call device.new ≡ D.failed_call device.old)
+        (λ fault. FailedLast DeviceCall.Flush (D.failed_call device.new)) }
     ensures least { D.faults device.old ≤ D.faults device.new }
     ensures flushed { D.is_flushed device.new ≡ flushed_by result (D.is_flushed device.old) }
     ensures content { D.content device.new ≡ D.content device.old }

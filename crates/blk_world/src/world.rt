@@ -110,8 +110,8 @@ impl<S: Store> World<S> {
     fn put_world(alloc: Global, store: S, guests: Names1, room: Room) -> Result<Self, (NoMemory, S)>
         requires none_out { (name : List ℕ) → is_out name (S.opened store) ≡ false }
         ensures ok { IfOk result (λ world. world ≡ new_world
-            (seen_store (S.files store) (S.opened store) (S.room store) (S.faults store)) guests
-            room) }
+            (seen_store (S.files store) (S.opened store) (S.room store) (S.faults store)
+            (S.failed_call store)) guests room) }
         ensures err { IfErr result (λ e. e.1 ≡ store) }
     {
         match new_parts(alloc, &guests, room) {
@@ -144,11 +144,12 @@ impl<S: Store> World<S> {
         requires none_out { (name : List ℕ) → is_out name (S.opened store) ≡ false }
         requires few { length guests ≤ 16 }
         ensures ok { IfOk result (λ world. world ≡ new_world
-            (seen_store (S.files store) (S.opened store) (S.room store) (S.faults store)) guests
-            room) }
+            (seen_store (S.files store) (S.opened store) (S.room store) (S.faults store)
+            (S.failed_call store)) guests room) }
         ensures comes { IfOk result (λ world. (o : Opening)
             → IsOpeningOf
-            (seen_store (S.files store) (S.opened store) (S.room store) (S.faults store)) guests o
+            (seen_store (S.files store) (S.opened store) (S.room store) (S.faults store)
+            (S.failed_call store)) guests o
             → Comes o world) }
         ensures err { IfErr result (λ e. e.1 ≡ store) }
     {

@@ -25,7 +25,7 @@ use Rattle.blk_history.specs.declared.event.Event.{Event}
 use Rattle.blk_history.specs.declared.event.Event.TheVariants.{Piece, End}
 use Rattle.flat_machine.specs.Licence.{Counts, AreLicensed}
 use Rattle.flat_machine.specs.declared.opening.Opening.{Opening}
-use Rattle.world_commands.specs.Closing.{IsToldBack, count_back, store_in}
+use Rattle.world_commands.specs.Closing.{IsBackAfterFlush, IsToldBack, count_back, store_in}
 use Rattle.world_commands.specs.Comes.{Comes}
 use Rattle.world_parts.specs.Face.{WorldSeen, seen_state, first_counts, counts_now}
 use Rattle.world_parts.specs.Progress.{ended_in}
@@ -115,7 +115,7 @@ module _ (old : StoreSeen) (guests : List (List ℕ)) (w v : WorldSeen) (store :
             told.number,
             told.from,
             record {
-              last = both-at end.closed.opened told.number.0 (λ o. o.returned ≡ Some f.count) (λ before. HasFailedSince before f.count) told.count
+              last = both-at end.closed.opened told.number.0 (IsBackAfterFlush f.count) (λ before. HasFailedSince before f.count) told.count
                   (subst (λ (counts : List ℕ). With (slice_get counts told.number.0) (λ before. HasFailedSince before f.count)) (sym end.closed.given.first) above);
               rose = told.rose;
               first = first-stand v.table v.nodes.devices (store_in v) (record store { opened = end.closed.opened }) fault end.closed.back comes.coherent.out f told.number is told.from;

@@ -4,6 +4,8 @@ use Rattle.std.specs.Prelude.{Contains, slice_get, option_map}
 use Rattle.std.proofs.lemmas.Bool.{cases_eq, eq-eqb, false≢true, ne_eqb}
 use Rattle.std.proofs.lemmas.Option.{same_Some}
 use Rattle.blk_base.specs.Counts.{HasFailedSince, Rose}
+use Rattle.blk_base.specs.Files.{closed_with}
+use Rattle.blk_base.specs.declared.device.DeviceCall.{DeviceCall}
 use Rattle.blk_base.specs.declared.fault.DevNo.{DevNo}
 use Rattle.blk_base.specs.declared.fault.FaultAt.{FaultAt}
 use Rattle.blk_base.specs.declared.fault.FaultFrom.TheVariants.{Dev}
@@ -55,18 +57,18 @@ module _ (t : RunTable) (device : DeviceSeen) (rest : List DeviceSeen) (old new 
   abbrev out : IsOut t old.opened device
   out = held.each device (Contains-here device rest)
 
-  is-set : new.opened ≡ set old.opened device.number.0 (record out.opening { returned = Some back.count })
-  is-set = ap (λ (s : StoreSeen). s.opened) back.kept ∙ now t device rest old.opened held back.name back.count back.named
+  is-set : new.opened ≡ set old.opened device.number.0 (closed_with back.count back.call out.opening)
+  is-set = ap (λ (s : StoreSeen). s.opened) back.kept ∙ now t device rest old.opened held back.name back.count back.call back.named
 
-  own-place : slice_get new.opened device.number.0 ≡ Some (record out.opening { returned = Some back.count })
+  own-place : slice_get new.opened device.number.0 ≡ Some (closed_with back.count back.call out.opening)
   own-place =
       ap (λ (opened : List Opened). slice_get opened device.number.0) is-set
-      ∙ set-same old.opened device.number.0 out.opening (record out.opening { returned = Some back.count }) out.there
+      ∙ set-same old.opened device.number.0 out.opening (closed_with back.count back.call out.opening) out.there
 
   other-place : (n : ℕ) → n ≢ device.number.0 → slice_get new.opened n ≡ slice_get old.opened n
   other-place n apart =
       ap (λ (opened : List Opened). slice_get opened n) is-set
-      ∙ set-other old.opened device.number.0 n (record out.opening { returned = Some back.count }) apart
+      ∙ set-other old.opened device.number.0 n (closed_with back.count back.call out.opening) apart
 
   -- another opening's count stands
   pub stands-other : (n : ℕ) → n ≢ device.number.0 → slice_get (counts_from rest 0 new.opened) n ≡ slice_get (counts_from (device ∷ rest) 0 old.opened) n
@@ -126,8 +128,8 @@ stands-past t (device ∷ devices) old new fault back held n apart =
     (λ other there. apart other (Contains-there device devices other there))
     ∙ stands-other t device devices old back.0 back.1 back.3 held n (apart device (Contains-here device devices))
 
-good-flush : (device : DeviceSeen) (count : ℕ) (fault : Option FaultAt) → fault ≡ None → HasFlushFault device count fault → count ≡ device.faults
-good-flush device count fault none cause = subst (HasFlushFault device count) none cause
+good-flush : (device : DeviceSeen) (count : ℕ) (call : Option DeviceCall) (fault : Option FaultAt) → fault ≡ None → HasFlushFault device count call fault → count ≡ device.faults
+good-flush device count call fault none cause = let good : HasFlushFault device count call None = subst (HasFlushFault device count call) none cause in good.0
 
 first-none : (first later : Option FaultAt) → earlier_fault first later ≡ None → (first ≡ None) × (later ≡ None)
 first-none None later is = (refl, is)
@@ -140,7 +142,7 @@ all-stand t [] old new fault back held none n = ap (λ (s : StoreSeen). slice_ge
 all-stand t (device ∷ devices) old new fault back held none n =
     let both = first-none back.1 back.2 (sym back.5 ∙ none) in
     all-stand t devices back.0 new back.2 back.4 (held-back t device devices old back.0 back.1 back.3 held) both.1 n
-    ∙ stands-all t device devices old back.0 back.1 back.3 held (good-flush device back.3.count back.1 both.0 back.3.cause) n
+    ∙ stands-all t device devices old back.0 back.1 back.3 held (good-flush device back.3.count back.3.call back.1 both.0 back.3.cause) n
 
 same-number : (a b : DevNo) → Dev a ≡ Dev b → a ≡ b
 same-number a b e = cc e
@@ -158,10 +160,10 @@ first-stand t (device ∷ devices) old new fault back held f dev some from n bef
     by_first None none rest =
         let later : back.2 ≡ Some f = sym (back.5 ∙ ap (λ (x : Option FaultAt). earlier_fault x back.2) none) ∙ some in
         rest later
-        ∙ stands-all t device devices old back.0 back.1 back.3 held (good-flush device back.3.count back.1 none back.3.cause) n
+        ∙ stands-all t device devices old back.0 back.1 back.3 held (good-flush device back.3.count back.3.call back.1 none back.3.cause) n
     by_first (Some named) is rest =
         let same : named ≡ f = same_Some named f (sym (back.5 ∙ ap (λ (x : Option FaultAt). earlier_fault x back.2) is) ∙ some) in
-        let cause : HasFlushFault device back.3.count (Some named) = subst (HasFlushFault device back.3.count) is back.3.cause in
+        let cause : HasFlushFault device back.3.count back.3.call (Some named) = subst (HasFlushFault device back.3.count back.3.call) is back.3.cause in
         let own : Dev device.number ≡ Dev dev = sym (ap (λ (x : FaultAt). x.from) (sym same ∙ cause.0)) ∙ from in
         let number : device.number ≡ dev = same-number device.number dev own in
         let less : n < device.number.0 = subst (λ (d : DevNo). n < d.0) (sym number) before in
@@ -185,12 +187,12 @@ first-above t (device ∷ devices) old new fault back held f dev some from =
     by_first None none rest =
         let later : back.2 ≡ Some f = sym (back.5 ∙ ap (λ (x : Option FaultAt). earlier_fault x back.2) none) ∙ some in
         let same : map (λ o. o.faults) back.0.opened ≡ map (λ o. o.faults) old.opened =
-        ap (λ (s : StoreSeen). map (λ o. o.faults) s.opened) back.3.kept ∙ same-back (λ (o : Opened). o.faults) (λ o count. refl) back.3.name back.3.count old.opened in
+        ap (λ (s : StoreSeen). map (λ o. o.faults) s.opened) back.3.kept ∙ same-back (λ (o : Opened). o.faults) (λ o count call. refl) back.3.name back.3.count back.3.call old.opened in
         subst (λ (counts : List ℕ). With (slice_get counts dev.0) (λ before. HasFailedSince before f.count)) same
         (rest later)
     by_first (Some named) is rest =
         let same : named ≡ f = same_Some named f (sym (back.5 ∙ ap (λ (x : Option FaultAt). earlier_fault x back.2) is) ∙ some) in
-        let cause : HasFlushFault device back.3.count (Some named) = subst (HasFlushFault device back.3.count) is back.3.cause in
+        let cause : HasFlushFault device back.3.count back.3.call (Some named) = subst (HasFlushFault device back.3.count back.3.call) is back.3.cause in
         let own : Dev device.number ≡ Dev dev = sym (ap (λ (x : FaultAt). x.from) (sym same ∙ cause.0)) ∙ from in
         let number : device.number ≡ dev = same-number device.number dev own in
         let count : f.count ≡ back.3.count = ap (λ (x : FaultAt). x.count) (sym same ∙ cause.0) in

@@ -6,6 +6,7 @@ use Rattle.std.proofs.lemmas.List.{length-map}
 use Rattle.blk_base.specs.Files.{IfTold}
 use Rattle.blk_base.specs.Written.{Written}
 use Rattle.blk_base.specs.declared.fault.FaultAt.{FaultAt}
+use Rattle.blk_base.specs.declared.file.CallOnFile.{CallOnFile}
 use Rattle.blk_base.specs.declared.file.File.{File}
 use Rattle.blk_base.specs.declared.file.Opened.{Opened}
 use Rattle.blk_base.specs.declared.memory.Room.{Room}
@@ -119,24 +120,23 @@ not-both words cast format image trace run io =
 
 -- ---- inputs that weren't read
 
-same-store : (a b : StoreSeen) → a.files ≡ b.files → a.opened ≡ b.opened → a.room ≡ b.room → a.faults ≡ b.faults → a ≡ b
-same-store a b files opened room faults =
-    let one : a ≡ record a { files = b.files } = ap (λ (x : Option (List File)). record a { files = x }) files in
-    let two : record a { files = b.files } ≡ record b { room = a.room; faults = a.faults } =
-    ap (λ (x : List Opened). record b { opened = x; room = a.room; faults = a.faults }) opened in
-    let three : record b { room = a.room; faults = a.faults } ≡ record b { faults = a.faults } = ap (λ (n : ℕ). record b { room = n; faults = a.faults }) room in
-    let four : record b { faults = a.faults } ≡ b = ap (λ (n : ℕ). record b { faults = n }) faults in
-    one ∙ two ∙ three ∙ four
+same-store : (a b : StoreSeen) → a.files ≡ b.files → a.opened ≡ b.opened → a.room ≡ b.room → a.faults ≡ b.faults → a.failed_call ≡ b.failed_call → a ≡ b
+same-store a b files opened room faults call =
+    ap (λ (x : Option (List File)). record a { files = x }) files
+    ∙ ap (λ (x : List Opened). record b { opened = x; room = a.room; faults = a.faults; failed_call = a.failed_call }) opened
+    ∙ ap (λ (n : ℕ). record b { room = n; faults = a.faults; failed_call = a.failed_call }) room
+    ∙ ap (λ (n : ℕ). record b { faults = n; failed_call = a.failed_call }) faults
+    ∙ ap (λ (x : Option CallOnFile). record b { failed_call = x }) call
 
 pub refused-answers : (cast : Cast) (old new : Setting) (stop : InputStop)
     → new.store.files ≡ old.store.files → new.store.opened ≡ old.store.opened → new.store.room ≡ old.store.room → new.sent ≡ old.sent → new.sink_faults ≡ old.sink_faults
-    → StopsFor (OfInputs old.store.files cast) old.store.faults new.store.faults stop → StopsOn (OnInputs old.store.files cast) old.failed_file new.failed_file stop
+    → StopsFor (OfInputs old.store.files cast) old.store.faults new.store.faults stop → StopsOn (OnInputs old.store.files cast) old.store.failed_call new.store.failed_call stop
     → Answers cast old new (status_of stop)
 refused-answers cast old new (stops.Refused name line why) files opened room sent sink stop on =
     (record { files = files; opened = opened; room = room; sent = sent; sink = sink }, stop.1, (why, refl, stop.0.0, stop.0.1))
 refused-answers cast old new (stops.Failed count) files opened room sent sink stop on =
     (record { files = files; opened = opened; room = room; sent = sent; sink = sink }, stop.0, stop.1, on)
-refused-answers cast old new stops.NoMemory files opened room sent sink stop on = (sent, sink, inl (same-store new.store old.store files opened room stop))
+refused-answers cast old new stops.NoMemory files opened room sent sink stop on = (sent, sink, inl (same-store new.store old.store files opened room stop on))
 
 -- ---- what was read
 

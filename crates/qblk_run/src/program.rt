@@ -22,17 +22,17 @@ pub fn qblk<S: Store, K: Sink>(alloc: Global, words: &[Text], store: S, out: &mu
     ensures io { (format : Format) (image trace : List ℕ)
         → IsIo (texts_in words.now) format image trace → AnswersIo format image trace
         (outside (S.files store) (S.opened store) (S.faults store)
-        (S.failed_file store) (K.sent out.old) (K.faults out.old))
+        (S.failed_call store) (K.sent out.old) (K.faults out.old))
         (outside (S.files result.1) (S.opened result.1) (S.faults result.1)
-        (S.failed_file result.1) (K.sent out.new) (K.faults out.new))
+        (S.failed_call result.1) (K.sent out.new) (K.faults out.new))
         result.0 }
 
     // `run 1 SCRIPT GUEST=TRACE ..`
     ensures run { (cast : Cast) → IsRunOf (texts_in words.now) cast → Answers cast
         (setting (S.files store) (S.opened store) (S.room store) (S.faults store)
-        (S.failed_file store) (K.sent out.old) (K.faults out.old))
+        (S.failed_call store) (K.sent out.old) (K.faults out.old))
         (setting (S.files result.1) (S.opened result.1) (S.room result.1) (S.faults result.1)
-        (S.failed_file result.1) (K.sent out.new) (K.faults out.new))
+        (S.failed_call result.1) (K.sent out.new) (K.faults out.new))
         result.0 }
 
     // all other words: nothing is done
@@ -45,9 +45,9 @@ pub fn qblk<S: Store, K: Sink>(alloc: Global, words: &[Text], store: S, out: &mu
     ensures faults { (format : Format) (image trace : List ℕ)
         → IsIo (texts_in words.now) format image trace → TellsFaults
         (outside (S.files store) (S.opened store) (S.faults store)
-        (S.failed_file store) (K.sent out.old) (K.faults out.old))
+        (S.failed_call store) (K.sent out.old) (K.faults out.old))
         (outside (S.files result.1) (S.opened result.1) (S.faults result.1)
-        (S.failed_file result.1) (K.sent out.new) (K.faults out.new))
+        (S.failed_call result.1) (K.sent out.new) (K.faults out.new))
         result.0 }
 
     // whatever the words: no device is left out

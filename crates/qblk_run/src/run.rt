@@ -65,9 +65,9 @@ fn run_inputs<S: Store, K: Sink>(
         }))
         → Answers cast
         (setting (S.files store) (S.opened store) (S.room store) (S.faults store)
-        (S.failed_file store) (K.sent out.old) (K.faults out.old))
+        (S.failed_call store) (K.sent out.old) (K.faults out.old))
         (setting (S.files result.1) (S.opened result.1) (S.room result.1) (S.faults result.1)
-        (S.failed_file result.1) (K.sent out.new) (K.faults out.new))
+        (S.failed_call result.1) (K.sent out.new) (K.faults out.new))
         result.0 }
     ensures back { (name : List ℕ) → is_out name (S.opened result.1) ≡ false }
 {
@@ -106,9 +106,9 @@ pub fn run_script<S: Store, K: Sink>(
     requires none_out { NoneOut (S.opened store) }
     ensures ended { (cast : Cast) → IsRunOf (texts_in words.now) cast → Answers cast
         (setting (S.files store) (S.opened store) (S.room store) (S.faults store)
-        (S.failed_file store) (K.sent out.old) (K.faults out.old))
+        (S.failed_call store) (K.sent out.old) (K.faults out.old))
         (setting (S.files result.1) (S.opened result.1) (S.room result.1) (S.faults result.1)
-        (S.failed_file result.1) (K.sent out.new) (K.faults out.new))
+        (S.failed_call result.1) (K.sent out.new) (K.faults out.new))
         result.0 }
     ensures back { NoneOut (S.opened result.1) }
 {

@@ -27,10 +27,12 @@ pub(crate) fn play<S: Store>(alloc: Global, world: World<S>, actors: Actors) -> 
     requires can { CanGoOn world.progress actors }
     requires drains { AreDrainsOf world actors.script }
     ensures made { IfSome result.0 (λ made. IsPlayed world actors
-        (seen_store (S.files result.1) (S.opened result.1) (S.room result.1) (S.faults result.1))
+        (seen_store (S.files result.1) (S.opened result.1) (S.room result.1) (S.faults result.1)
+        (S.failed_call result.1))
         made.history made.fault made.waiting) }
     ensures stopped { result.0 ≡ None → IsGivenUp world actors
-        (seen_store (S.files result.1) (S.opened result.1) (S.room result.1) (S.faults result.1)) }
+        (seen_store (S.files result.1) (S.opened result.1) (S.room result.1) (S.faults result.1)
+        (S.failed_call result.1)) }
 {
     let mut world = world;
     let mut actors = actors;

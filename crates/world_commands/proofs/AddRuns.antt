@@ -2,7 +2,7 @@
 use Rattle.std.proofs.Common.{◌≡◌, ◌≢◌, ℕ, ◌+◌, ◌≤◌, ◌==◌, Bool, true, false, cond, List, [], ◌∷◌, ◌++◌, length, refl, sym, ◌∙◌, ap, subst, arith, IsTrue, Option, Some, None}
 use Rattle.std.specs.Prelude.{is_some, slice_get}
 use Rattle.std.proofs.lemmas.Bool.{false≢true, ne_eqb}
-use Rattle.blk_base.specs.Files.{given_back, is_out}
+use Rattle.blk_base.specs.Files.{closed_with, given_back, is_out}
 use Rattle.blk_base.specs.Stored.{IsDeviceOf, files_with_returned}
 use Rattle.blk_base.specs.declared.file.File.{File}
 use Rattle.blk_base.specs.declared.file.Opened.{Opened}
@@ -95,17 +95,17 @@ module _ (old between : StoreInRun) (name : List ℕ) (first now : Taken) (out :
   files-back (Some files) its = returned-same name first.content first.capacity first.is_flushed files its
 
   abbrev pub closed-opening : Opened
-  closed-opening = record (opening_of name first) { returned = Some now.faults }
+  closed-opening = closed_with now.faults now.failed_call (opening_of name first)
 
   pub back-is : put_back name now between ≡ record old { opened = old.opened ++ closed-opening ∷ [] }
   back-is =
       let none : IsTrue (is_out name old.opened) → ⊥ = λ is. false≢true (sym inside ∙ is) in
-      let opened : given_back name now.faults between.opened ≡ old.opened ++ closed-opening ∷ [] =
-      ap (λ (s : StoreInRun). given_back name now.faults s.opened) out.kept ∙ back-opened name old.opened first.size first.capacity first.faults now.faults none in
+      let opened : given_back name now.faults now.failed_call between.opened ≡ old.opened ++ closed-opening ∷ [] =
+      ap (λ (s : StoreInRun). given_back name now.faults now.failed_call s.opened) out.kept ∙ back-opened old.opened (opening_of name first) now.faults now.failed_call refl none in
       let files : files_with_returned name now.content now.capacity now.is_flushed between.files ≡ old.files =
       ap (λ (d : Taken). files_with_returned name d.content d.capacity d.is_flushed between.files) same
       ∙ ap (λ (s : StoreInRun). files_with_returned name first.content first.capacity first.is_flushed s.files) out.kept
       ∙ files-back old.files out.is_its in
-      ap (λ (s : StoreInRun). record s { files = files_with_returned name now.content now.capacity now.is_flushed between.files; opened = given_back name now.faults between.opened }) out.kept
-      ∙ ap (λ (f : Option (List File)). record old { files = f; opened = given_back name now.faults between.opened }) files
+      ap (λ (s : StoreInRun). record s { files = files_with_returned name now.content now.capacity now.is_flushed between.files; opened = given_back name now.faults now.failed_call between.opened }) out.kept
+      ∙ ap (λ (f : Option (List File)). record old { files = f; opened = given_back name now.faults now.failed_call between.opened }) files
       ∙ ap (λ (o : List Opened). record old { opened = o }) opened

@@ -4,7 +4,8 @@ use Rattle.std.specs.Prelude.{IsSome, is_some, Contains, slice_get, option_map, 
 use Rattle.std.proofs.lemmas.Bool.{cases_eq, eq-eqb, false≢true, ne_eqb}
 use Rattle.std.proofs.lemmas.Option.{same_Some}
 use Rattle.blk_base.specs.Counts.{Rose}
-use Rattle.blk_base.specs.Files.{given_back, is_out_as}
+use Rattle.blk_base.specs.Files.{closed_with, given_back, is_out_as}
+use Rattle.blk_base.specs.declared.device.DeviceCall.{DeviceCall}
 use Rattle.blk_base.specs.declared.fault.FaultAt.{FaultAt}
 use Rattle.blk_base.specs.declared.fault.FaultFrom.TheVariants.{Dev}
 use Rattle.blk_base.specs.declared.file.Opened.{Opened}
@@ -12,7 +13,7 @@ use Rattle.blk_graph.proofs.Members.{Contains-here, Contains-there}
 use Rattle.blk_history.specs.Fold.{With}
 use Rattle.blk_nodes.specs.Nodes.{DeviceSeen}
 use Rattle.qmp_rules.specs.Table.{RunTable}
-use Rattle.world_commands.specs.Closing.{AreBack, HasFlushFault, HasGivenBack, IsBack, IsToldBack, count_back, earlier_fault, store_in}
+use Rattle.world_commands.specs.Closing.{AreBack, HasFlushFault, HasGivenBack, IsBack, IsBackAfterFlush, IsToldBack, count_back, earlier_fault, store_in}
 use Rattle.world_parts.specs.Coherent.{AreHeld, IsOut}
 use Rattle.world_commands.specs.Counting.{HaveNotFallen}
 use Rattle.world_parts.specs.Face.{WorldSeen, count_of_opening, counts_from, counts_now}
@@ -23,13 +24,13 @@ use Rattle.world_commands.proofs.DeletedRuns.{counted-at}
 
 -- ---- what giving back leaves of openings
 
-module _ {A : Type 0} (of : Opened → A) (kept : (o : Opened) (count : ℕ) → of (record o { returned = Some count }) ≡ of o) where
-  pub same-back : (name : List ℕ) (count : ℕ) (opened : List Opened) → map of (given_back name count opened) ≡ map of opened
-  same-back name count [] = refl
-  same-back name count (o ∷ opened) = by_test (is_out_as name o) refl (same-back name count opened)
+module _ {A : Type 0} (of : Opened → A) (kept : (o : Opened) (count : ℕ) (call : Option DeviceCall) → of (closed_with count call o) ≡ of o) where
+  pub same-back : (name : List ℕ) (count : ℕ) (call : Option DeviceCall) (opened : List Opened) → map of (given_back name count call opened) ≡ map of opened
+  same-back name count call [] = refl
+  same-back name count call (o ∷ opened) = by_test (is_out_as name o) refl (same-back name count call opened)
     where
-      by_test : (b : Bool) → is_out_as name o ≡ b → map of (given_back name count opened) ≡ map of opened → map of (given_back name count (o ∷ opened)) ≡ map of (o ∷ opened)
-      by_test true is rest = rw is (ap (λ (a : A). a ∷ map of opened) (kept o count))
+      by_test : (b : Bool) → is_out_as name o ≡ b → map of (given_back name count call opened) ≡ map of opened → map of (given_back name count call (o ∷ opened)) ≡ map of (o ∷ opened)
+      by_test true is rest = rw is (ap (λ (a : A). a ∷ map of opened) (kept o count call))
       by_test false is rest = rw is (ap (λ (more : List A). of o ∷ more) rest)
 
   same-all : (t : RunTable) (devices : List DeviceSeen) (old new : StoreSeen) (fault : Option FaultAt) → AreBack t devices old new fault → map of new.opened ≡ map of old.opened
@@ -38,7 +39,7 @@ module _ {A : Type 0} (of : Opened → A) (kept : (o : Opened) (count : ℕ) →
       let one = back.3 in
       same-all t devices back.0 new back.2 back.4
       ∙ ap (λ (s : StoreSeen). map of s.opened) one.kept
-      ∙ same-back one.name one.count old.opened
+      ∙ same-back one.name one.count one.call old.opened
 
 -- ---- one device
 
@@ -47,18 +48,18 @@ module _ (t : RunTable) (device : DeviceSeen) (rest : List DeviceSeen) (old new 
   abbrev out : IsOut t old.opened device
   out = held.each device (Contains-here device rest)
 
-  is-set : new.opened ≡ set old.opened device.number.0 (record out.opening { returned = Some back.count })
-  is-set = ap (λ (s : StoreSeen). s.opened) back.kept ∙ now t device rest old.opened held back.name back.count back.named
+  is-set : new.opened ≡ set old.opened device.number.0 (closed_with back.count back.call out.opening)
+  is-set = ap (λ (s : StoreSeen). s.opened) back.kept ∙ now t device rest old.opened held back.name back.count back.call back.named
 
-  own-place : slice_get new.opened device.number.0 ≡ Some (record out.opening { returned = Some back.count })
+  own-place : slice_get new.opened device.number.0 ≡ Some (closed_with back.count back.call out.opening)
   own-place =
       ap (λ (opened : List Opened). slice_get opened device.number.0) is-set
-      ∙ set-same old.opened device.number.0 out.opening (record out.opening { returned = Some back.count }) out.there
+      ∙ set-same old.opened device.number.0 out.opening (closed_with back.count back.call out.opening) out.there
 
   other-place : (n : ℕ) → n ≢ device.number.0 → slice_get new.opened n ≡ slice_get old.opened n
   other-place n apart =
       ap (λ (opened : List Opened). slice_get opened n) is-set
-      ∙ set-other old.opened device.number.0 n (record out.opening { returned = Some back.count }) apart
+      ∙ set-other old.opened device.number.0 n (closed_with back.count back.call out.opening) apart
 
   -- an opening that was back stays
   pub stays-one : (n : ℕ) (o : Opened) → slice_get old.opened n ≡ Some o → IsSome o.returned → slice_get new.opened n ≡ Some o
@@ -88,7 +89,7 @@ module _ (t : RunTable) (device : DeviceSeen) (rest : List DeviceSeen) (old new 
           let own : (device.number.0 == device.number.0) ≡ true = eq-eqb device.number.0 device.number.0 refl in
           let before : count_of_opening (device ∷ rest) (0 + n) o ≡ device.faults = rw (none, zero_first, own) refl in
           let least = back.least in
-          let then = counts-at rest new.opened 0 n (record out.opening { returned = Some back.count }) (ap (slice_get new.opened) same ∙ own-place) in
+          let then = counts-at rest new.opened 0 n (closed_with back.count back.call out.opening) (ap (slice_get new.opened) same ∙ own-place) in
           with-of (slice_get (counts_from rest 0 new.opened) n) back.count (λ c. count ≤ c) then (omega (arith, before, counted, least))
 
       at_other : (n count : ℕ) (o : Opened) → slice_get old.opened n ≡ Some o → count_of_opening (device ∷ rest) (0 + n) o ≡ count → n ≢ device.number.0
@@ -147,7 +148,7 @@ record IsOfOne (devices : List DeviceSeen) (opened : List Opened) (fault : Fault
   device : DeviceSeen
   within : Contains devices device
   from : fault.from ≡ Dev device.number
-  count : With (slice_get opened device.number.0) (λ o. o.returned ≡ Some fault.count)
+  count : With (slice_get opened device.number.0) (IsBackAfterFlush fault.count)
   rose : Rose device.faults fault.count
 
 all-told : (t : RunTable) (devices : List DeviceSeen) (old new : StoreSeen) (fault : Option FaultAt) → AreBack t devices old new fault → AreHeld t devices old.opened
@@ -165,16 +166,16 @@ all-told t (device ∷ devices) old new fault back held f is =
         record { device = later.device; within = Contains-there device devices later.device later.within; from = later.from; count = later.count; rose = later.rose }
     by_first (Some named) some more =
         let same : named ≡ f = same_Some named f (sym (back.5 ∙ ap (λ (x : Option FaultAt). earlier_fault x back.2) some) ∙ is) in
-        let cause : HasFlushFault device back.3.count (Some named) = subst (HasFlushFault device back.3.count) some back.3.cause in
-        let place = stays-all t devices back.0 new back.2 back.4 step device.number.0 (record (held.each device (Contains-here device devices)).opening { returned = Some back.3.count })
+        let cause : HasFlushFault device back.3.count back.3.call (Some named) = subst (HasFlushFault device back.3.count back.3.call) some back.3.cause in
+        let place = stays-all t devices back.0 new back.2 back.4 step device.number.0 (closed_with back.3.count back.3.call (held.each device (Contains-here device devices)).opening)
         (own-place t device devices old back.0 back.1 back.3 held) refl in
         let count : f.count ≡ back.3.count = ap (λ (x : FaultAt). x.count) (sym same ∙ cause.0) in
         record {
           device = device;
           within = Contains-here device devices;
           from = ap (λ (x : FaultAt). x.from) (sym same ∙ cause.0);
-          count = with-of (slice_get new.opened device.number.0) (record (held.each device (Contains-here device devices)).opening { returned = Some back.3.count })
-              (λ (o : Opened). o.returned ≡ Some f.count) place (ap (λ (n : ℕ). Some n) (sym count));
+          count = with-of (slice_get new.opened device.number.0) (closed_with back.3.count back.3.call (held.each device (Contains-here device devices)).opening)
+              (IsBackAfterFlush f.count) place (ap (λ (n : ℕ). Some n) (sym count), cause.2);
           rose = subst (Rose device.faults) (sym count) cause.1;
         }
 
@@ -183,10 +184,10 @@ all-told t (device ∷ devices) old new fault back held f is =
 pub given-back : (w : WorldSeen) (new : StoreSeen) (fault : Option FaultAt) → AreBack w.table w.nodes.devices (store_in w) new fault
     → AreHeld w.table w.nodes.devices w.opened → HasGivenBack w new.opened fault
 given-back w new fault back held = record {
-  names = same-all (λ (o : Opened). o.name) (λ o count. refl) w.table w.nodes.devices (store_in w) new fault back;
-  sizes = same-all (λ (o : Opened). o.size) (λ o count. refl) w.table w.nodes.devices (store_in w) new fault back;
-  capacities = same-all (λ (o : Opened). o.capacity) (λ o count. refl) w.table w.nodes.devices (store_in w) new fault back;
-  first = same-all (λ (o : Opened). o.faults) (λ o count. refl) w.table w.nodes.devices (store_in w) new fault back;
+  names = same-all (λ (o : Opened). o.name) (λ o count call. refl) w.table w.nodes.devices (store_in w) new fault back;
+  sizes = same-all (λ (o : Opened). o.size) (λ o count call. refl) w.table w.nodes.devices (store_in w) new fault back;
+  capacities = same-all (λ (o : Opened). o.capacity) (λ o count call. refl) w.table w.nodes.devices (store_in w) new fault back;
+  first = same-all (λ (o : Opened). o.faults) (λ o count call. refl) w.table w.nodes.devices (store_in w) new fault back;
   counts = all-counts w.table w.nodes.devices (store_in w) new fault back held;
   told = by_fault fault refl;
 }
@@ -212,3 +213,8 @@ pub room-kept : (t : RunTable) (devices : List DeviceSeen) (old new : StoreSeen)
 room-kept t [] old new fault back = ap (λ (s : StoreSeen). s.room) back.0
 room-kept t (device ∷ devices) old new fault back =
     room-kept t devices back.0 new back.2 back.4 ∙ ap (λ (s : StoreSeen). s.room) back.3.kept
+
+pub call-kept : (t : RunTable) (devices : List DeviceSeen) (old new : StoreSeen) (fault : Option FaultAt) → AreBack t devices old new fault → new.failed_call ≡ old.failed_call
+call-kept t [] old new fault back = ap (λ (s : StoreSeen). s.failed_call) back.0
+call-kept t (device ∷ devices) old new fault back =
+    call-kept t devices back.0 new back.2 back.4 ∙ ap (λ (s : StoreSeen). s.failed_call) back.3.kept

@@ -5,9 +5,10 @@ use Rattle.std.proofs.lemmas.Bool.{false≢true, cases_eq, ne_eqb}
 use Rattle.std.proofs.lemmas.List.Folds.{list_any-append}
 use Rattle.std.proofs.lemmas.Option.{same_Some}
 use Rattle.std.proofs.lemmas.Slice.Eq.{bytes_eq-Decides}
-use Rattle.blk_base.specs.Files.{is_out, is_out_as, given_back, file_at, put_file}
+use Rattle.blk_base.specs.Files.{is_out, is_out_as, closed_with, given_back, file_at, put_file}
 use Rattle.blk_base.specs.Stored.{files_with_returned}
 use Rattle.blk_base.specs.declared.fault.FaultAt.{FaultAt}
+use Rattle.blk_base.specs.declared.device.DeviceCall.{DeviceCall}
 use Rattle.blk_base.specs.declared.file.File.{File}
 use Rattle.blk_base.specs.declared.file.Opened.{Opened}
 use Rattle.blk_graph.proofs.CycleLemmas.{and-left, and-right}
@@ -43,18 +44,18 @@ set-other (x ∷ opened) zero (suc m) now differ = refl
 set-other (x ∷ opened) (suc n) zero now differ = refl
 set-other (x ∷ opened) (suc n) (suc m) now differ = set-other opened n m now (λ same. differ (ap suc same))
 
-back-at : (opened : List Opened) (n : ℕ) (o : Opened) (name : List ℕ) (count : ℕ) → slice_get opened n ≡ Some o → is_out_as name o ≡ true
+back-at : (opened : List Opened) (n : ℕ) (o : Opened) (name : List ℕ) (count : ℕ) (call : Option DeviceCall) → slice_get opened n ≡ Some o → is_out_as name o ≡ true
     → ((m : ℕ) (p : Opened) → slice_get opened m ≡ Some p → is_out_as name p ≡ true → m ≡ n)
-    → given_back name count opened ≡ set opened n (record o { returned = Some count })
-back-at [] n o name count is out only = absurd (let bad : ⊥ = cc is in bad)
-back-at (x ∷ opened) zero o name count is out only =
+    → given_back name count call opened ≡ set opened n (closed_with count call o)
+back-at [] n o name count call is out only = absurd (let bad : ⊥ = cc is in bad)
+back-at (x ∷ opened) zero o name count call is out only =
     let same : x ≡ o = same_Some x o is in
     rw (same, out) refl
-back-at (x ∷ opened) (suc n) o name count is out only =
-    by_test (is_out_as name x) refl (back-at opened n o name count is out (λ m p at out'. let next = only (suc m) p at out' in omega (arith, next)))
+back-at (x ∷ opened) (suc n) o name count call is out only =
+    by_test (is_out_as name x) refl (back-at opened n o name count call is out (λ m p at out'. let next = only (suc m) p at out' in omega (arith, next)))
   where
-    by_test : (b : Bool) → is_out_as name x ≡ b → given_back name count opened ≡ set opened n (record o { returned = Some count })
-        → cond b (record x { returned = Some count } ∷ opened) (x ∷ given_back name count opened) ≡ x ∷ set opened n (record o { returned = Some count })
+    by_test : (b : Bool) → is_out_as name x ≡ b → given_back name count call opened ≡ set opened n (closed_with count call o)
+        → cond b (closed_with count call x ∷ opened) (x ∷ given_back name count call opened) ≡ x ∷ set opened n (closed_with count call o)
     by_test true e rest = let first = only 0 x refl e in absurd (omega (arith, first))
     by_test false e rest = ap (λ more. x ∷ more) rest
 
@@ -69,7 +70,7 @@ is-out name (x ∷ opened) (suc n) o there is = or-true (is_out_as name x) (is-o
     or-true true later = refl
     or-true false later = later
 
-module _ (t : RunTable) (device : DeviceSeen) (rest : List DeviceSeen) (opened : List Opened) (was : AreHeld t (device ∷ rest) opened) (name : List ℕ) (count : ℕ)
+module _ (t : RunTable) (device : DeviceSeen) (rest : List DeviceSeen) (opened : List Opened) (was : AreHeld t (device ∷ rest) opened) (name : List ℕ) (count : ℕ) (call : Option DeviceCall)
     (named : filename_of t device.node ≡ Some name) where
   abbrev out : IsOut t opened device
   out = was.each device (Contains-here device rest)
@@ -89,33 +90,33 @@ module _ (t : RunTable) (device : DeviceSeen) (rest : List DeviceSeen) (opened :
       let same : name ≡ p.name = (bytes_eq-Decides name p.name).0 (and-left (bytes_eq name p.name) (is_none p.returned) is) in
       was.names m device.number.0 p out.opening at out.there back out.out (sym same ∙ sym its-name)
 
-  pub now : given_back name count opened ≡ set opened device.number.0 (record out.opening { returned = Some count })
-  now = back-at opened device.number.0 out.opening name count out.there its-out only
+  pub now : given_back name count call opened ≡ set opened device.number.0 (closed_with count call out.opening)
+  now = back-at opened device.number.0 out.opening name count call out.there its-out only
 
   -- any other opening that is out was so, and stands elsewhere
-  still-out : (m : ℕ) (p : Opened) → slice_get (given_back name count opened) m ≡ Some p → p.returned ≡ None → (m ≢ device.number.0) × (slice_get opened m ≡ Some p)
+  still-out : (m : ℕ) (p : Opened) → slice_get (given_back name count call opened) m ≡ Some p → p.returned ≡ None → (m ≢ device.number.0) × (slice_get opened m ≡ Some p)
   still-out m p at none = by_place (cases_eq m device.number.0)
     where
-      here : slice_get (set opened device.number.0 (record out.opening { returned = Some count })) m ≡ Some p
+      here : slice_get (set opened device.number.0 (closed_with count call out.opening)) m ≡ Some p
       here = subst (λ all. slice_get all m ≡ Some p) now at
 
       by_place : ((m ≡ device.number.0) ⊎ (m ≢ device.number.0)) → (m ≢ device.number.0) × (slice_get opened m ≡ Some p)
       by_place (inl same) =
-          let is : record out.opening { returned = Some count } ≡ p =
-          same_Some (record out.opening { returned = Some count }) p (sym (set-same opened device.number.0 out.opening (record out.opening { returned = Some count }) out.there)
-          ∙ subst (λ k. slice_get (set opened device.number.0 (record out.opening { returned = Some count })) k ≡ Some p) same here) in
+          let is : closed_with count call out.opening ≡ p =
+          same_Some (closed_with count call out.opening) p (sym (set-same opened device.number.0 out.opening (closed_with count call out.opening) out.there)
+          ∙ subst (λ k. slice_get (set opened device.number.0 (closed_with count call out.opening)) k ≡ Some p) same here) in
           let bad : Some count ≡ None = ap (λ (o : Opened). o.returned) is ∙ none in
           absurd (let no : ⊥ = cc bad in no)
-      by_place (inr differ) = (differ, sym (set-other opened device.number.0 m (record out.opening { returned = Some count }) differ) ∙ here)
+      by_place (inr differ) = (differ, sym (set-other opened device.number.0 m (closed_with count call out.opening) differ) ∙ here)
 
-  pub held-step : AreHeld t rest (given_back name count opened)
+  pub held-step : AreHeld t rest (given_back name count call opened)
   held-step = record {
     each = λ other held.
         let is = was.each other (Contains-there device rest other held) in
         let differ : other.number.0 ≢ device.number.0 = λ same. head_pairs DifferInNumber device rest was.once other held (sym (same-number other.number device.number same)) in
         record {
           opening = is.opening;
-          there = subst (λ all. slice_get all other.number.0 ≡ Some is.opening) (sym now) (set-other opened device.number.0 other.number.0 (record out.opening { returned = Some count }) differ ∙ is.there);
+          there = subst (λ all. slice_get all other.number.0 ≡ Some is.opening) (sym now) (set-other opened device.number.0 other.number.0 (closed_with count call out.opening) differ ∙ is.there);
           out = is.out;
           named = is.named;
           capacity = is.capacity;
@@ -133,13 +134,13 @@ module _ (t : RunTable) (device : DeviceSeen) (rest : List DeviceSeen) (opened :
 pub out-of-held : (t : RunTable) (device : DeviceSeen) (rest : List DeviceSeen) (opened : List Opened) → AreHeld t (device ∷ rest) opened → IsOutFor t device.node opened
 out-of-held t device rest opened was =
     let its = was.each device (Contains-here device rest) in
-    out-for t device rest opened was its.opening.name 0 its.named
+    out-for t device rest opened was its.opening.name 0 None its.named
 
 pub held-back : (t : RunTable) (device : DeviceSeen) (rest : List DeviceSeen) (old new : StoreSeen) (fault : Option FaultAt) → IsBack t device old new fault
     → AreHeld t (device ∷ rest) old.opened → AreHeld t rest new.opened
 held-back t device rest old new fault back was =
-    let is : new.opened ≡ given_back back.name back.count old.opened = ap (λ (s : StoreSeen). s.opened) back.kept in
-    subst (AreHeld t rest) (sym is) (held-step t device rest old.opened was back.name back.count back.named)
+    let is : new.opened ≡ given_back back.name back.count back.call old.opened = ap (λ (s : StoreSeen). s.opened) back.kept in
+    subst (AreHeld t rest) (sym is) (held-step t device rest old.opened was back.name back.count back.call back.named)
 
 -- ---- at the end none is out
 
@@ -362,11 +363,11 @@ back-flushed t (d ∷ devices) old new fault back held told files is none device
 -- the openings of the run stand behind those before it
 pub closed-by : (w : WorldSeen) (store : StoreInRun) (whole : StoreSeen) (fault : Option FaultAt)
     → AreBack w.table w.nodes.devices (store_in w) (seen_in_run store) fault → HasGivenBack w store.opened fault → store.earlier ≡ w.earlier → whole.files ≡ store.files
-    → whole.opened ≡ store.earlier ++ store.opened → whole.room ≡ store.room → whole.faults ≡ store.faults → EndsWorld w whole fault
-closed-by w store whole fault back given earlier files opened room faults = record {
+    → whole.opened ≡ store.earlier ++ store.opened → whole.room ≡ store.room → whole.faults ≡ store.faults → whole.failed_call ≡ store.failed_call → EndsWorld w whole fault
+closed-by w store whole fault back given earlier files opened room faults call = record {
   opened = store.opened;
   behind = opened ∙ ap (λ (before : List Opened). before ++ store.opened) earlier;
-  back = rw (files, room, faults) back;
+  back = rw (files, room, faults, call) back;
   given = given;
 }
 

@@ -6,6 +6,7 @@ use Rattle.std.proofs.lemmas.List.{length-replicate, get_or-replicate, get_or_pa
 use Rattle.blk_base.specs.declared.file.File.{File}
 use Rattle.blk_base.specs.Pieces.{end_of}
 use Rattle.blk_base.specs.declared.fault.Outcome.{Outcome}
+use Rattle.blk_base.specs.declared.file.CallOnFile.{CallOnFile}
 use Rattle.blk_base.specs.declared.file.Opened.{Opened}
 use Rattle.blk_base.specs.declared.memory.Room.{Room}
 use Rattle.trace_codec.specs.declared.op.Op.{Op}
@@ -146,9 +147,9 @@ coherent-new guests room = record {
   };
 }
 
-pub whole-new : (files : Option (List File)) (earlier : List Opened) (room faults : ℕ) (guests : List (List ℕ)) (spare : Room)
-    → IsWholeWorld (face_of (found_store files earlier room faults) faults no_nodes (opening_table guests) (no_progress (length guests) spare) none_drained [])
-whole-new files earlier room faults guests spare =
+pub whole-new : (files : Option (List File)) (earlier : List Opened) (room faults : ℕ) (failed : Option CallOnFile) (guests : List (List ℕ)) (spare : Room)
+    → IsWholeWorld (face_of (found_store files earlier room faults failed) faults no_nodes (opening_table guests) (no_progress (length guests) spare) none_drained [])
+whole-new files earlier room faults failed guests spare =
     record {
       coherent = coherent-new guests spare;
       tell = λ told device held. absurd (omega (arith, held.1));

@@ -174,7 +174,7 @@ left_names t node x = by_device (device_in x.nodes.devices node)
   where
     by_device : (found : Option DeviceSeen) → opened_names (with_back (name_under t node) found x.store).opened ≡ opened_names x.store.opened
     by_device None = refl
-    by_device (Some d) = same-back (λ (o : Opened). o.name) (λ o count. refl) (name_under t node) d.faults x.store.opened
+    by_device (Some d) = same-back (λ (o : Opened). o.name) (λ o count call. refl) (name_under t node) d.faults d.failed_call x.store.opened
 
 all_left_names : (t : RunTable) (nodes : List ℕ) (x : Ground) → opened_names (all_left t nodes x).store.opened ≡ opened_names x.store.opened
 all_left_names t [] x = refl

@@ -4,7 +4,7 @@ use Rattle.std.specs.Prelude.{IsSome, Contains, find, slice_get, option_and_then
 use Rattle.std.proofs.lemmas.Bool.{eqb-true, eqb-false, eq-eqb, ne_eqb, cases_eq}
 use Rattle.std.proofs.lemmas.List.{get_or-set_same, get_or-set_other}
 use Rattle.std.proofs.lemmas.List.Kept.{AllPairs-filter}
-use Rattle.blk_base.specs.Files.{is_out_as, given_back}
+use Rattle.blk_base.specs.Files.{is_out_as, closed_with, given_back}
 use Rattle.blk_base.specs.declared.fault.DevNo.{DevNo}
 use Rattle.blk_base.specs.declared.file.Opened.{Opened}
 use Rattle.blk_graph.specs.Edges.{same_parent}
@@ -172,7 +172,7 @@ module _ (t : RunTable) (nodes : Nodes) (opened : List Opened) (node : ℕ) (joi
     }
 
     abbrev opened' : List Opened
-    opened' = given_back (name_under t node) gone.faults opened
+    opened' = given_back (name_under t node) gone.faults gone.failed_call opened
 
     abbrev devices' : List DeviceSeen
     devices' = other_devices node devices
@@ -195,7 +195,7 @@ module _ (t : RunTable) (nodes : Nodes) (opened : List Opened) (node : ℕ) (joi
         let is_out = out.each d old.0 in
         record {
           opening = is_out.opening;
-          there = given-other (name_under t node) gone.faults opened number was.opening only_out d.number.0 (number_differs d old.0 old.1) ∙ is_out.there;
+          there = given-other (name_under t node) gone.faults gone.failed_call opened number was.opening only_out d.number.0 (number_differs d old.0 old.1) ∙ is_out.there;
           out = is_out.out;
           named = filename_stays t node d.node old.1 ∙ is_out.named;
           capacity = is_out.capacity;
@@ -206,14 +206,14 @@ module _ (t : RunTable) (nodes : Nodes) (opened : List Opened) (node : ℕ) (joi
     all_left : (n : ℕ) (o : Opened) → slice_get opened' n ≡ Some o → o.returned ≡ None → IsSome (device_numbered devices' n)
     all_left n o at back = elim (cases_eq n number) [
       | inl same ↦
-          let here : slice_get opened' n ≡ Some (record was.opening { returned = Some gone.faults })
-          = ap (slice_get opened') same ∙ given-there (name_under t node) gone.faults opened number was.opening only_out in
-          let e : record was.opening { returned = Some gone.faults } ≡ o = cc (sym here ∙ at) in
+          let here : slice_get opened' n ≡ Some (closed_with gone.faults gone.failed_call was.opening)
+          = ap (slice_get opened') same ∙ given-there (name_under t node) gone.faults gone.failed_call opened number was.opening only_out in
+          let e : closed_with gone.faults gone.failed_call was.opening ≡ o = cc (sym here ∙ at) in
           let bad : Some gone.faults ≡ None = ap (λ (x : Opened). x.returned) e ∙ back in
           absurd (cc bad)
       | inr apart ↦
           let old : slice_get opened n ≡ Some o
-          = sym (given-other (name_under t node) gone.faults opened number was.opening only_out n apart) ∙ at in
+          = sym (given-other (name_under t node) gone.faults gone.failed_call opened number was.opening only_out n apart) ∙ at in
           by_device (device_numbered devices n) refl (out.all n o old back) apart
     ]
       where
@@ -231,12 +231,12 @@ module _ (t : RunTable) (nodes : Nodes) (opened : List Opened) (node : ℕ) (joi
     was_out : (k : ℕ) (o : Opened) → slice_get opened' k ≡ Some o → o.returned ≡ None → slice_get opened k ≡ Some o
     was_out k o at back = elim (cases_eq k number) [
       | inl same ↦
-          let here : Some (record was.opening { returned = Some gone.faults }) ≡ Some o
-          = sym (given-there (name_under t node) gone.faults opened number was.opening only_out) ∙ ap (slice_get opened') (sym same) ∙ at in
-          let e : record was.opening { returned = Some gone.faults } ≡ o = cc here in
+          let here : Some (closed_with gone.faults gone.failed_call was.opening) ≡ Some o
+          = sym (given-there (name_under t node) gone.faults gone.failed_call opened number was.opening only_out) ∙ ap (slice_get opened') (sym same) ∙ at in
+          let e : closed_with gone.faults gone.failed_call was.opening ≡ o = cc here in
           let bad : Some gone.faults ≡ None = ap (λ (x : Opened). x.returned) e ∙ back in
           absurd (cc bad)
-      | inr apart ↦ sym (given-other (name_under t node) gone.faults opened number was.opening only_out k apart) ∙ at
+      | inr apart ↦ sym (given-other (name_under t node) gone.faults gone.failed_call opened number was.opening only_out k apart) ∙ at
     ]
 
     names_left : NamesAreOutOnce opened'

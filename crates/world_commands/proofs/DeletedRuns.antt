@@ -5,6 +5,7 @@ use Rattle.std.proofs.lemmas.Bool.{cases_eq, eqb-true, false≢true, ne_eqb}
 use Rattle.std.proofs.lemmas.Option.{same_Some}
 use Rattle.blk_base.specs.Stored.{files_with_returned}
 use Rattle.blk_base.specs.declared.file.File.{File}
+use Rattle.blk_base.specs.Files.{closed_with}
 use Rattle.blk_base.specs.declared.file.Opened.{Opened}
 use Rattle.blk_graph.proofs.Members.{Contains-filter, find-Some}
 use Rattle.blk_history.specs.Fold.{With}
@@ -75,12 +76,12 @@ module _ (w : WorldSeen) (node : ℕ) (parts : Parts w.table (ground_of w)) (tel
     out : AreOut (changed w.table (RemoveNode node)) (nodes_without node w.nodes) back.opened
     out = out_left w.table w.nodes w.opened node parts.joined parts.out d is
 
-    here : slice_get back.opened d.number.0 ≡ Some (record (was w.table w.nodes w.opened node parts.joined parts.out d is).opening { returned = Some d.faults })
-    here = given-there name d.faults w.opened d.number.0 (was w.table w.nodes w.opened node parts.joined parts.out d is).opening
+    here : slice_get back.opened d.number.0 ≡ Some (closed_with d.faults d.failed_call (was w.table w.nodes w.opened node parts.joined parts.out d is).opening)
+    here = given-there name d.faults d.failed_call w.opened d.number.0 (was w.table w.nodes w.opened node parts.joined parts.out d is).opening
         (only_out w.table w.nodes w.opened node parts.joined parts.out d is)
 
     other : (n : ℕ) → n ≢ d.number.0 → slice_get back.opened n ≡ slice_get w.opened n
-    other = given-other name d.faults w.opened d.number.0 (was w.table w.nodes w.opened node parts.joined parts.out d is).opening
+    other = given-other name d.faults d.failed_call w.opened d.number.0 (was w.table w.nodes w.opened node parts.joined parts.out d is).opening
         (only_out w.table w.nodes w.opened node parts.joined parts.out d is)
 
     pub openings_back : (n : ℕ) (o : Opened) → slice_get w.opened n ≡ Some o → With (slice_get back.opened n) (IsLater o)
@@ -88,7 +89,7 @@ module _ (w : WorldSeen) (node : ℕ) (parts : Parts w.table (ground_of w)) (tel
       | inl same ↦
           let was' = was w.table w.nodes w.opened node parts.joined parts.out d is in
           let its : o ≡ was'.opening = same_Some o was'.opening (sym at ∙ ap (slice_get w.opened) same ∙ was'.there) in
-          with-of (slice_get back.opened n) (record was'.opening { returned = Some d.faults }) (IsLater o) (ap (slice_get back.opened) same ∙ here)
+          with-of (slice_get back.opened n) (closed_with d.faults d.failed_call was'.opening) (IsLater o) (ap (slice_get back.opened) same ∙ here)
           (record {
             name = ap (λ (x : Opened). x.name) (sym its);
             size = ap (λ (x : Opened). x.size) (sym its);
@@ -145,7 +146,7 @@ module _ (w : WorldSeen) (node : ℕ) (parts : Parts w.table (ground_of w)) (tel
             let zero_first : 0 + n ≡ d.number.0 = omega (arith, same) in
             let found = numbered w.nodes.devices d parts.out.once there in
             let before : count_of_opening w.nodes.devices (0 + n) o ≡ d.faults = rw (none, zero_first, found) refl in
-            let now = counts-at (other_devices node w.nodes.devices) back.opened 0 n (record was'.opening { returned = Some d.faults }) (ap (slice_get back.opened) same ∙ here) in
+            let now = counts-at (other_devices node w.nodes.devices) back.opened 0 n (closed_with d.faults d.failed_call was'.opening) (ap (slice_get back.opened) same ∙ here) in
             now ∙ ap Some (sym before ∙ counted)
 
         at_other : (n count : ℕ) (o : Opened) → slice_get w.opened n ≡ Some o → count_of_opening w.nodes.devices (0 + n) o ≡ count → n ≢ d.number.0
@@ -172,7 +173,7 @@ module _ (w : WorldSeen) (node : ℕ) (parts : Parts w.table (ground_of w)) (tel
         (omega arith)
 
     many_back : length back.opened ≡ length w.opened
-    many_back = length-back name d.faults w.opened
+    many_back = length-back name d.faults d.failed_call w.opened
 
     same_back : counts_from (other_devices node w.nodes.devices) 0 back.opened ≡ (counts_now w).devices
     same_back =

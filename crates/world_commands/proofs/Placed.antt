@@ -57,6 +57,7 @@ placed w x t = record w {
   opened = x.store.opened;
   room = x.store.room;
   faults = x.store.faults;
+  failed_call = x.store.failed_call;
   nodes = x.nodes;
   table = t;
 }

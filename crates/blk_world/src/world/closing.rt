@@ -22,7 +22,7 @@ impl<S: Store> World<S> {
         ensures history { result.1 ≡ self.progress.log }
         ensures closed { EndsWorld self
             (seen_store (S.files result.0) (S.opened result.0) (S.room result.0)
-            (S.faults result.0)) result.2 }
+            (S.faults result.0) (S.failed_call result.0)) result.2 }
         ensures faults { S.faults result.0 ≡ self.faults }
         ensures room { S.room result.0 ≡ self.room }
         ensures none_out { (name : List ℕ) → is_out name (S.opened result.0) ≡ false }

@@ -17,8 +17,8 @@ returns-in-Ok-clause-ended g c = λ cast form.
     let told : IfTold (g.S.Store.files c.read_inputs.new.store) (HasWork its work) = rw read.files read.read in
     let answers = c.run_inputs.ensures.ended its (sym read.guests) told in
     subst (λ (k : Cast). Answers k
-    (setting (g.S.Store.files c.args.store) (g.S.Store.opened c.args.store) (g.S.Store.room c.args.store) (g.S.Store.faults c.args.store) (g.S.Store.failed_file c.args.store) (g.K.Sink.sent c.args.out.now) (g.K.Sink.faults c.args.out.now))
-    (setting (g.S.Store.files c.run_inputs.result.1) (g.S.Store.opened c.run_inputs.result.1) (g.S.Store.room c.run_inputs.result.1) (g.S.Store.faults c.run_inputs.result.1) (g.S.Store.failed_file c.run_inputs.result.1) (g.K.Sink.sent c.run_inputs.new.out) (g.K.Sink.faults c.run_inputs.new.out))
+    (setting (g.S.Store.files c.args.store) (g.S.Store.opened c.args.store) (g.S.Store.room c.args.store) (g.S.Store.faults c.args.store) (g.S.Store.failed_call c.args.store) (g.K.Sink.sent c.args.out.now) (g.K.Sink.faults c.args.out.now))
+    (setting (g.S.Store.files c.run_inputs.result.1) (g.S.Store.opened c.run_inputs.result.1) (g.S.Store.room c.run_inputs.result.1) (g.S.Store.faults c.run_inputs.result.1) (g.S.Store.failed_call c.run_inputs.result.1) (g.K.Sink.sent c.run_inputs.new.out) (g.K.Sink.faults c.run_inputs.new.out))
     c.run_inputs.result.0) same
     (rw (read.files, read.opened, read.room, read.quiet, read.last) at answers)
 
@@ -27,7 +27,7 @@ returns-in-Err-clause-ended g c = λ cast form.
     let its = cast_of c.in-Some.run'.script.now (texts_in c.in-Some.run'.players.now) in
     let same : its ≡ cast = one-cast (texts_in c.args.words.now) its cast c.in-Some.ensures form in
     let read = c.in-Err.ensures in
-    let old : Setting = setting (g.S.Store.files c.args.store) (g.S.Store.opened c.args.store) (g.S.Store.room c.args.store) (g.S.Store.faults c.args.store) (g.S.Store.failed_file c.args.store) (g.K.Sink.sent c.args.out.now) (g.K.Sink.faults c.args.out.now) in
-    let new : Setting = setting (g.S.Store.files c.read_inputs.new.store) (g.S.Store.opened c.read_inputs.new.store) (g.S.Store.room c.read_inputs.new.store) (g.S.Store.faults c.read_inputs.new.store) (g.S.Store.failed_file c.read_inputs.new.store) (g.K.Sink.sent c.args.out.now) (g.K.Sink.faults c.args.out.now) in
+    let old : Setting = setting (g.S.Store.files c.args.store) (g.S.Store.opened c.args.store) (g.S.Store.room c.args.store) (g.S.Store.faults c.args.store) (g.S.Store.failed_call c.args.store) (g.K.Sink.sent c.args.out.now) (g.K.Sink.faults c.args.out.now) in
+    let new : Setting = setting (g.S.Store.files c.read_inputs.new.store) (g.S.Store.opened c.read_inputs.new.store) (g.S.Store.room c.read_inputs.new.store) (g.S.Store.faults c.read_inputs.new.store) (g.S.Store.failed_call c.read_inputs.new.store) (g.K.Sink.sent c.args.out.now) (g.K.Sink.faults c.args.out.now) in
     rw c.input_status.ensures (subst (λ (k : Cast). Answers k old new (status_of c.in-Err.stop)) same
     (refused-answers its old new c.in-Err.stop read.files read.opened read.room refl refl read.stop read.file))

@@ -17,12 +17,12 @@ use Rattle.blk_world.proofs.world.World.close_world.Goals as goal
 pub returns-clause-closed : goal.returns-clause-closed
 returns-clause-closed g c =
     let store : StoreInRun = c.give_all_back-fault.new.store in
-    let whole : StoreSeen = seen_store (g.S.Store.files c.into_store.result) (g.S.Store.opened c.into_store.result) (g.S.Store.room c.into_store.result) (g.S.Store.faults c.into_store.result) in
+    let whole : StoreSeen = seen_store (g.S.Store.files c.into_store.result) (g.S.Store.opened c.into_store.result) (g.S.Store.room c.into_store.result) (g.S.Store.faults c.into_store.result) (g.S.Store.failed_call c.into_store.result) in
     let end = c.into_store.ensures in
     let back = subst (λ (ds : List DeviceSeen). AreBack c.self.inside.names.table ds (seen_in_run c.self.inside.store) (seen_in_run store) c.give_all_back-fault.result)
     c.into_devices-left.ensures c.give_all_back-fault.ensures.back in
     rw (← c.self.view_is) (closed-by _ store whole c.give_all_back-fault.result back
-    (given-back _ (seen_in_run store) c.give_all_back-fault.result back c.self.invariant.coherent.out) c.give_all_back-fault.ensures.earlier end.files end.opened end.room end.faults)
+    (given-back _ (seen_in_run store) c.give_all_back-fault.result back c.self.invariant.coherent.out) c.give_all_back-fault.ensures.earlier end.files end.opened end.room end.faults end.failed_call)
 
 pub returns-clause-faults : goal.returns-clause-faults
 returns-clause-faults g c =
@@ -46,7 +46,7 @@ returns-clause-none_out g c =
 
 pub returns-clause-held : goal.returns-clause-held
 returns-clause-held g c = λ told name.
-    let after : StoreSeen = seen_store (g.S.Store.files c.into_store.result) (g.S.Store.opened c.into_store.result) (g.S.Store.room c.into_store.result) (g.S.Store.faults c.into_store.result) in
+    let after : StoreSeen = seen_store (g.S.Store.files c.into_store.result) (g.S.Store.opened c.into_store.result) (g.S.Store.room c.into_store.result) (g.S.Store.faults c.into_store.result) (g.S.Store.failed_call c.into_store.result) in
     let closed : EndsWorld c.args.self after c.give_all_back-fault.result = returns-clause-closed g c in
     let joined : IsJoined c.args.self.nodes = subst (λ (w : WorldSeen). IsJoined w.nodes) c.self.view_is c.edges.ensures.joined in
     let whole : IsWholeWorld c.args.self = subst IsWholeWorld c.self.view_is c.self.invariant in
@@ -54,7 +54,7 @@ returns-clause-held g c = λ told name.
 
 pub returns-clause-flushed : goal.returns-clause-flushed
 returns-clause-flushed g c = λ told none.
-    let after : StoreSeen = seen_store (g.S.Store.files c.into_store.result) (g.S.Store.opened c.into_store.result) (g.S.Store.room c.into_store.result) (g.S.Store.faults c.into_store.result) in
+    let after : StoreSeen = seen_store (g.S.Store.files c.into_store.result) (g.S.Store.opened c.into_store.result) (g.S.Store.room c.into_store.result) (g.S.Store.faults c.into_store.result) (g.S.Store.failed_call c.into_store.result) in
     let closed : EndsWorld c.args.self after c.give_all_back-fault.result = returns-clause-closed g c in
     let whole : IsWholeWorld c.args.self = subst IsWholeWorld c.self.view_is c.self.invariant in
     flushed-then c.args.self after c.give_all_back-fault.result closed whole.coherent.out told (whole.tell told) none
@@ -69,7 +69,7 @@ pub returns-clause-disks : goal.returns-clause-disks
 returns-clause-disks g c = λ told s same agrees.
     let joined : IsJoined c.args.self.nodes = subst (λ (w : WorldSeen). IsJoined w.nodes) c.self.view_is c.edges.ensures.joined in
     let whole : IsWholeWorld c.args.self = subst IsWholeWorld c.self.view_is c.self.invariant in
-    let after : StoreSeen = seen_store (g.S.Store.files c.into_store.result) (g.S.Store.opened c.into_store.result) (g.S.Store.room c.into_store.result) (g.S.Store.faults c.into_store.result) in
+    let after : StoreSeen = seen_store (g.S.Store.files c.into_store.result) (g.S.Store.opened c.into_store.result) (g.S.Store.room c.into_store.result) (g.S.Store.faults c.into_store.result) (g.S.Store.failed_call c.into_store.result) in
     let closed : EndsWorld c.args.self after c.give_all_back-fault.result = returns-clause-closed g c in
     all-disks c.args.self (g.S.Store.files c.into_store.result) joined (subst (λ (w : WorldSeen). Unfolds w.nodes) c.self.view_is c.edges.ensures.disks) whole.coherent
     (told-then c.args.self after c.give_all_back-fault.result closed whole.coherent told (whole.tell told))
@@ -79,7 +79,7 @@ pub returns-clause-sound : goal.returns-clause-sound
 returns-clause-sound g c = λ told.
     let joined : IsJoined c.args.self.nodes = subst (λ (w : WorldSeen). IsJoined w.nodes) c.self.view_is c.edges.ensures.joined in
     let whole : IsWholeWorld c.args.self = subst IsWholeWorld c.self.view_is c.self.invariant in
-    let after : StoreSeen = seen_store (g.S.Store.files c.into_store.result) (g.S.Store.opened c.into_store.result) (g.S.Store.room c.into_store.result) (g.S.Store.faults c.into_store.result) in
+    let after : StoreSeen = seen_store (g.S.Store.files c.into_store.result) (g.S.Store.opened c.into_store.result) (g.S.Store.room c.into_store.result) (g.S.Store.faults c.into_store.result) (g.S.Store.failed_call c.into_store.result) in
     let closed : EndsWorld c.args.self after c.give_all_back-fault.result = returns-clause-closed g c in
     all-sound c.args.self (g.S.Store.files c.into_store.result)
     (told-then c.args.self after c.give_all_back-fault.result closed whole.coherent told (whole.tell told))

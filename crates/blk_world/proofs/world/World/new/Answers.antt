@@ -13,6 +13,7 @@ returns-clause-comes g c =
       opened = g.S.Store.opened c.args.store;
       room = g.S.Store.room c.args.store;
       faults = g.S.Store.faults c.args.store;
+      failed_call = g.S.Store.failed_call c.args.store;
     } in
     ok-map c.put_world.result (λ (world : WorldSeen). world ≡ new_world store c.args.guests c.args.room)
     (λ (world : WorldSeen). (o : Opening) → IsOpeningOf store c.args.guests o → Comes o world)

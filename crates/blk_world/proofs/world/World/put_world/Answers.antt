@@ -6,4 +6,4 @@ invariant_of-result g c =
     let parts = c.in-Ok.ensures in
     let S = g.S.Store in
     rw (c.new.ensures, c.faults.ensures, c.none.ensures, parts.nodes, parts.names, parts.progress, parts.bitmaps)
-    (whole-new (S.files c.args.store) (S.opened c.args.store) (S.room c.args.store) (S.faults c.args.store) c.args.guests c.args.room)
+    (whole-new (S.files c.args.store) (S.opened c.args.store) (S.room c.args.store) (S.faults c.args.store) (S.failed_call c.args.store) c.args.guests c.args.room)
