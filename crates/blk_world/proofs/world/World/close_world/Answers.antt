@@ -22,7 +22,7 @@ returns-clause-closed g c =
     let back = subst (λ (ds : List DeviceSeen). AreBack c.self.inside.names.table ds (seen_in_run c.self.inside.store) (seen_in_run store) c.give_all_back-fault.result)
     c.into_devices-left.ensures c.give_all_back-fault.ensures.back in
     rw (← c.self.view_is) (closed-by _ store whole c.give_all_back-fault.result back
-    (given-back _ (seen_in_run store) c.give_all_back-fault.result back c.self.invariant.coherent.out) c.give_all_back-fault.ensures.earlier end.files end.opened end.room end.faults end.failed_call)
+    (given-back _ (seen_in_run store) c.give_all_back-fault.result back c.self.invariant.coherent.out) c.give_all_back-fault.ensures.earlier end.files end.opened end.room end.faults end.call)
 
 pub returns-clause-faults : goal.returns-clause-faults
 returns-clause-faults g c =
