@@ -5,7 +5,7 @@ ghost use Rattle.blk_base.specs.Files.{IfTold};
 ghost use Rattle.trace_codec.specs.Amounts.{nothing};
 ghost use Rattle.trace_codec.specs.Script.{seen_order};
 ghost use Rattle.qblk_inputs.specs.Words.{texts_in, player_of, player_names, guests_of, cast_of};
-ghost use Rattle.qblk_inputs.specs.Inputs.{IsScript, ReadsAsTrace, HasTraces, IsRefusedScript, IsRefusedTrace, HasWork, IsScriptFlaw, IsTraceFlaw};
+ghost use Rattle.qblk_inputs.specs.Inputs.{IsScript, ReadsAsTrace, HasTraces, IsWork, IsRefusedScript, IsRefusedTrace, HasWork, IsScriptFlaw, IsTraceFlaw};
 ghost use Rattle.qblk_inputs.specs.Reading.{NoneOut, IsReadOfFile, IsUnread, IsUnreadFlaw, IsInputRefusal, StopsFor, OfFile, OfTraces, OfInputs, StopsOn, OnFile, OnTraces, OnInputs};
 
 use crate::stop::{InputFlaw, InputStop};
@@ -207,6 +207,11 @@ pub fn read_inputs<S: Store>(
           script = map seen_order i.script.items;
           traces = map (λ t. t.items) i.traces.items;
         }))) }
+    ensures work { IfOk result
+        (λ i. IsWork (cast_of script.now (texts_in players.now)) (record {
+          script = map seen_order i.script.items;
+          traces = map (λ t. t.items) i.traces.items;
+        })) }
     ensures stop { IfErr result (StopsFor
         (OfInputs (S.files store.old) (cast_of script.now (texts_in players.now)))
         (S.faults store.old) (S.faults store.new)) }

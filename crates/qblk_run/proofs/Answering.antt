@@ -28,7 +28,7 @@ use Rattle.qblk_core.specs.Output.{SendsFront}
 use Rattle.qblk_core.specs.declared.status.Status.{Status}
 use Rattle.qblk_core.specs.declared.status.Status.TheVariants.{Done, Fault, Stuck, NoMemory}
 use Rattle.qblk_core.specs.Session.{failed_as}
-use Rattle.qblk_inputs.specs.Inputs.{Work, HasWork}
+use Rattle.qblk_inputs.specs.Inputs.{Work, HasWork, IsWork}
 use Rattle.qblk_inputs.specs.Words.{Cast, guests_of}
 use Rattle.qblk_run.specs.Beginning.{new_tasks}
 use Rattle.qblk_run.specs.Ending.{EndsAs, ended_as, WentOut}
@@ -75,7 +75,7 @@ front-out old new front rest whole is sent = sent ∙ ap (λ (x : List ℕ). opt
 -- ---- the statuses
 
 module _ (cast : Cast) (work : Work) (old new : Setting) (room : Room) (sized : room ≡ history_room work) (log : Recorded) (fault : Option FaultAt) (waiting : Option (ℕ × Waits Written))
-    (inputs : IfTold old.store.files (HasWork cast work)) (count : length work.traces ≡ length (guests_of cast))
+    (said : IsWork cast work) (inputs : IfTold old.store.files (HasWork cast work)) (count : length work.traces ≡ length (guests_of cast))
     (played : IsPlayed (new_world old.store (guests_of cast) room) (new_tasks work.script work.traces) new.store log fault waiting)
     (begins : (o : Opening) → IsOpeningOf old.store (guests_of cast) o → Comes o (new_world old.store (guests_of cast) room)) where
   abbrev w : WorldSeen
@@ -106,7 +106,7 @@ module _ (cast : Cast) (work : Work) (old new : Setting) (room : Room) (sized : 
   run-as x is = subst (λ (f : Option FaultAt). IsRun cast work true f old.store new.store its) is (run true refl)
 
   was : (x : Option FaultAt) → fault ≡ x → (n : ℕ) → new.sent ≡ option_map (λ s. s ++ take n (whole_transcript its)) old.sent → WasRun cast work x old new its n
-  was x is n sent = record { inputs = inputs; run = run-as x is; sent = sent }
+  was x is n sent = record { asked = said; inputs = inputs; run = run-as x is; sent = sent }
 
   devices : HaveDevices (guests_of cast) played.now.progress.log.events played.now.table
   devices = run-devices (opening_by old.store (guests_of cast)) course old.store (guests_of cast) room played.now.progress.log.events played.now has.through

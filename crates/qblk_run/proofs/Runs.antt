@@ -24,7 +24,7 @@ use Rattle.qblk_core.specs.declared.status.Status.{Status}
 use Rattle.qblk_core.specs.declared.status.Status.TheVariants.{NoMemory}
 use Rattle.qblk_core.specs.declared.words.Format.{Format}
 use Rattle.qblk_core.specs.Words.{IsIo}
-use Rattle.qblk_inputs.specs.Inputs.{Work, HasWork}
+use Rattle.qblk_inputs.specs.Inputs.{Work, HasWork, IsWork}
 use Rattle.qblk_inputs.specs.Reading.{StopsFor, OfInputs, StopsOn, OnInputs}
 use Rattle.qblk_inputs.specs.Room.{IsRoomFor, entries_for_all}
 use Rattle.qblk_inputs.specs.Words.{Cast, IsRunOf, Player, guests_of, player_of}
@@ -67,11 +67,11 @@ played-lines w script traces store log fault waiting guests none count played =
     subst (λ (l : Recorded). CanHaveLines guests l.events) (sym played.log_is) (played.so.lines guests (omega arith) lines)
 
 -- memory wasn't had for a turn
-pub given-up : (cast : Cast) (work : Work) (old new : Setting) (room : Room) → room ≡ history_room work → IfTold old.store.files (HasWork cast work) → length work.traces ≡ length (guests_of cast)
+pub given-up : (cast : Cast) (work : Work) (old new : Setting) (room : Room) → room ≡ history_room work → IsWork cast work → IfTold old.store.files (HasWork cast work) → length work.traces ≡ length (guests_of cast)
     → ((o : Opening) → IsOpeningOf old.store (guests_of cast) o → Comes o (new_world old.store (guests_of cast) room))
     → IsGivenUp (new_world old.store (guests_of cast) room) (new_tasks work.script work.traces) new.store
     → new.sent ≡ old.sent → new.sink_faults ≡ old.sink_faults → Answers cast old new NoMemory
-given-up cast work old new room sized inputs count begins given sent sink =
+given-up cast work old new room sized said inputs count begins given sent sink =
     let o = opening_by old.store (guests_of cast) in
     let c = course_of work.script work.traces in
     let w = new_world old.store (guests_of cast) room in
@@ -88,6 +88,7 @@ given-up cast work old new room sized inputs count begins given sent sink =
         work,
         given.fault,
         account old.store (guests_of cast) w given.now new.store given.fault refl refl refl refl comes.counted given.stays comes given.end,
+        said,
         inputs,
         run-is old.store (guests_of cast) w given.now new.store given.fault refl refl refl refl comes.counted given.stays comes given.end cast work false refl count
             (subst (λ (p : Progress). KeepsOrder c p.log.events) same keeps.order) room sized near
@@ -133,7 +134,8 @@ pub refused-answers : (cast : Cast) (old new : Setting) (stop : InputStop)
     → StopsFor (OfInputs old.store.files cast) old.store.faults new.store.faults stop → StopsOn (OnInputs old.store.files cast) old.store.failed_call new.store.failed_call stop
     → Answers cast old new (status_of stop)
 refused-answers cast old new (stops.Refused name line why) files opened room sent sink stop on =
-    (record { files = files; opened = opened; room = room; sent = sent; sink = sink }, stop.1, (why, refl, stop.0.0, stop.0.1))
+    let same : new.store ≡ old.store = same-store new.store old.store files opened room stop.1 on in
+    (record { files = files; opened = opened; room = room; sent = sent; sink = sink }, same, (why, refl, stop.0.0, stop.0.1))
 refused-answers cast old new (stops.Failed count) files opened room sent sink stop on =
     (record { files = files; opened = opened; room = room; sent = sent; sink = sink }, stop.0, stop.1, on)
 refused-answers cast old new stops.NoMemory files opened room sent sink stop on = (sent, sink, inl (same-store new.store old.store files opened room stop on))
@@ -169,9 +171,9 @@ module _ (cast : Cast) (work : Work) (old new : Setting) (room : Room) (guests i
   same : its ≡ guests_of cast
   same = ready.guests_are ∙ sym called
 
-  pub given-here : IfTold old.store.files (HasWork cast work) → IsGivenUp world actors new.store → new.sent ≡ old.sent → new.sink_faults ≡ old.sink_faults → Answers cast old new NoMemory
-  given-here inputs given sent sink =
-      given-up cast work old new room (room-is work room ready.room_is) inputs (count ∙ ap length (sym called)) (begins-is old.store (guests_of cast) its room world same is begins)
+  pub given-here : IsWork cast work → IfTold old.store.files (HasWork cast work) → IsGivenUp world actors new.store → new.sent ≡ old.sent → new.sink_faults ≡ old.sink_faults → Answers cast old new NoMemory
+  given-here said inputs given sent sink =
+      given-up cast work old new room (room-is work room ready.room_is) said inputs (count ∙ ap length (sym called)) (begins-is old.store (guests_of cast) its room world same is begins)
       (subst (λ (t : Tasks). IsGivenUp (new_world old.store (guests_of cast) room) t new.store) ready.actors_are
       (subst (λ (w : WorldSeen). IsGivenUp w actors new.store) (world-is old.store (guests_of cast) its room world same is) given)) sent sink
 
@@ -182,12 +184,12 @@ module _ (cast : Cast) (work : Work) (old new : Setting) (room : Room) (guests i
       (subst (λ (w : WorldSeen). IsPlayed w actors new.store log fault waiting) (world-is old.store (guests_of cast) its room world same is) played)
 
   pub played-here : (log : Recorded) (fault : Option FaultAt) (waiting : Option (ℕ × Waits Written)) (status : Status)
-      → IfTold old.store.files (HasWork cast work) → IsPlayed world actors new.store log fault waiting
+      → IsWork cast work → IfTold old.store.files (HasWork cast work) → IsPlayed world actors new.store log fault waiting
       → EndsAs fault waiting old.sent new.sent (transcript (guests_only names) log.events) old.sink_faults new.sink_faults status → Answers cast old new status
-  played-here log fault waiting status inputs played ends =
+  played-here log fault waiting status said inputs played ends =
       let played' = played-as log fault waiting played in
       let printed : names ≡ guests_of cast = ready.names_are ∙ sym called in
-      run-answers cast work old new room (room-is work room ready.room_is) log fault waiting inputs (count ∙ ap length (sym called)) played' (begins-is old.store (guests_of cast) its room world same is begins)
+      run-answers cast work old new room (room-is work room ready.room_is) log fault waiting said inputs (count ∙ ap length (sym called)) played' (begins-is old.store (guests_of cast) its room world same is begins)
       (played-lines (new_world old.store (guests_of cast) room) work.script work.traces new.store log fault waiting (guests_of cast) refl (count ∙ ap length (sym called)) played')
       status (subst (λ (ns : List (List ℕ)). EndsAs fault waiting old.sent new.sent (transcript (guests_only ns) log.events) old.sink_faults new.sink_faults status) printed ends)
 

@@ -2,7 +2,7 @@
 ghost use Rattle.std.specs.Prelude.{◌≡◌, ◌+◌, ◌^◌, ◌<◌, ◌≤◌, ℕ, List, false, length, map, vec_len};
 ghost use Rattle.blk_base.specs.Files.{IfTold, is_out};
 ghost use Rattle.trace_codec.specs.Script.{seen_order};
-ghost use Rattle.qblk_inputs.specs.Inputs.{HasWork};
+ghost use Rattle.qblk_inputs.specs.Inputs.{HasWork, IsWork};
 ghost use Rattle.qblk_inputs.specs.Reading.{NoneOut};
 ghost use Rattle.qblk_inputs.specs.Words.{Cast, IsRunOf, texts_in, guests_of};
 ghost use Rattle.qblk_core.specs.Run.{why_of};
@@ -59,6 +59,10 @@ fn run_inputs<S: Store, K: Sink>(
     requires few { length inputs.guests ≤ 16 }
     requires count { vec_len inputs.traces ≡ length inputs.guests }
     ensures ended { (cast : Cast) → guests_of cast ≡ inputs.guests
+        → IsWork cast (record {
+          script = map seen_order inputs.script.items;
+          traces = map (λ t. t.items) inputs.traces.items;
+        })
         → IfTold (S.files store) (HasWork cast (record {
           script = map seen_order inputs.script.items;
           traces = map (λ t. t.items) inputs.traces.items;

@@ -20,20 +20,20 @@ play-made-requires g c = record {
 }
 
 pub returns-in-None-clause-ended : goal.returns-in-None-clause-ended
-returns-in-None-clause-ended g c = λ cast names work.
+returns-in-None-clause-ended g c = λ cast names said work.
     let ready = c.in-Ok.ensures in
     let old : Setting = setting (g.S.Store.files c.args.store) (g.S.Store.opened c.args.store) (g.S.Store.room c.args.store) (g.S.Store.faults c.args.store) (g.S.Store.failed_call c.args.store) (g.K.Sink.sent c.args.out.now) (g.K.Sink.faults c.args.out.now) in
     let new : Setting = setting (g.S.Store.files c.play-made.result.1) (g.S.Store.opened c.play-made.result.1) (g.S.Store.room c.play-made.result.1) (g.S.Store.faults c.play-made.result.1) (g.S.Store.failed_call c.play-made.result.1) (g.K.Sink.sent c.args.out.now) (g.K.Sink.faults c.args.out.now) in
     let w : Work = record { script = map seen_order c.args.inputs.script.items; traces = map (λ t. t.items) c.args.inputs.traces.items } in
     given-here cast w old new c.in-Ok.field-0.room c.args.inputs.guests c.in-Ok.field-0.guests c.in-Ok.field-0.names c.in-Ok.field-0.actors c.in-Ok-new.world ready names
-    (traces-count c.args.inputs.traces _ c.requires.count) c.in-Ok-new.ensures.ok c.in-Ok-new.ensures.comes work (c.play-made.ensures.stopped c.in-None.is) refl refl
+    (traces-count c.args.inputs.traces _ c.requires.count) c.in-Ok-new.ensures.ok c.in-Ok-new.ensures.comes said work (c.play-made.ensures.stopped c.in-None.is) refl refl
 
 pub returns-in-Some-clause-ended : goal.returns-in-Some-clause-ended
-returns-in-Some-clause-ended g c = λ cast names work.
+returns-in-Some-clause-ended g c = λ cast names said work.
     let old : Setting = setting (g.S.Store.files c.args.store) (g.S.Store.opened c.args.store) (g.S.Store.room c.args.store) (g.S.Store.faults c.args.store) (g.S.Store.failed_call c.args.store) (g.K.Sink.sent c.args.out.now) (g.K.Sink.faults c.args.out.now) in
     let new : Setting = setting (g.S.Store.files c.play-made.result.1) (g.S.Store.opened c.play-made.result.1) (g.S.Store.room c.play-made.result.1) (g.S.Store.faults c.play-made.result.1) (g.S.Store.failed_call c.play-made.result.1) (g.K.Sink.sent c.write_out.new.out) (g.K.Sink.faults c.write_out.new.out) in
     let w : Work = record { script = map seen_order c.args.inputs.script.items; traces = map (λ t. t.items) c.args.inputs.traces.items } in
     let made = if-some c.play-made.result.0 c.in-Some.made _ c.in-Some.is c.play-made.ensures.made in
     played-here cast w old new c.in-Ok.field-0.room c.args.inputs.guests c.in-Ok.field-0.guests c.in-Ok.field-0.names c.in-Ok.field-0.actors c.in-Ok-new.world c.in-Ok.ensures names
     (traces-count c.args.inputs.traces _ c.requires.count) c.in-Ok-new.ensures.ok c.in-Ok-new.ensures.comes
-    c.in-Some.made.history c.in-Some.made.fault c.in-Some.made.waiting c.write_out.result work made c.write_out.ensures
+    c.in-Some.made.history c.in-Some.made.fault c.in-Some.made.waiting c.write_out.result said work made c.write_out.ensures

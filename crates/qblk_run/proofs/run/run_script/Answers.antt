@@ -15,7 +15,7 @@ returns-in-Ok-clause-ended g c = λ cast form.
     let read = c.in-Ok.ensures in
     let work : Work = record { script = map seen_order c.in-Ok.inputs.script.items; traces = map (λ t. t.items) c.in-Ok.inputs.traces.items } in
     let told : IfTold (g.S.Store.files c.read_inputs.new.store) (HasWork its work) = rw read.files read.read in
-    let answers = c.run_inputs.ensures.ended its (sym read.guests) told in
+    let answers = c.run_inputs.ensures.ended its (sym read.guests) read.work told in
     subst (λ (k : Cast). Answers k
     (setting (g.S.Store.files c.args.store) (g.S.Store.opened c.args.store) (g.S.Store.room c.args.store) (g.S.Store.faults c.args.store) (g.S.Store.failed_call c.args.store) (g.K.Sink.sent c.args.out.now) (g.K.Sink.faults c.args.out.now))
     (setting (g.S.Store.files c.run_inputs.result.1) (g.S.Store.opened c.run_inputs.result.1) (g.S.Store.room c.run_inputs.result.1) (g.S.Store.faults c.run_inputs.result.1) (g.S.Store.failed_call c.run_inputs.result.1) (g.K.Sink.sent c.run_inputs.new.out) (g.K.Sink.faults c.run_inputs.new.out))
