@@ -18,6 +18,7 @@ pub mod NameCalls
 pub mod NameAnswers
 pub mod Opened
 pub mod Whole
+pub mod OpeningCalls
 pub mod Mapped
 pub mod DataWrites
 pub mod HostUses

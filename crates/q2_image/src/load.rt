@@ -1,13 +1,15 @@
 //! Loading the refcount table and the mapping's tables of an image, and which of their refusals comes first.
 
-ghost use Rattle.std.specs.Prelude.{◌≡◌, ℕ, List, Some, None, Option, IfOk, IfErr};
+ghost use Rattle.std.specs.Prelude.{◌≡◌, ◌⊎◌, ℕ, List, Some, None, Option, IfOk, IfErr};
 ghost use Rattle.blk_base.specs.Calls.{FailsAt};
 ghost use Rattle.blk_base.specs.Device.{Reads};
 ghost use Rattle.q2_format.specs.Header.{CanBeRead};
 ghost use Rattle.q2_format.specs.Sizes.{cluster_size};
 ghost use Rattle.q2_format.specs.Tables.{active_tree, refcount_table};
+ghost use Rattle.q2_refs.specs.Loading.{table_call};
 ghost use Rattle.q2_tables.specs.Kept.{IsTreeOf};
 ghost use Rattle.q2_tables.specs.Loading.{IsLoaded, IsTablesCall};
+ghost use Rattle.q2_image.specs.OpeningCalls.{AreBlocksPlaced};
 ghost use Rattle.q2_image.specs.Opening.{Judges, fault_of_image, place_stops};
 ghost use Rattle.q2_image.specs.Loading.{table_stops, reserved_entry, IsTableOf, IsTableRead, IsTableAnswer, TableTells};
 ghost use Rattle.q2_image.specs.Merge.{behind_reserved, merged_stop};
@@ -135,6 +137,10 @@ pub(crate) fn load<D: Device>(
     ensures has_table { IfOk result (λ both. IsTableRead header.now (D.size dev.old) both.0.items) }
     ensures has_tables { IfOk result (λ both. IsLoaded header.now (D.size dev.old) both.1) }
     ensures device { Reads D.Device (fault_of_image result) dev.old dev.new }
+    ensures call { FailsAt (λ call. (call ≡ table_call header.now)
+        ⊎ (AreBlocksPlaced header.now (D.size dev.old) (D.content dev.old)
+        × IsTablesCall header.now (D.size dev.old) (D.content dev.old) call))
+        (fault_of_image result) (D.failed_call dev.new) }
 {
     match load_ref_table(alloc, dev, header) {
         Ok(table) => load_behind(alloc, dev, header, table),

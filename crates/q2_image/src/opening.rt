@@ -1,12 +1,15 @@
 //! Opening an image: its header, its tables, and what they name.
 
 ghost use Rattle.std.specs.Prelude.{◌≡◌, ◌^◌, ◌<◌, ◌≤◌, ℕ, List, length, take, Some, None, Err, IfOk, IfErr};
+ghost use Rattle.blk_base.specs.Calls.{FailsAt};
 ghost use Rattle.blk_base.specs.Device.{Reads};
 ghost use Rattle.q2_format.specs.Header.{CanBeRead, IsWithinLimits, refused_where};
 ghost use Rattle.q2_format.specs.References.{cluster_bound, reach_of};
 ghost use Rattle.q2_format.specs.Sound.{image_refusal, is_header_full, HeaderFull};
+ghost use Rattle.q2_refs.specs.Loading.{IsBlockCall};
 ghost use Rattle.q2_tables.specs.Loading.{IsLoaded};
 ghost use Rattle.q2_image.specs.Opening.{Judges, fault_of_image, IsNoFault, ArePlaced, uses_in, overlap_stop, names_stops, place_stops};
+ghost use Rattle.q2_image.specs.OpeningCalls.{AreTablesRead, IsOpeningCall};
 ghost use Rattle.q2_image.specs.Seen.{IsSeen};
 ghost use Rattle.q2_image.specs.Loading.{counts_loaded, HasCounts, IsTableRead, IsReadFrom};
 ghost use Rattle.q2_image.specs.Image.{IsImageOf, IsOpen};
@@ -144,6 +147,10 @@ fn open_tables<D: Device>(
     ensures reach { IfOk result
         (λ image. length image.refs.counts ≡ reach_of image.header (D.size dev.old)) }
     ensures device { Reads D.Device (fault_of_image result) dev.old dev.new }
+    ensures call { FailsAt (λ call.
+        AreTablesRead header (D.size dev.old) (D.content dev.old) table.items
+        × IsBlockCall header (counts_loaded header (D.size dev.old)) table.items call)
+        (fault_of_image result) (D.failed_call dev.new) }
 {
     let len = dev.length();
     let seen = name_once(alloc, &header, len, table.as_slice(), &tables)?;
@@ -172,6 +179,8 @@ pub fn open_image<D: Device>(alloc: Global, dev: &mut D) -> Result<Image, ImageS
     // a file that is too short for a header isn't read
     ensures short { D.size dev.old < MIN_HEADER_LENGTH → result ≡ Err (ImageStop.Header Short) }
     ensures device { Reads D.Device (fault_of_image result) dev.old dev.new }
+    ensures call { FailsAt (IsOpeningCall (D.size dev.old) (D.content dev.old))
+        (fault_of_image result) (D.failed_call dev.new) }
 {
     let header = open_header(alloc, dev)?;
     let len = dev.length();

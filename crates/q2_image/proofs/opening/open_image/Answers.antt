@@ -1,10 +1,12 @@
 use Rattle.std.proofs.Common.{◌≡◌, ℕ, length, None, Some, Err, sym, ap, subst, ◌∙◌}
 use Rattle.std.proofs.lemmas.Result.{err_from_is_err_and}
 use Rattle.q2_image.specs.Opening.{Names, header_stops, place_stops}
+use Rattle.q2_image.specs.OpeningCalls.{IsOpeningCall}
 use Rattle.q2_format.specs.declared.header.HeaderStop.TheVariants.{Short}
 use Rattle.q2_image.specs.declared.stop.ImageStop.TheVariants as stops
 use Rattle.q2_image.proofs.Faults.{refused_quietly}
 use Rattle.q2_image.proofs.Whole.{read_from, header_named, place_named, word_named, ok_told, ok_reach_at}
+use Rattle.q2_image.proofs.OpeningCalls.{call_passed, no_call_passed, first_fails, load_fails, counts_fail, header_read}
 use Rattle.q2_image.proofs.opening.open_image.Goals as goal
 
 pub returns-in_err-header-clause-judged : goal.returns-in_err-header-clause-judged
@@ -69,3 +71,33 @@ returns-in-Ok-clause-short g c = λ few. let is = c.in_ok-header.ensures.short f
 
 pub returns-in-Err-clause-short : goal.returns-in-Err-clause-short
 returns-in-Err-clause-short g c = λ few. let is = c.in_ok-header.ensures.short few in absurd (cc is)
+
+pub returns-in_err-header-clause-call : goal.returns-in_err-header-clause-call
+returns-in_err-header-clause-call g c =
+    let p = err_from_is_err_and c.from_residual.result c.from_residual.ensures.1 in
+    call_passed (IsOpeningCall (g.D.Device.size c.args.dev.now) (g.D.Device.content c.args.dev.now)) p.0 c.in_err-header.field-0.0 c.from_residual.result _ p.1 p.2
+    (first_fails (g.D.Device.size c.args.dev.now) (g.D.Device.content c.args.dev.now) _ _ c.in_err-header.ensures.call)
+
+pub returns-in_err-check_places-clause-call : goal.returns-in_err-check_places-clause-call
+returns-in_err-check_places-clause-call g c =
+    let p = err_from_is_err_and c.from_residual-in_err-check_places.result c.from_residual-in_err-check_places.ensures.1 in
+    no_call_passed (IsOpeningCall (g.D.Device.size c.args.dev.now) (g.D.Device.content c.args.dev.now)) p.0 c.in_err-check_places.field-0.0 c.from_residual-in_err-check_places.result _ p.1 p.2
+    c.in_err-check_places.ensures.no_fault
+
+pub returns-in-Err-clause-call : goal.returns-in-Err-clause-call
+returns-in-Err-clause-call g c =
+    let h = c.in_ok-header.header in
+    let reads = c.in_ok-header.ensures.device.reads in
+    let read = header_read h (g.D.Device.size c.args.dev.now) c.length-len.result (g.D.Device.content c.args.dev.now) (c.length-len.ensures ∙ reads.size)
+    c.in_ok-header.ensures.limits c.in_ok-header.ensures.readable c.in_ok-check_places.ensures.judged c.in_ok-header.ensures.judged c.in_ok-header.ensures.header in
+    load_fails h (g.D.Device.size c.args.dev.now) _ (g.D.Device.content c.args.dev.now) _ _ _ reads.size reads.content read c.in-Err.ensures.call
+
+pub returns-in-Ok-clause-call : goal.returns-in-Ok-clause-call
+returns-in-Ok-clause-call g c =
+    let h = c.in_ok-header.header in
+    let reads = c.in_ok-header.ensures.device.reads in
+    let later = c.in-Ok.ensures.device.reads in
+    let read = header_read h (g.D.Device.size c.args.dev.now) c.length-len.result (g.D.Device.content c.args.dev.now) (c.length-len.ensures ∙ reads.size)
+    c.in_ok-header.ensures.limits c.in_ok-header.ensures.readable c.in_ok-check_places.ensures.judged c.in_ok-header.ensures.judged c.in_ok-header.ensures.header in
+    counts_fail h (g.D.Device.size c.args.dev.now) _ (g.D.Device.content c.args.dev.now) _ _ _ (later.size ∙ reads.size) (later.content ∙ reads.content) read c.in-Ok.table.items
+    c.open_tables.ensures.call

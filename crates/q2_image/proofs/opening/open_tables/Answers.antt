@@ -9,6 +9,7 @@ use Rattle.q2_image.proofs.Opened.{are_placed}
 use Rattle.q2_image.proofs.Faults.{refused_quietly, answered_quietly}
 use Rattle.q2_image.proofs.Order.{none_named}
 use Rattle.q2_image.proofs.Whole.{overlap_named, loaded_from, last_judged, ok_image, ok_reach, ok_reach_at}
+use Rattle.q2_image.proofs.OpeningCalls.{IsCountsCall, no_call, no_call_passed, call_passed, counts_read, tables_read}
 use Rattle.q2_image.proofs.opening.open_tables.Goals as goal
 
 pub name_once-requires-clause-placed : goal.name_once-requires-clause-placed
@@ -73,3 +74,22 @@ returns-clause-reach g c =
 
 pub returns-clause-device : goal.returns-clause-device
 returns-clause-device g c = answered_quietly g.D.Device c.finish.result c.args.dev.now c.load_refcounts.new.dev c.finish.ensures.no_fault c.in_ok-refs.ensures.device
+
+pub returns-in_err-seen-clause-call : goal.returns-in_err-seen-clause-call
+returns-in_err-seen-clause-call g c =
+    let p = err_from_is_err_and c.from_residual.result c.from_residual.ensures.1 in
+    no_call_passed (IsCountsCall c.args.header (g.D.Device.size c.args.dev.now) (g.D.Device.content c.args.dev.now) c.args.table.items) p.0 c.in_err-seen.field-0.0 c.from_residual.result _ p.1 p.2 c.in_err-seen.ensures.no_fault
+
+pub returns-in_err-refs-clause-call : goal.returns-in_err-refs-clause-call
+returns-in_err-refs-clause-call g c =
+    let p = err_from_is_err_and c.from_residual-in_err-refs.result c.from_residual-in_err-refs.ensures.1 in
+    let h = c.args.header in
+    let O : List ℕ → Type 0 = λ table. overlap_stop (uses_in h table c.args.tables.l1 c.args.tables.words) (cluster_bound h c.length-len.result) ≡ None in
+    let read = tables_read h (g.D.Device.size c.args.dev.now) c.length-len.result (g.D.Device.content c.args.dev.now) c.args.table.items c.args.tables c.length-len.ensures
+    c.requires.table c.requires.loaded (subst O c.as_slice.ensures.value c.in_ok-seen.ensures.judged) c.requires.read in
+    call_passed (IsCountsCall h (g.D.Device.size c.args.dev.now) (g.D.Device.content c.args.dev.now) c.args.table.items) p.0 c.in_err-refs.field-0.0 c.from_residual-in_err-refs.result _ p.1 p.2
+    (counts_read h (g.D.Device.size c.args.dev.now) (g.D.Device.content c.args.dev.now) c.args.table.items _ _ read c.in_err-refs.ensures.call)
+
+pub returns-clause-call : goal.returns-clause-call
+returns-clause-call g c =
+    no_call (IsCountsCall c.args.header (g.D.Device.size c.args.dev.now) (g.D.Device.content c.args.dev.now) c.args.table.items) c.finish.result _ c.finish.ensures.no_fault
