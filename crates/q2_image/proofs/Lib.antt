@@ -19,6 +19,8 @@ pub mod NameAnswers
 pub mod Opened
 pub mod Whole
 pub mod OpeningCalls
+pub mod Placed
+pub mod Refused
 pub mod Mapped
 pub mod DataWrites
 pub mod HostUses

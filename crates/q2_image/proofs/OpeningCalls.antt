@@ -10,9 +10,9 @@ use Rattle.q2_format.specs.declared.header.Header.{Header}
 use Rattle.q2_refs.specs.Loading.{IsBlockCall, table_call}
 use Rattle.q2_tables.specs.Kept as tables
 use Rattle.q2_tables.specs.Loading.{IsLoaded, IsTablesCall}
-use Rattle.q2_image.specs.Loading.{IsReadFrom, IsTableRead, TableTells, counts_loaded}
+use Rattle.q2_image.specs.Loading.{IsReadFrom, IsTableRead, counts_loaded}
 use Rattle.q2_image.specs.Opening.{IsNoFault, fault_in_image, fault_of_image, header_stops, overlap_stop, place_stops, uses_in}
-use Rattle.q2_image.specs.OpeningCalls.{AreBlocksPlaced, AreTablesRead, IsCallBehindHeader, IsFirstCall, IsHeaderRead, IsOpeningCall}
+use Rattle.q2_image.specs.OpeningCalls.{AreBlocksPlaced, AreTablesRead, IsFirstCall, IsHeaderRead, IsOpeningCall}
 use Rattle.q2_image.specs.declared.stop.ImageStop.{ImageStop}
 
 -- what is so of each content that is told

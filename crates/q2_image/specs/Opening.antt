@@ -62,6 +62,11 @@ IsRefusalFor (Io count) len = Unit {0}
 IsRefusalFor NoMemory len = Unit {0}
 IsRefusalFor stop len = (h : Header) × CanBeRead h len × IsWithinLimits h len
 
+-- a stop that names no refusal of the header
+abbrev pub IsNoHeader : ImageStop → Type 0
+IsNoHeader (HeaderStops stop) = ⊥
+IsNoHeader stop = Unit {0}
+
 -- the header's refusal, as one of an image
 abbrev pub header_stops : List ℕ → ℕ → Option Refusal
 header_stops file len = option_map InHeader (header_refusal file len)

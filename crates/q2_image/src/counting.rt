@@ -7,10 +7,10 @@ ghost use Rattle.q2_format.specs.Header.{CanBeRead, IsWithinLimits};
 ghost use Rattle.q2_format.specs.Sound.{lowest};
 ghost use Rattle.q2_format.specs.References.{cluster_bound, reach_of};
 ghost use Rattle.q2_format.specs.Tables.{refcount_table};
-ghost use Rattle.q2_refs.specs.Kept.{IsCountsOf};
+ghost use Rattle.q2_refs.specs.Kept.{AreAbsentFree, IsCountsOf};
 ghost use Rattle.q2_refs.specs.Loading.{IsBlockCall, table_call};
 ghost use Rattle.q2_image.specs.Seen.{IsSeen, is_uncounted};
-ghost use Rattle.q2_image.specs.Opening.{Judges, fault_of_image, IsNoFault, place_stops, refusal_of, uncounted_stop};
+ghost use Rattle.q2_image.specs.Opening.{Judges, fault_of_image, IsNoFault, IsNoHeader, place_stops, refusal_of, uncounted_stop};
 ghost use Rattle.q2_image.specs.Loading.{counts_loaded, reserved_entry, IsTableOf, IsTableRead, IsTableAnswer, HasCounts, TableTells, IsBlockStop};
 
 use crate::header::cluster_size;
@@ -68,6 +68,7 @@ pub(crate) fn load_ref_table<D: Device>(
         × IsTableOf file header.now table) }
     ensures stop { IfErr result (λ stop. (file : List ℕ) → D.content dev.old ≡ Some file
         → IfSome (refusal_of stop) (IsBlockStop file header.now (D.size dev.old))) }
+    ensures no_header { IfErr result IsNoHeader }
     ensures read { IfOk result (IsTableAnswer header.now (D.size dev.old)) }
     ensures device { Reads D.Device (fault_of_image result) dev.old dev.new }
     ensures call { FailsAt (λ call. call ≡ table_call header.now)
@@ -101,6 +102,7 @@ pub(crate) fn load_refcounts<D: Device>(
     ensures loaded { IfOk result
         (HasCounts header.now (D.size dev.old) (counts_loaded header.now (D.size dev.old))) }
     ensures table { IfOk result (λ refs. refs.table ≡ table.items) }
+    ensures absent { IfOk result AreAbsentFree }
     ensures stop { IfErr result (λ stop. refusal_of stop ≡ None) }
     ensures device { Reads D.Device (fault_of_image result) dev.old dev.new }
     ensures call { FailsAt

@@ -11,7 +11,7 @@ ghost use Rattle.q2_format.specs.Sound.{is_misplaced};
 ghost use Rattle.q2_format.specs.declared.header.HeaderStop.TheVariants.{Short};
 ghost use Rattle.q2_format.specs.declared.header.TheConstants.{MIN_HEADER_LENGTH};
 ghost use Rattle.q2_image.specs.declared.header.TheConstants.{CLUSTER};
-ghost use Rattle.q2_image.specs.Opening.{Judges, fault_of_image, IsNoFault, refusal_of, header_stops, place_stops};
+ghost use Rattle.q2_image.specs.Opening.{Judges, fault_of_image, IsNoFault, IsRefusalFor, refusal_of, header_stops, place_stops};
 ghost use Rattle.q2_image.specs.OpeningCalls.{IsFirstCall};
 
 use crate::stop::ImageStop;
@@ -58,6 +58,7 @@ pub(crate) fn open_header<D: Device>(alloc: Global, dev: &mut D) -> Result<Heade
     ensures limits { IfOk result (λ h. IsWithinLimits h (D.size dev.old)) }
     ensures readable { IfOk result (λ h. CanBeRead h (D.size dev.old)) }
     ensures short { D.size dev.old < MIN_HEADER_LENGTH → result ≡ Err (ImageStop.Header Short) }
+    ensures refusal { IfErr result (λ stop. IsRefusalFor stop (D.size dev.old)) }
     ensures device { Reads D.Device (fault_of_image result) dev.old dev.new }
     ensures call { FailsAt (IsFirstCall (D.size dev.old))
         (fault_of_image result) (D.failed_call dev.new) }

@@ -10,7 +10,7 @@ ghost use Rattle.q2_refs.specs.Loading.{table_call};
 ghost use Rattle.q2_tables.specs.Kept.{IsTreeOf};
 ghost use Rattle.q2_tables.specs.Loading.{IsLoaded, IsTablesCall};
 ghost use Rattle.q2_image.specs.OpeningCalls.{AreBlocksPlaced};
-ghost use Rattle.q2_image.specs.Opening.{Judges, fault_of_image, place_stops};
+ghost use Rattle.q2_image.specs.Opening.{IsNoHeader, Judges, fault_of_image, place_stops};
 ghost use Rattle.q2_image.specs.Loading.{table_stops, reserved_entry, IsTableOf, IsTableRead, IsTableAnswer, TableTells};
 ghost use Rattle.q2_image.specs.Merge.{behind_reserved, merged_stop};
 
@@ -104,6 +104,7 @@ fn load_behind<D: Device>(
         → IsTreeOf (cluster_size header.now.cluster_bits) both.1 (active_tree file header.now)) }
     ensures has_table { IfOk result (λ both. IsTableRead header.now (D.size dev.old) both.0.items) }
     ensures has_tables { IfOk result (λ both. IsLoaded header.now (D.size dev.old) both.1) }
+    ensures no_header { IfErr result IsNoHeader }
     ensures device { Reads D.Device (fault_of_image result) dev.old dev.new }
     ensures call { FailsAt (IsTablesCall header.now (D.size dev.old) (D.content dev.old))
         (fault_of_image result) (D.failed_call dev.new) }
@@ -136,6 +137,7 @@ pub(crate) fn load<D: Device>(
         → IsTreeOf (cluster_size header.now.cluster_bits) both.1 (active_tree file header.now)) }
     ensures has_table { IfOk result (λ both. IsTableRead header.now (D.size dev.old) both.0.items) }
     ensures has_tables { IfOk result (λ both. IsLoaded header.now (D.size dev.old) both.1) }
+    ensures no_header { IfErr result IsNoHeader }
     ensures device { Reads D.Device (fault_of_image result) dev.old dev.new }
     ensures call { FailsAt (λ call. (call ≡ table_call header.now)
         ⊎ (AreBlocksPlaced header.now (D.size dev.old) (D.content dev.old)

@@ -6,10 +6,12 @@ ghost use Rattle.blk_base.specs.Device.{Reads};
 ghost use Rattle.q2_format.specs.Header.{CanBeRead, IsWithinLimits, refused_where};
 ghost use Rattle.q2_format.specs.References.{cluster_bound, reach_of};
 ghost use Rattle.q2_format.specs.Sound.{image_refusal, is_header_full, HeaderFull};
+ghost use Rattle.q2_refs.specs.Kept.{AreAbsentFree};
 ghost use Rattle.q2_refs.specs.Loading.{IsBlockCall};
 ghost use Rattle.q2_tables.specs.Loading.{IsLoaded};
-ghost use Rattle.q2_image.specs.Opening.{Judges, fault_of_image, IsNoFault, ArePlaced, uses_in, overlap_stop, names_stops, place_stops};
+ghost use Rattle.q2_image.specs.Opening.{Judges, fault_of_image, IsNoFault, IsRefusalFor, ArePlaced, uses_in, overlap_stop, names_stops, place_stops};
 ghost use Rattle.q2_image.specs.OpeningCalls.{AreTablesRead, IsOpeningCall};
+ghost use Rattle.q2_image.specs.Placed.{IsPlacedIn};
 ghost use Rattle.q2_image.specs.Seen.{IsSeen};
 ghost use Rattle.q2_image.specs.Loading.{counts_loaded, HasCounts, IsTableRead, IsReadFrom};
 ghost use Rattle.q2_image.specs.Image.{IsImageOf, IsOpen};
@@ -97,6 +99,8 @@ fn finish(
     requires limits { IsWithinLimits header len }
     requires places { place_stops header len ≡ None }
     requires counts { HasCounts header len (counts_loaded header len) refs }
+    requires table { IsTableRead header len refs.table }
+    requires absent { AreAbsentFree refs }
     requires loaded { IsLoaded header len tables }
     requires count { length seen.now.named ≡ cluster_bound header len }
     requires seen { IsSeen (uses_in header refs.table tables.l1 tables.words) seen.now }
@@ -112,6 +116,7 @@ fn finish(
           tables = tables;
           refs = record refs { counts = take (reach_of header len) refs.counts };
         }) }
+    ensures placed { IfOk result (IsPlacedIn len) }
     ensures no_fault { IfErr result IsNoFault }
 {
     check_names(&header, &refs, seen)?;
@@ -146,6 +151,8 @@ fn open_tables<D: Device>(
         (λ image. (file : List ℕ) → D.content dev.old ≡ Some file → IsImageOf file image) }
     ensures reach { IfOk result
         (λ image. length image.refs.counts ≡ reach_of image.header (D.size dev.old)) }
+    ensures placed { IfOk result (IsPlacedIn (D.size dev.old)) }
+    ensures refusal { IfErr result (λ stop. IsRefusalFor stop (D.size dev.old)) }
     ensures device { Reads D.Device (fault_of_image result) dev.old dev.new }
     ensures call { FailsAt (λ call.
         AreTablesRead header (D.size dev.old) (D.content dev.old) table.items
@@ -175,7 +182,10 @@ pub fn open_image<D: Device>(alloc: Global, dev: &mut D) -> Result<Image, ImageS
         (λ image. (file : List ℕ) → D.content dev.old ≡ Some file → IsImageOf file image) }
     ensures reach { IfOk result
         (λ image. length image.refs.counts ≡ reach_of image.header (D.size dev.old)) }
+    ensures placed { IfOk result (IsPlacedIn (D.size dev.old)) }
     ensures open { IfOk result IsOpen }
+    // whatever the file holds, some bytes are refused so
+    ensures refusal { IfErr result (λ stop. IsRefusalFor stop (D.size dev.old)) }
     // a file that is too short for a header isn't read
     ensures short { D.size dev.old < MIN_HEADER_LENGTH → result ≡ Err (ImageStop.Header Short) }
     ensures device { Reads D.Device (fault_of_image result) dev.old dev.new }

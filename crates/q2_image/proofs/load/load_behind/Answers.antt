@@ -5,12 +5,13 @@ use Rattle.blk_base.specs.declared.device.DeviceCall.{DeviceCall}
 use Rattle.q2_format.specs.Tables.{active_tree, refcount_table}
 use Rattle.q2_tables.specs.Loading.{fault_in_tables, IsTablesCall}
 use Rattle.q2_image.specs.Loading.{table_stops, reserved_entry, TableTells, IsTableOf, IsTableAnswer}
-use Rattle.q2_image.specs.Opening.{Names, fault_in_image}
+use Rattle.q2_image.specs.Opening.{IsNoHeader, Names, fault_in_image}
 use Rattle.q2_image.specs.Merge.{merged_stop}
 use Rattle.q2_image.specs.declared.counting.RefTable.{RefTable}
 use Rattle.q2_image.specs.declared.stop.ImageStop.{ImageStop}
 use Rattle.q2_image.proofs.Faults.{merged_fault}
 use Rattle.q2_image.proofs.Merged.{judged_ok, judged_reserved, judged_stop}
+use Rattle.q2_image.proofs.Refused.{merged_behind}
 use Rattle.q2_image.proofs.load.load_behind.Goals as goal
 
 pub returns-in-Ok-words_of-clause-judged : goal.returns-in-Ok-words_of-clause-judged
@@ -64,3 +65,9 @@ returns-in-Err-clause-call g c =
     ap fault_in_image c.merge.ensures ∙ merged_fault c.args.header.now c.reserved_in.result c.in-Err.stop in
     let P : DeviceCall → Type 0 = IsTablesCall c.args.header.now (g.D.Device.size c.args.dev.now) (g.D.Device.content c.args.dev.now) in
     subst (λ told. FailsAt P told (g.D.Device.failed_call c.load_tables.new.dev)) (sym same) c.in-Err.ensures.call
+
+pub returns-in-Err-clause-no_header : goal.returns-in-Err-clause-no_header
+returns-in-Err-clause-no_header g c = subst IsNoHeader (sym c.merge.ensures) (merged_behind c.args.header.now c.reserved_in.result c.in-Err.stop)
+
+pub returns-in-Err-words_of-clause-no_header : goal.returns-in-Err-words_of-clause-no_header
+returns-in-Err-words_of-clause-no_header g c = subst IsNoHeader (sym c.in-Err-words_of.ensures.reserved.2) tt

@@ -7,6 +7,8 @@ use Rattle.q2_image.specs.declared.stop.ImageStop.TheVariants as stops
 use Rattle.q2_image.proofs.Faults.{refused_quietly}
 use Rattle.q2_image.proofs.Whole.{read_from, header_named, place_named, word_named, ok_told, ok_reach_at}
 use Rattle.q2_image.proofs.OpeningCalls.{call_passed, no_call_passed, first_fails, load_fails, counts_fail, header_read}
+use Rattle.q2_image.proofs.Placed.{ok_placed_at}
+use Rattle.q2_image.proofs.Refused.{behind_header, err_refused_at, place_behind}
 use Rattle.q2_image.proofs.opening.open_image.Goals as goal
 
 pub returns-in_err-header-clause-judged : goal.returns-in_err-header-clause-judged
@@ -101,3 +103,24 @@ returns-in-Ok-clause-call g c =
     c.in_ok-header.ensures.limits c.in_ok-header.ensures.readable c.in_ok-check_places.ensures.judged c.in_ok-header.ensures.judged c.in_ok-header.ensures.header in
     counts_fail h (g.D.Device.size c.args.dev.now) _ (g.D.Device.content c.args.dev.now) _ _ _ (later.size ∙ reads.size) (later.content ∙ reads.content) read c.in-Ok.table.items
     c.open_tables.ensures.call
+
+pub returns-in-Ok-clause-placed : goal.returns-in-Ok-clause-placed
+returns-in-Ok-clause-placed g c = ok_placed_at c.open_tables.result _ _ (c.in-Ok.ensures.device.reads.size ∙ c.in_ok-header.ensures.device.reads.size) c.open_tables.ensures.placed
+
+pub returns-in_err-header-clause-refusal : goal.returns-in_err-header-clause-refusal
+returns-in_err-header-clause-refusal g c =
+    let p = err_from_is_err_and c.from_residual.result c.from_residual.ensures.1 in
+    rw (p.1, p.2) c.in_err-header.ensures.refusal
+
+pub returns-in_err-check_places-clause-refusal : goal.returns-in_err-check_places-clause-refusal
+returns-in_err-check_places-clause-refusal g c =
+    let p = err_from_is_err_and c.from_residual-in_err-check_places.result c.from_residual-in_err-check_places.ensures.1 in
+    rw (p.1, p.2) (behind_header c.in_ok-header.header (g.D.Device.size c.args.dev.now) c.in_err-check_places.field-0.0 c.in_ok-header.ensures.readable c.in_ok-header.ensures.limits
+    (place_behind c.in_ok-header.header c.length-len.result c.in_err-check_places.field-0.0 c.in_err-check_places.ensures.judged))
+
+pub returns-in-Err-clause-refusal : goal.returns-in-Err-clause-refusal
+returns-in-Err-clause-refusal g c =
+    behind_header c.in_ok-header.header (g.D.Device.size c.args.dev.now) c.in-Err.stop c.in_ok-header.ensures.readable c.in_ok-header.ensures.limits c.in-Err.ensures.no_header
+
+pub returns-in-Ok-clause-refusal : goal.returns-in-Ok-clause-refusal
+returns-in-Ok-clause-refusal g c = err_refused_at c.open_tables.result _ _ (c.in-Ok.ensures.device.reads.size ∙ c.in_ok-header.ensures.device.reads.size) c.open_tables.ensures.refusal
