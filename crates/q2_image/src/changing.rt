@@ -148,6 +148,7 @@ impl Image {
 
         // the image
         ensures known { (self.new ≡ self.old) ⊎ (self.new ≡ autocleared self.old) }
+        ensures done { OnOk result (self.new ≡ autocleared self.old) }
         ensures taken { StaysTaken self.old self.new }
         ensures cleared { ClearsFirst (D.content dev.old) (D.content dev.new) self.new }
         ensures image { (file : List ℕ) → D.content dev.new ≡ Some file → IsImageOf file self.new }
@@ -298,6 +299,7 @@ impl Image {
         requires whole { length bytes.now ≡ span.len }
         requires image { (file : List ℕ) → D.content dev.old ≡ Some file → IsImageOf file self.old }
         ensures known { (self.new ≡ self.old) ⊎ (self.new ≡ autocleared self.old) }
+        ensures done { OnOk result (self.new ≡ autocleared self.old) }
         ensures cleared { ClearsFirst (D.content dev.old) (D.content dev.new) self.new }
         ensures image { (file : List ℕ) → D.content dev.new ≡ Some file → IsImageOf file self.new }
         ensures disk { (old new : List ℕ) → D.content dev.old ≡ Some old
