@@ -184,7 +184,7 @@ pub fn open_image<D: Device>(alloc: Global, dev: &mut D) -> Result<Image, ImageS
         (λ image. length image.refs.counts ≡ reach_of image.header (D.size dev.old)) }
     ensures placed { IfOk result (IsPlacedIn (D.size dev.old)) }
     ensures open { IfOk result IsOpen }
-    // whatever the file holds, some bytes are refused so
+    // what a refusal says of the length, whatever the file holds
     ensures refusal { IfErr result (λ stop. IsRefusalFor stop (D.size dev.old)) }
     // a file that is too short for a header isn't read
     ensures short { D.size dev.old < MIN_HEADER_LENGTH → result ≡ Err (ImageStop.Header Short) }
