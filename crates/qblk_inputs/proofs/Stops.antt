@@ -15,9 +15,8 @@ use Rattle.qblk_inputs.specs.declared.stop.InputFlaw.{InputFlaw}
 use Rattle.qblk_inputs.specs.declared.stop.InputFlaw.TheVariants.{Absent, NotUtf8, TooLong, BadLine, TooMany}
 use Rattle.qblk_inputs.specs.declared.stop.InputStop.{InputStop}
 use Rattle.qblk_inputs.specs.declared.stop.InputStop.TheVariants.{Refused, Failed, NoMemory}
-use Rattle.qblk_inputs.specs.Inputs.{IsText, IsScript, ReadsAsTrace, IsBadText, IsRefusedScript, IsRefusedTrace, IsScriptFlaw, IsTraceFlaw}
+use Rattle.qblk_inputs.specs.Inputs.{IsText, IsScript, ReadsAsTrace, IsBadText, IsBadTrace, IsRefusedScript, IsRefusedTrace, IsScriptFlaw, IsTraceFlaw}
 use Rattle.qblk_inputs.specs.Reading.{IsReadOfFile, IsUnread, IsUnreadFlaw, IsInputRefusal, StopsFor, OfFile, IsShortFile, OnFile, FailsOn, StopsOn, input_read}
-use Rattle.qblk_inputs.proofs.LineNumbers.{wishes_at_line}
 
 pub told_map : {A : Type 0} (o : Option A) (P Q : A → Type 0) → ((a : A) → P a → Q a) → IfTold o P → IfTold o Q
 told_map None P Q f h = tt
@@ -137,11 +136,13 @@ trace_read told name bytes before asked wishes h text is =
     reads told name bytes (ReadsAsTrace before wishes asked) h (λ short. record { text = record { short = short; text = text }; read = is })
 
 pub trace_bad : (told : Option (List File)) (name bytes : List ℕ) (before : Amounts) (line : ℕ) → IfTold told (IsReadOfFile name bytes)
-    → IsUtf8 bytes → wishes_in before bytes ≡ Err (stops.BadLine line) → OfFile told name IsTraceFlaw (IsRefusedTrace before) name BadLine line
-trace_bad told name bytes before line h text is =
-    (refl, wishes_at_line before bytes (stops.BadLine line) is, reads told name bytes (λ bs. IsText bs × (wishes_in before bs ≡ Err (stops.BadLine line))) h (λ short. (record { short = short; text = text }, is)))
+    → length bytes ≤ 67108864 → IsUtf8 bytes → wishes_in before bytes ≡ Err (stops.BadLine line) → OfFile told name IsTraceFlaw (IsRefusedTrace before) name BadLine line
+trace_bad told name bytes before line h short text is =
+    let bad : IsBadTrace before BadLine line bytes = (record { short = short; text = text }, is) in
+    (refl, (before, bytes, bad), reads told name bytes (IsBadTrace before BadLine line) h (λ _. bad))
 
 pub trace_long : (told : Option (List File)) (name bytes : List ℕ) (before : Amounts) (line : ℕ) → IfTold told (IsReadOfFile name bytes)
-    → IsUtf8 bytes → wishes_in before bytes ≡ Err (stops.TooMany line) → OfFile told name IsTraceFlaw (IsRefusedTrace before) name TooMany line
-trace_long told name bytes before line h text is =
-    (refl, wishes_at_line before bytes (stops.TooMany line) is, reads told name bytes (λ bs. IsText bs × (wishes_in before bs ≡ Err (stops.TooMany line))) h (λ short. (record { short = short; text = text }, is)))
+    → length bytes ≤ 67108864 → IsUtf8 bytes → wishes_in before bytes ≡ Err (stops.TooMany line) → OfFile told name IsTraceFlaw (IsRefusedTrace before) name TooMany line
+trace_long told name bytes before line h short text is =
+    let bad : IsBadTrace before TooMany line bytes = (record { short = short; text = text }, is) in
+    (refl, (before, bytes, bad), reads told name bytes (IsBadTrace before TooMany line) h (λ _. bad))

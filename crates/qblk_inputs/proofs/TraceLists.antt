@@ -10,7 +10,7 @@ use Rattle.trace_codec.specs.declared.wish.Wish.{Wish}
 use Rattle.qblk_inputs.specs.declared.stop.InputFlaw.{InputFlaw}
 use Rattle.trace_codec.specs.Script.{Order}
 use Rattle.qblk_inputs.specs.Words.{Player, Cast, guests_of}
-use Rattle.qblk_inputs.specs.Inputs.{IsScript, ReadsAsTrace, HasTraces, HasWork, IsRefusedScript, IsRefusedTrace, IsFirstRefused, IsRefusedInput, IsScriptFlaw, IsTraceFlaw}
+use Rattle.qblk_inputs.specs.Inputs.{IsScript, ReadsAsTrace, HasTraces, AreTraces, HasWork, IsRefusedScript, IsRefusedTrace, IsFirstRefused, IsRefusedInput, IsScriptFlaw, IsTraceFlaw}
 use Rattle.qblk_inputs.specs.Reading.{OfFile, OfTraces, OfInputs, FailsOnTrace, OnFile, OnTraces, OnInputs}
 
 abbrev traces_of : List Player → List (List ℕ)
@@ -19,12 +19,13 @@ traces_of players = map (λ p. p.trace) players
 -- what the traces of the guests that are left say of all, behind those that were read
 pub record IsAhead (told : Option (List File)) (players : List Player) (asked : Amounts) (rest : List Player) (done : List (List Wish)) : Type 0 where
   pub good : (more : List (List Wish)) → IfTold told (HasTraces asked rest more) → IfTold told (HasTraces nothing players (done ++ more))
+  pub are : (more : List (List Wish)) → AreTraces asked rest more → AreTraces nothing players (done ++ more)
   pub bad : (name : List ℕ) (why : InputFlaw) (line : ℕ) → IfTold told (IsFirstRefused asked rest name line why) → IfTold told (IsFirstRefused nothing players name line why)
   pub fails : (name : List ℕ) → IfTold told (FailsOnTrace asked rest name) → IfTold told (FailsOnTrace nothing players name)
   pub names : (name : List ℕ) → Contains (traces_of rest) name → Contains (traces_of players) name
 
 pub ahead-first : (told : Option (List File)) (players : List Player) → IsAhead told players nothing players []
-ahead-first told players = record { good = λ more h. h; bad = λ name why line h. h; fails = λ name h. h; names = λ name h. h }
+ahead-first told players = record { good = λ more h. h; are = λ more h. h; bad = λ name why line h. h; fails = λ name h. h; names = λ name h. h }
 
 more-traces : (told : Option (List File)) (before asked : Amounts) (p : Player) (rest : List Player) (wishes : List Wish) (more : List (List Wish))
     → IfTold told (HasFile p.trace (λ f. ReadsAsTrace before wishes asked f.bytes)) → IfTold told (HasTraces asked rest more) → IfTold told (HasTraces before (p ∷ rest) (wishes ∷ more))
@@ -42,9 +43,10 @@ more-fails None before asked p rest wishes name here h = tt
 more-fails (Some files) before asked p rest wishes name here h = inr (wishes, asked, here, h)
 
 pub ahead-next : (told : Option (List File)) (players : List Player) (before asked : Amounts) (p : Player) (rest : List Player) (done : List (List Wish)) (wishes : List Wish)
-    → IfTold told (HasFile p.trace (λ f. ReadsAsTrace before wishes asked f.bytes)) → IsAhead told players before (p ∷ rest) done → IsAhead told players asked rest (done ++ wishes ∷ [])
-ahead-next told players before asked p rest done wishes here a = record {
+    → IfTold told (HasFile p.trace (λ f. ReadsAsTrace before wishes asked f.bytes)) → (bytes : List ℕ) × ReadsAsTrace before wishes asked bytes → IsAhead told players before (p ∷ rest) done → IsAhead told players asked rest (done ++ wishes ∷ [])
+ahead-next told players before asked p rest done wishes here said a = record {
   good = λ more h. subst (λ ts. IfTold told (HasTraces nothing players ts)) (sym (append_assoc done (wishes ∷ []) more)) (a.good (wishes ∷ more) (more-traces told before asked p rest wishes more here h));
+  are = λ more h. subst (AreTraces nothing players) (sym (append_assoc done (wishes ∷ []) more)) (a.are (wishes ∷ more) (said.0, asked, said.1, h));
   bad = λ name why line h. a.bad name why line (more-refused told before asked p rest wishes name why line here h);
   fails = λ name h. a.fails name (more-fails told before asked p rest wishes name here h);
   names = λ name h. a.names name (Contains-append_right (p.trace ∷ []) (traces_of rest) name h);
@@ -56,6 +58,9 @@ none-left (Some files) asked = tt
 
 pub ahead-end : (told : Option (List File)) (players : List Player) (asked : Amounts) (done : List (List Wish)) → IsAhead told players asked [] done → IfTold told (HasTraces nothing players done)
 ahead-end told players asked done a = subst (λ ts. IfTold told (HasTraces nothing players ts)) (append-nil done) (a.good [] (none-left told asked))
+
+pub ahead-said : (told : Option (List File)) (players : List Player) (asked : Amounts) (done : List (List Wish)) → IsAhead told players asked [] done → AreTraces nothing players done
+ahead-said told players asked done a = subst (AreTraces nothing players) (append-nil done) (a.are [] tt)
 
 first-refused : (told : Option (List File)) (asked : Amounts) (p : Player) (rest : List Player) (name : List ℕ) (why : InputFlaw) (line : ℕ)
     → OfFile told p.trace IsTraceFlaw (IsRefusedTrace asked) name why line → IfTold told (IsFirstRefused asked (p ∷ rest) name line why)

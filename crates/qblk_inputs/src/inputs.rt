@@ -1,11 +1,11 @@
 //! The inputs of a run: a script, and a trace for each guest.
-ghost use Rattle.std.specs.Prelude.{◌≡◌, ◌<◌, ◌≤◌, ◌^◌, length, map, vec_len, IfOk, IfErr, OnOk};
+ghost use Rattle.std.specs.Prelude.{◌≡◌, ◌<◌, ◌≤◌, ◌^◌, ℕ, List, length, map, vec_len, IfOk, IfErr, OnOk};
 ghost use Rattle.blk_base.specs.Answers.{HasFile};
 ghost use Rattle.blk_base.specs.Files.{IfTold};
 ghost use Rattle.trace_codec.specs.Amounts.{nothing};
 ghost use Rattle.trace_codec.specs.Script.{seen_order};
 ghost use Rattle.qblk_inputs.specs.Words.{texts_in, player_of, player_names, guests_of, cast_of};
-ghost use Rattle.qblk_inputs.specs.Inputs.{IsScript, ReadsAsTrace, HasTraces, IsWork, IsRefusedScript, IsRefusedTrace, HasWork, IsScriptFlaw, IsTraceFlaw};
+ghost use Rattle.qblk_inputs.specs.Inputs.{IsScript, ReadsAsTrace, HasTraces, AreTraces, IsRefusedScript, IsRefusedTrace, HasWork, IsWork, IsScriptFlaw, IsTraceFlaw, most_text};
 ghost use Rattle.qblk_inputs.specs.Reading.{NoneOut, IsReadOfFile, IsUnread, IsUnreadFlaw, IsInputRefusal, StopsFor, OfFile, OfTraces, OfInputs, StopsOn, OnFile, OnTraces, OnInputs};
 
 use crate::stop::{InputFlaw, InputStop};
@@ -45,6 +45,7 @@ fn refused(alloc: Global, name: &str, line: u32, why: InputFlaw) -> InputStop
 fn read_file<S: Store>(alloc: Global, store: &mut S, name: &str) -> Result<Bytes, InputStop>
     requires { NoneOut (S.opened store.old) }
     ensures read { IfOk result (λ bytes. IfTold (S.files store.old) (IsReadOfFile name.now bytes)) }
+    ensures short { IfOk result (λ bytes. length bytes ≤ most_text) }
     ensures stop { IfErr result (StopsFor
         (OfFile (S.files store.old) name.now IsUnreadFlaw IsUnread)
         (S.faults store.old) (S.faults store.new)) }
@@ -57,7 +58,12 @@ fn read_file<S: Store>(alloc: Global, store: &mut S, name: &str) -> Result<Bytes
     ensures quiet { OnOk result (S.faults store.new ≡ S.faults store.old) }
 {
     match store.read_all(name, MAX_TEXT) {
-        Ok(bytes) => Ok(bytes),
+        Ok(bytes) => {
+            if bytes.len() as u64 > MAX_TEXT {
+                return Err(refused(alloc, name, 0, InputFlaw::TooLong));
+            }
+            Ok(bytes)
+        }
         Err(StoreStop::Absent) => Err(refused(alloc, name, 0, InputFlaw::Absent)),
         Err(StoreStop::TooLong) => Err(refused(alloc, name, 0, InputFlaw::TooLong)),
         Err(StoreStop::Failed) => Err(InputStop::Failed {
@@ -79,6 +85,8 @@ fn read_orders<S: Store>(
     requires guests { length guests.now < 2 ^ 32 }
     ensures read { IfOk result (λ script. IfTold (S.files store.old) (HasFile name.now
         (λ f. IsScript guests.now (map seen_order script.items) f.bytes))) }
+    ensures said { IfOk result
+        (λ script. (bytes : List ℕ) × IsScript guests.now (map seen_order script.items) bytes) }
     ensures stop { IfErr result (StopsFor
         (OfFile (S.files store.old) name.now IsScriptFlaw IsRefusedScript)
         (S.faults store.old) (S.faults store.new)) }
@@ -114,6 +122,8 @@ fn read_trace<S: Store>(
     requires { NoneOut (S.opened store.old) }
     ensures read { IfOk result (λ wishes. IfTold (S.files store.old) (HasFile name.now
         (λ f. ReadsAsTrace asked.old wishes.items asked.new f.bytes))) }
+    ensures said { IfOk result
+        (λ wishes. (bytes : List ℕ) × ReadsAsTrace asked.old wishes.items asked.new bytes) }
     ensures stop { IfErr result (StopsFor
         (OfFile (S.files store.old) name.now IsTraceFlaw (IsRefusedTrace asked.old))
         (S.faults store.old) (S.faults store.new)) }
@@ -149,6 +159,8 @@ fn read_traces<S: Store>(
     requires { NoneOut (S.opened store.old) }
     ensures read { IfOk result (λ traces. IfTold (S.files store.old) (HasTraces nothing
         (map player_of (texts_in players.now)) (map (λ t. t.items) traces.items))) }
+    ensures said { IfOk result (λ traces. AreTraces nothing
+        (map player_of (texts_in players.now)) (map (λ t. t.items) traces.items)) }
     ensures count { IfOk result (λ traces. vec_len traces ≡ length players.now) }
     ensures stop { IfErr result (StopsFor
         (OfTraces (S.files store.old) (map player_of (texts_in players.now)))
@@ -207,11 +219,10 @@ pub fn read_inputs<S: Store>(
           script = map seen_order i.script.items;
           traces = map (λ t. t.items) i.traces.items;
         }))) }
-    ensures work { IfOk result
-        (λ i. IsWork (cast_of script.now (texts_in players.now)) (record {
-          script = map seen_order i.script.items;
-          traces = map (λ t. t.items) i.traces.items;
-        })) }
+    ensures work { IfOk result (λ i. IsWork (cast_of script.now (texts_in players.now)) (record {
+      script = map seen_order i.script.items;
+      traces = map (λ t. t.items) i.traces.items;
+    })) }
     ensures stop { IfErr result (StopsFor
         (OfInputs (S.files store.old) (cast_of script.now (texts_in players.now)))
         (S.faults store.old) (S.faults store.new)) }

@@ -22,7 +22,7 @@ returns-in-Err-BadLine-clause-stop g c =
     let text : IsUtf8 c.in-Ok.bytes = search rules in
     refused_for (OfFile files c.args.name.now IsTraceFlaw (IsRefusedTrace c.args.asked.now)) c.args.name.now c.in-Err-BadLine.line BadLine (g.S.Store.faults c.args.store.now)
     (g.S.Store.faults c.read_file.new.store) c.refused-in-Err-BadLine.result c.refused-in-Err-BadLine.ensures
-    (trace_bad files c.args.name.now c.in-Ok.bytes c.args.asked.now c.in-Err-BadLine.line c.in-Ok.ensures.read text is) c.in-Ok.ensures.quiet
+    (trace_bad files c.args.name.now c.in-Ok.bytes c.args.asked.now c.in-Err-BadLine.line c.in-Ok.ensures.read c.in-Ok.ensures.short text is) c.in-Ok.ensures.quiet
 
 pub returns-in-Err-TooMany-clause-stop : goal.returns-in-Err-TooMany-clause-stop
 returns-in-Err-TooMany-clause-stop g c =
@@ -31,4 +31,4 @@ returns-in-Err-TooMany-clause-stop g c =
     let text : IsUtf8 c.in-Ok.bytes = search rules in
     refused_for (OfFile files c.args.name.now IsTraceFlaw (IsRefusedTrace c.args.asked.now)) c.args.name.now c.in-Err-TooMany.line TooMany (g.S.Store.faults c.args.store.now)
     (g.S.Store.faults c.read_file.new.store) c.refused-in-Err-TooMany.result c.refused-in-Err-TooMany.ensures
-    (trace_long files c.args.name.now c.in-Ok.bytes c.args.asked.now c.in-Err-TooMany.line c.in-Ok.ensures.read text is) c.in-Ok.ensures.quiet
+    (trace_long files c.args.name.now c.in-Ok.bytes c.args.asked.now c.in-Err-TooMany.line c.in-Ok.ensures.read c.in-Ok.ensures.short text is) c.in-Ok.ensures.quiet

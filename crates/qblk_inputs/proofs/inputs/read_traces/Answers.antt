@@ -7,7 +7,7 @@ use Rattle.qblk_inputs.specs.Inputs.{IsRefusedTrace, IsTraceFlaw}
 use Rattle.qblk_inputs.specs.Reading.{OfFile, OfTraces, OnFile, OnTraces}
 use Rattle.qblk_inputs.proofs.Stops.{stops_more, stops_on_more}
 use Rattle.qblk_inputs.proofs.PlayerWords.{players_from, players_none}
-use Rattle.qblk_inputs.proofs.TraceLists.{IsAhead, ahead-next, ahead-end, ahead-stops, ahead-fails}
+use Rattle.qblk_inputs.proofs.TraceLists.{IsAhead, ahead-next, ahead-end, ahead-said, ahead-stops, ahead-fails}
 use Rattle.qblk_inputs.proofs.inputs.read_traces.Goals as goal
 
 pub loop-word-preserved : goal.loop-word-preserved
@@ -21,7 +21,7 @@ loop-word-preserved g c =
     let ahead = subst P (players_from c.args.players.now c.loop-word.word-index w (omega arith) c.word-item.is) invariant.ahead in
     let trace : c.player_of.result.1.now ≡ (player_of w.bytes).trace = c.player_of.ensures.trace ∙ ap (λ (bs : List ℕ). (player_of bs).trace) c.as_str.ensures in
     let here = rw (trace, invariant.files) at c.in-Ok.ensures.read in
-    let next = ahead-next files players c.loop-word.asked c.read_trace.new.asked (player_of w.bytes) _ done c.in-Ok.wishes.items here ahead in
+    let next = ahead-next files players c.loop-word.asked c.read_trace.new.asked (player_of w.bytes) _ done c.in-Ok.wishes.items here c.in-Ok.ensures.said ahead in
     let Q : List (List Wish) → Type 0 = λ ts. IsAhead files players c.read_trace.new.asked (map player_of (texts_in (drop (c.loop-word.word-index + 1) c.args.players.now))) ts in
     let more : map (λ t. t.items) c.push.new.self.items ≡ done ++ c.in-Ok.wishes.items ∷ [] =
     ap (λ ts. map (λ t. t.items) ts) c.in-Ok-push.ensures.items ∙ map-append (λ t. t.items) c.loop-word.traces.items (c.in-Ok.wishes ∷ []) in
@@ -42,6 +42,14 @@ returns-clause-read g c =
     let none = players_none c.args.players.now c.loop-word.word-index (omega arith) in
     let P : List Player → Type 0 = λ rest. IsAhead files players c.loop-word.asked rest (map (λ t. t.items) c.loop-word.traces.items) in
     ahead-end files players c.loop-word.asked _ (subst P none c.loop-word.invariant.ahead)
+
+pub returns-clause-said : goal.returns-clause-said
+returns-clause-said g c =
+    let files = g.S.Store.files c.args.store.now in
+    let players = map player_of (texts_in c.args.players.now) in
+    let none = players_none c.args.players.now c.loop-word.word-index (omega arith) in
+    let P : List Player → Type 0 = λ rest. IsAhead files players c.loop-word.asked rest (map (λ t. t.items) c.loop-word.traces.items) in
+    ahead-said files players c.loop-word.asked _ (subst P none c.loop-word.invariant.ahead)
 
 pub returns-in-Err-clause-stop : goal.returns-in-Err-clause-stop
 returns-in-Err-clause-stop g c =
