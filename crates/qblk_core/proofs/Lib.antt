@@ -14,7 +14,6 @@ pub mod Whole
 pub mod Forms
 pub mod Returned
 pub mod Quiet
-pub mod Numbered
 pub mod OneTranscript
 pub mod Completeness
 pub mod Rooms

@@ -1,8 +1,7 @@
 -- The nodes of a run, made step by step, and what stops them.
-use Rattle.std.proofs.Common.{◌≡◌, ◌≢◌, ℕ, ◌<◌, ◌≤◌, Bool, true, false, List, [], ◌∷◌, length, Option, Some, None, Result, Ok, Err, refl, sym, ◌∙◌, ap, subst, inl, inr, arith}
-use Rattle.std.specs.Prelude.{◌↔◌, Contains, IsSome, IsOk, IfErr, is_some}
+use Rattle.std.proofs.Common.{◌≡◌, ℕ, ◌<◌, ◌≤◌, true, false, List, [], ◌∷◌, length, Some, Result, Ok, Err, refl, sym, ◌∙◌, ap, subst, arith}
+use Rattle.std.specs.Prelude.{◌↔◌, IsSome, IsOk, IfErr, is_some}
 use Rattle.blk_base.specs.Calls.{FailsAt}
-use Rattle.blk_base.specs.Counts.{Rose}
 use Rattle.blk_base.specs.Device.{CountsFault}
 use Rattle.blk_graph.specs.Graph.{HasName, HasNode, ids}
 use Rattle.blk_graph.specs.declared.edge.Conflict.{Conflict as Pair}
@@ -11,38 +10,37 @@ use Rattle.blk_graph.specs.declared.kind.NodeKind.{NodeKind}
 use Rattle.blk_graph.specs.Ids.{IsLowestFree}
 use Rattle.blk_graph.specs.Rule.{KeepsPermissions}
 use Rattle.blk_graph.proofs.Members.{Contains-here, Contains-there}
+use Rattle.q2_format.specs.Sizes.{cluster_size, clusters_for}
 use Rattle.q2_format.specs.Sound.{image_refusal}
 use Rattle.q2_format.specs.declared.header.Header.{Header}
 use Rattle.q2_format.specs.declared.header.HeaderStop.TheVariants as headers
-use Rattle.q2_format.specs.declared.header.TheConstants.{MIN_HEADER_LENGTH}
-use Rattle.q2_image.specs.Image.{Known, IsImageOf}
-use Rattle.q2_image.specs.Opening.{Names, fault_in_image, refusal_of}
+use Rattle.q2_format.specs.declared.header.TheConstants.{MAX_FILE_CLUSTERS, MIN_HEADER_LENGTH}
+use Rattle.q2_image.specs.Image.{Known}
+use Rattle.q2_image.specs.Opening.{IsRefusalFor, Names, fault_in_image, refusal_of}
 use Rattle.q2_image.specs.OpeningCalls.{IsOpeningCall}
 use Rattle.q2_image.specs.declared.stop.ImageStop.{ImageStop}
 use Rattle.q2_image.specs.declared.stop.ImageStop.TheVariants as stops
-use Rattle.blk_nodes.specs.Adding.{with_node_row, with_node_device, with_below, file_edge, guest_edge, raw_row, IsDenied, IsOverStop}
+use Rattle.blk_nodes.specs.Adding.{with_node_row, with_node_device, with_below, file_edge, guest_edge, IsDenied, IsOverStop}
 use Rattle.blk_nodes.specs.declared.stop.AddStop.{AddStop}
 use Rattle.blk_nodes.specs.declared.stop.AddStop.TheVariants as adding
 use Rattle.blk_nodes.specs.Contents.{Unfolds}
 use Rattle.blk_nodes.specs.Joined.{IsJoined, IsFile}
-use Rattle.blk_nodes.specs.Nodes.{Nodes, DeviceSeen, no_nodes, row_at, node_size, device_in}
-use Rattle.blk_nodes.specs.Overlays.{Asked, IsOpened, IsUnopened, KeptBy, with_qcow2}
-use Rattle.blk_nodes.specs.Reading.{HaveRisen, HasRisen}
+use Rattle.blk_nodes.specs.Nodes.{Nodes, DeviceSeen, no_nodes, device_in}
+use Rattle.blk_nodes.specs.Overlays.{IsOpened, IsOpenedOn, IsUnopened, KeptBy, with_qcow2}
+use Rattle.blk_nodes.specs.Reading.{HaveRisen}
 use Rattle.blk_nodes.specs.declared.backing.Backing.TheVariants.{Unsaid}
 use Rattle.blk_nodes.specs.declared.row.Driver.TheVariants as drivers
-use Rattle.qblk_core.specs.Closing.{IsOnlyDevice}
-use Rattle.qblk_core.specs.Face.{machine_on}
-use Rattle.qblk_core.specs.ImageNodes.{file_name, image_name, only_device, file_node_alone, with_raw, asked_image, IsImageNodeOver, AreMadeOf}
-use Rattle.qblk_core.specs.Opened.{IsFileOver, IsOpenedAs, StopsAs, StopsImageNode, IsStopped, open_stop}
+use Rattle.qblk_core.specs.Format.{HasGoodLength}
+use Rattle.qblk_core.specs.ImageNodes.{file_name, image_name, file_node_alone, asked_image, IsImageNodeOver, AreMadeOf}
+use Rattle.qblk_core.specs.Opened.{IsFileOver, IsOpenedAs, StopsAs, StopsImageNode, open_stop}
 use Rattle.qblk_core.specs.Run.{HasLengthFor, IsBadBytes}
 use Rattle.qblk_core.specs.Session.{IsRefusedImage}
-use Rattle.qblk_core.specs.declared.opening.OpenStop.{OpenStop}
-use Rattle.qblk_core.specs.declared.opening.OpenStop.TheVariants.{Refused, Io, NoMemory}
-use Rattle.qblk_core.specs.declared.status.InputWhy.TheVariants.{TooLarge, NeedsBacking, Image, Absent}
+use Rattle.qblk_core.specs.declared.opening.OpenStop.TheVariants.{Refused}
+use Rattle.qblk_core.specs.declared.status.InputWhy.TheVariants.{NeedsBacking, Image}
 use Rattle.qblk_core.specs.declared.words.Format.{Format}
 use Rattle.qblk_core.specs.declared.words.Format.TheVariants.{Raw, Qcow2}
 use Rattle.qblk_core.proofs.Made.{first-id, second-id, over-as, made-one, drive-keeps, not-stopped}
-use Rattle.qblk_core.proofs.OneDevice.{first-found, head-same, only-one, risen-one}
+use Rattle.qblk_core.proofs.OneDevice.{first-found, head-same, risen-one}
 
 -- ---- the `file` node
 
@@ -82,6 +80,33 @@ qcow2-made d old new file id name image over zeroth named lowest is =
 found-device : (d : DeviceSeen) (old : Nodes) (file : ℕ) (x : DeviceSeen) → IsFileOver d old → device_in old.devices file ≡ Some x → x ≡ d
 found-device d old file x over held = first-found d x file (subst (λ (n : Nodes). device_in n.devices file ≡ Some x) over.is held)
 
+-- a qcow2 image that is open has a length that can be opened
+pub good-qcow2 : (d : DeviceSeen) (image : Known) → IsOpenedOn d image → HasGoodLength Qcow2 d.size
+good-qcow2 d image on =
+    let limits = on.placed.limits in
+    (on.long, subst (λ (k : ℕ). clusters_for (cluster_size k) d.size ≤ MAX_FILE_CLUSTERS) limits.cluster_bits limits.file_clusters)
+
+-- one that names a backing file
+pub needs-backing : (d : DeviceSeen) (old new : Nodes) (file : ℕ) (image : Known) → IsFileOver d old → IsOpened old.devices file image → new ≡ old → is_some image.header.name ≡ true
+    → StopsImageNode Qcow2 old new (Refused NeedsBacking)
+needs-backing d old new file image over is same named =
+    let was : old.devices ≡ d ∷ [] = ap (λ (n : Nodes). n.devices) over.is in
+    let on = subst (λ (x : DeviceSeen). IsOpenedOn x image) (found-device d old file is.device over is.held) is.on in
+    let refused : IsRefusedImage Qcow2 NeedsBacking d = record {
+      bytes = λ bytes told. (let known = on.known bytes told in (known.sound, subst (λ (h : Header). IsSome h.name) (sym known.header) named));
+      there = λ bad. absurd (let no : ⊥ = cc bad in no);
+      length = good-qcow2 d image on;
+      cause = tt;
+    } in
+    record {
+      before = d;
+      now = d;
+      was = was;
+      is = record { only = ap (λ (n : Nodes). n.devices) same ∙ was; node = over.node; number = over.number };
+      cause = (refused, refl);
+      kept = record { same = refl; faults = omega arith };
+    }
+
 -- the refusal of a qcow2 image, which is none of a raw one's
 refused-as : (d : DeviceSeen) (stop : ImageStop) → ((bytes : List ℕ) → d.content ≡ Some bytes → IsBadBytes Qcow2 (Image stop) bytes) → IsSome (refusal_of stop)
     → HasLengthFor (Image stop) d.size → IsRefusedImage Qcow2 (Image stop) d
@@ -96,22 +121,22 @@ not-short : (size : ℕ) → (size < MIN_HEADER_LENGTH → ⊥) → MIN_HEADER_L
 not-short size none = omega arith
 
 -- one that is too short for a header is refused so
-length-for : (size : ℕ) (stop : ImageStop) → (size < MIN_HEADER_LENGTH → stop ≡ stops.Header headers.Short) → HasLengthFor (Image stop) size
-length-for size (stops.Header headers.Short) short = tt
-length-for size stop short = not-short size (λ less. let is = short less in let no : ⊥ = cc is in no)
+length-for : (size : ℕ) (stop : ImageStop) → (size < MIN_HEADER_LENGTH → stop ≡ stops.Header headers.Short) → IsRefusalFor stop size → HasLengthFor (Image stop) size
+length-for size (stops.Header headers.Short) short refusal = refusal
+length-for size stop short refusal = (not-short size (λ less. let is = short less in let no : ⊥ = cc is in no), refusal)
 
-named-stop : (d e : DeviceSeen) (stop : ImageStop) → ((bytes : List ℕ) → d.content ≡ Some bytes → Names (image_refusal bytes) stop) → (d.size < MIN_HEADER_LENGTH → stop ≡ stops.Header headers.Short) → CountsFault (fault_in_image stop) d.faults e.faults
+named-stop : (d e : DeviceSeen) (stop : ImageStop) → ((bytes : List ℕ) → d.content ≡ Some bytes → Names (image_refusal bytes) stop) → (d.size < MIN_HEADER_LENGTH → stop ≡ stops.Header headers.Short) → IsRefusalFor stop d.size → CountsFault (fault_in_image stop) d.faults e.faults
     → FailsAt (IsOpeningCall d.size d.content) (fault_in_image stop) e.failed_call → KeptBy stop (d ∷ []) (e ∷ []) → StopsAs Qcow2 d e (open_stop stop)
-named-stop d e (stops.Header stop) named short cause call kept = (refused-as d (stops.Header stop) named refl (length-for d.size (stops.Header stop) short), head-same e d [] kept)
-named-stop d e (stops.Offset offset) named short cause call kept = (refused-as d (stops.Offset offset) named refl (length-for d.size (stops.Offset offset) short), head-same e d [] kept)
-named-stop d e (stops.Reserved table index) named short cause call kept = (refused-as d (stops.Reserved table index) named refl (length-for d.size (stops.Reserved table index) short), head-same e d [] kept)
-named-stop d e (stops.Compressed cluster) named short cause call kept = (refused-as d (stops.Compressed cluster) named refl (length-for d.size (stops.Compressed cluster) short), head-same e d [] kept)
-named-stop d e (stops.Overlap cluster) named short cause call kept = (refused-as d (stops.Overlap cluster) named refl (length-for d.size (stops.Overlap cluster) short), head-same e d [] kept)
-named-stop d e (stops.Refcount cluster) named short cause call kept = (refused-as d (stops.Refcount cluster) named refl (length-for d.size (stops.Refcount cluster) short), head-same e d [] kept)
-named-stop d e stops.HeaderFull named short cause call kept = (refused-as d stops.HeaderFull named refl (length-for d.size stops.HeaderFull short), head-same e d [] kept)
-named-stop d e (stops.Io count) named short cause call kept =
+named-stop d e (stops.Header stop) named short refusal cause call kept = (refused-as d (stops.Header stop) named refl (length-for d.size (stops.Header stop) short refusal), head-same e d [] kept)
+named-stop d e (stops.Offset offset) named short refusal cause call kept = (refused-as d (stops.Offset offset) named refl (length-for d.size (stops.Offset offset) short refusal), head-same e d [] kept)
+named-stop d e (stops.Reserved table index) named short refusal cause call kept = (refused-as d (stops.Reserved table index) named refl (length-for d.size (stops.Reserved table index) short refusal), head-same e d [] kept)
+named-stop d e (stops.Compressed cluster) named short refusal cause call kept = (refused-as d (stops.Compressed cluster) named refl (length-for d.size (stops.Compressed cluster) short refusal), head-same e d [] kept)
+named-stop d e (stops.Overlap cluster) named short refusal cause call kept = (refused-as d (stops.Overlap cluster) named refl (length-for d.size (stops.Overlap cluster) short refusal), head-same e d [] kept)
+named-stop d e (stops.Refcount cluster) named short refusal cause call kept = (refused-as d (stops.Refcount cluster) named refl (length-for d.size (stops.Refcount cluster) short refusal), head-same e d [] kept)
+named-stop d e stops.HeaderFull named short refusal cause call kept = (refused-as d stops.HeaderFull named refl (length-for d.size stops.HeaderFull short refusal), head-same e d [] kept)
+named-stop d e (stops.Io count) named short refusal cause call kept =
     (refl, cause.0, cause.1, not-short d.size (λ less. let is = short less in let no : ⊥ = cc is in no), call)
-named-stop d e stops.NoMemory named short cause call kept = head-same e d [] kept
+named-stop d e stops.NoMemory named short refusal cause call kept = head-same e d [] kept
 
 pub unopened : (d : DeviceSeen) (old new : Nodes) (file : ℕ) (stop : ImageStop) → IsFileOver d old → IsUnopened old.devices new.devices file stop → HaveRisen old.devices new.devices
     → StopsImageNode Qcow2 old new (open_stop stop)
@@ -132,6 +157,7 @@ unopened d old new file stop over is risen =
       };
       cause = named-stop d r.0 stop (λ bytes told. is.on.named bytes (ap (λ (x : DeviceSeen). x.content) before ∙ told))
           (subst (λ (x : DeviceSeen). x.size < MIN_HEADER_LENGTH → stop ≡ stops.Header headers.Short) before is.on.short)
+          (subst (λ (x : DeviceSeen). IsRefusalFor stop x.size) before is.on.refusal)
           (subst (λ (x : DeviceSeen). CountsFault (fault_in_image stop) d.faults x.faults) after (subst (λ (x : DeviceSeen). CountsFault (fault_in_image stop) x.faults is.after.faults) before is.on.cause))
           (subst (λ (x : DeviceSeen). FailsAt (IsOpeningCall d.size d.content) (fault_in_image stop) x.failed_call) after
           (subst (λ (x : DeviceSeen). FailsAt (IsOpeningCall x.size x.content) (fault_in_image stop) is.after.failed_call) before is.on.which))
@@ -147,6 +173,13 @@ keeps-drive format d over image is first =
     let as_is = over-as format d over is in
     subst (λ (k : ℕ). KeepsPermissions (with_below over (guest_edge over 0 k false)).graph.edges) (sym first)
     (drive-keeps over as_is.one.edges _ false over.graph.kinds)
+
+-- the image's node is one of the graph's
+pub image-there : (format : Format) (d : DeviceSeen) (over : Nodes) (image : ℕ) → IsImageNodeOver format (file_node_alone d) over → image ≡ 1 → HasNode over.graph image
+image-there Raw d over image is first =
+    subst (HasNode over.graph) (sym first) (subst (λ (o : Nodes). HasNode o.graph 1) (sym is.1) (Contains-there 0 (1 ∷ []) 1 (Contains-here 1 [])))
+image-there Qcow2 d over image is first =
+    subst (HasNode over.graph) (sym first) (subst (λ (o : Nodes). HasNode o.graph 1) (sym is.3) (Contains-there 0 (1 ∷ []) 1 (Contains-here 1 [])))
 
 -- ---- the whole
 

@@ -1,9 +1,8 @@
 -- The parts of a run put together.
-use Rattle.std.proofs.Common.{◌≡◌, ℕ, ◌≤◌, true, List, [], ◌∷◌, ◌++◌, refl, sym, ◌∙◌, ap, subst, arith, inl, inr, Option, Some, Ok}
-use Rattle.std.specs.Prelude.{IsUtf8, is_some, length}
+use Rattle.std.proofs.Common.{◌≡◌, ℕ, true, List, [], ◌∷◌, ◌++◌, refl, sym, ◌∙◌, ap, subst, arith, inl, inr, Option, Some}
+use Rattle.std.specs.Prelude.{is_some, length}
 use Rattle.blk_base.specs.declared.fault.FaultAt.{FaultAt}
 use Rattle.blk_base.specs.declared.fault.Outcome.{Outcome}
-use Rattle.trace_codec.specs.Trace.{ops_of}
 use Rattle.trace_codec.specs.declared.op.Op.{Op}
 use Rattle.blk_history.specs.Owned.{asked_by}
 use Rattle.blk_history.specs.Recorded.{Recorded}
@@ -11,7 +10,6 @@ use Rattle.blk_nodes.specs.Contents.{Unfolds}
 use Rattle.blk_nodes.specs.Nodes.{Nodes, DeviceSeen}
 use Rattle.blk_nodes.specs.Overlays.{IsOpened}
 use Rattle.blk_nodes.specs.Reading.{HasRisen}
-use Rattle.q2_format.specs.declared.header.TheConstants.{MIN_HEADER_LENGTH}
 use Rattle.qblk_core.specs.Format.{HasGoodLength}
 use Rattle.qblk_core.specs.declared.words.Format.{Format}
 use Rattle.qblk_core.specs.declared.words.Format.TheVariants.{Raw, Qcow2}
@@ -21,6 +19,7 @@ use Rattle.qblk_core.specs.Requests.{RequestsDone}
 use Rattle.blk_base.specs.Counts.{Rose}
 use Rattle.qblk_core.specs.Closing.{IsOnlyDevice}
 use Rattle.qblk_core.specs.Opened.{IsStopped, IsImageStatus}
+use Rattle.qblk_core.specs.Run.{AskFor}
 use Rattle.qblk_core.specs.Session.{AreNodesClosed, AreRequestsMade, IsGoodDevice, IsTraceStop, IsRunStop, IsRefusedImage}
 use Rattle.qblk_core.specs.declared.input.TraceRead.{TraceRead}
 use Rattle.qblk_core.specs.declared.opening.OpenStop.{OpenStop}
@@ -31,6 +30,7 @@ use Rattle.qblk_core.specs.declared.status.Status.TheVariants.{Done, Usage, Inpu
 use Rattle.qblk_core.proofs.Kept.{comes-start}
 use Rattle.qblk_core.proofs.Made.{made-good, made-devices}
 use Rattle.qblk_core.proofs.OneDevice.{first-found, head-same}
+use Rattle.qblk_core.proofs.Openings.{good-qcow2}
 
 -- what an engine shows before its first request
 abbrev pub begun : Nodes → Recorded → SessionSeen
@@ -40,18 +40,17 @@ asked-all : (e w : SessionSeen) (ops : List Op) → e.log.events ≡ [] → Requ
 asked-all e w ops empty made = made.asked ∙ ap (λ es. asked_by 0 es ++ ops) empty
 
 pub made-run : (format : Format) (first last : Nodes) (flush : Outcome) (d n : DeviceSeen) (w : SessionSeen) (log : Recorded) (ops : List Op) (bytes : List ℕ) (fault : Option FaultAt)
-    → AreMadeOf format d first → Unfolds first → ((b : List ℕ) → d.content ≡ Some b → d.size ≡ length b) → IsUtf8 bytes → ops_of bytes ≡ Ok ops → log.events ≡ [] → RequestsDone (begun first log) w ops
+    → AreMadeOf format d first → Unfolds first → ((b : List ℕ) → d.content ≡ Some b → d.size ≡ length b) → AskFor ops bytes → log.events ≡ [] → RequestsDone (begun first log) w ops
     → HaveOneImage w.nodes → AreNodesClosed w.nodes last flush n fault
     → ((b : List ℕ) → n.content ≡ Some b → is_some n.is_flushed ≡ true) → ((b : List ℕ) → n.content ≡ Some b → n.size ≡ length b)
     → AreRequestsMade format bytes d n w fault
-made-run format first last flush d n w log ops bytes fault made disks d-sized text is empty done one closed tells n-sized = record {
+made-run format first last flush d n w log ops bytes fault made disks d-sized asks empty done one closed tells n-sized = record {
   first = first;
   last = last;
   flush = flush;
   made = made;
   good = λ b told. made-good format d first b made disks told (d-sized b told);
-  text = text;
-  ops = is ∙ ap (λ asked. Ok asked) (sym (asked-all (begun first log) w ops empty done));
+  asked = subst (λ os. AskFor os bytes) (sym (asked-all (begun first log) w ops empty done)) asks;
   comes = done.comes first (comes-start first log empty);
   idle = done.idle;
   one = one;
@@ -68,7 +67,7 @@ good-length : (format : Format) (d : DeviceSeen) (over : Nodes) → IsImageNodeO
 good-length Raw d over is = is.0
 good-length Qcow2 d over is =
     let opened : IsOpened (d ∷ []) 0 is.0 = is.1 in
-    subst (λ (x : DeviceSeen). MIN_HEADER_LENGTH ≤ x.size) (first-found d opened.device 0 opened.held) opened.on.long
+    subst (λ (x : DeviceSeen). HasGoodLength Qcow2 x.size) (first-found d opened.device 0 opened.held) (good-qcow2 opened.device is.0 opened.on)
 
 good-device : (format : Format) (first : Nodes) (d : DeviceSeen) → AreMadeOf format d first → Unfolds first → ((b : List ℕ) → d.content ≡ Some b → d.size ≡ length b)
     → IsGoodDevice format d

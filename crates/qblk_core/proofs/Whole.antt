@@ -1,6 +1,6 @@
 -- A run seen from outside, from its parts.
-use Rattle.std.proofs.Common.{◌≡◌, ◌≢◌, ◌⊎◌, ℕ, zero, suc, ◌<◌, ◌≤◌, Bool, true, false, List, [], ◌∷◌, ◌++◌, length, take, refl, sym, ◌∙◌, ap, subst, arith, inl, inr, Option, Some, None, Ok}
-use Rattle.std.specs.Prelude.{All, IsUtf8, is_some, is_none, option_map, slice_index_or, IsSome}
+use Rattle.std.proofs.Common.{◌≡◌, ◌≢◌, ◌⊎◌, ℕ, zero, suc, ◌<◌, Bool, true, false, List, [], ◌∷◌, ◌++◌, length, take, refl, sym, ◌∙◌, ap, subst, arith, inl, inr, Option, Some, None}
+use Rattle.std.specs.Prelude.{All, is_some, is_none, option_map, slice_index_or, IsSome}
 use Rattle.std.proofs.lemmas.Bool.{false≢true}
 use Rattle.std.proofs.lemmas.List.{take_at, take_all, append-nil}
 use Rattle.std.proofs.lemmas.List.Elements.{All-nil, All-cons}
@@ -16,7 +16,6 @@ use Rattle.blk_base.specs.declared.fault.FaultAt.{FaultAt}
 use Rattle.blk_base.specs.declared.fault.FaultFrom.{FaultFrom}
 use Rattle.blk_base.specs.declared.fault.FaultFrom.TheVariants.{Store, Dev, Sink}
 use Rattle.blk_base.proofs.Openings.{put-same}
-use Rattle.trace_codec.specs.Trace.{ops_of}
 use Rattle.blk_history.specs.Machine.{IoState, IoGuest, disk_in, io_replay}
 use Rattle.blk_history.specs.Legal.{LegalIo}
 use Rattle.blk_history.specs.Owned.{asked_by}
@@ -24,10 +23,7 @@ use Rattle.blk_history.specs.Licence.{RoseSince}
 use Rattle.blk_history.specs.Small.{IsSmall}
 use Rattle.blk_history.specs.Transcript.{transcript}
 use Rattle.blk_history.specs.declared.event.Event.{Event}
-use Rattle.trace_codec.specs.declared.stop.TraceStop.TheVariants as line_stops
 use Rattle.qblk_inputs.specs.Reading.{IsShortFile, OnFile, FailsOn, input_read}
-use Rattle.qblk_inputs.specs.declared.stop.InputFlaw.TheVariants as flaws
-use Rattle.qblk_core.proofs.Numbered.{names-line}
 use Rattle.qblk_core.proofs.Quiet.{quiet}
 use Rattle.qblk_core.proofs.Returned.{open_opening, closed-is}
 use Rattle.blk_nodes.specs.Contents.{disk_of}
@@ -43,7 +39,7 @@ use Rattle.qblk_core.proofs.Closed.{IsFlushed, HasClosed, closed-facts}
 use Rattle.qblk_core.proofs.Made.{made-one, made-kind, made-devices, image-as, told-as-disk}
 use Rattle.qblk_core.proofs.OneDevice.{head-same, faults-is, capacity-is}
 use Rattle.qblk_core.proofs.OneImage.{told-is}
-use Rattle.qblk_core.specs.Run.{Outside, OnOpened, machine_of, guest_names, closed_opening, IsRunOn, IsOverFile, TellsDisk, IsImageCause, IsTraceCause, IsBackQuietly, IsOpenedQuietlyFor, SpeaksOfInput, HasImage, HasTrace, IsFlawInTrace, IsBadBytes, IsBadImage, IsTraceFileRefused, IsImageOrTraceRefused, WasIoRun, StoreStands, SinkStands, FailsToOpen, FailsToFlushIo, IsFaultyIo, AnswersIo}
+use Rattle.qblk_core.specs.Run.{Outside, OnOpened, AskFor, machine_of, guest_names, closed_opening, IsRunOn, IsOverFile, TellsDisk, IsImageCause, IsBackQuietly, IsOpenedQuietlyFor, SpeaksOfInput, HasImage, HasTrace, IsFlawInTrace, IsBadBytes, IsBadImage, IsTraceFileRefused, IsImageOrTraceRefused, WasIoRun, StoreStands, CallStands, SinkStands, FailsToOpen, FailsToFlushIo, IsFaultyIo, AnswersIo}
 use Rattle.qblk_core.specs.Session.{IsTraceRead, IsStoreStop, NamesStoreOn, IsOpenStop, AreRequestsMade, IsGoodDevice, IsRefusedRead, IsRefusedImage, IsRunStop, EndsIoAs}
 use Rattle.qblk_core.specs.Inputs.{IsRefusal}
 use Rattle.qblk_core.specs.declared.input.TraceRead.{TraceRead}
@@ -165,9 +161,7 @@ inputs format image trace bytes read d n w fault files f told is read-is made =
     let P : TraceRead → Type 0 = λ r. IsTraceRead trace r files in
     let whole = subst P is read-is in
     let same : bytes ≡ whole.0.bytes = whole.2.1 in
-    let U : List ℕ → Type 0 = λ b. IsUtf8 b × (ops_of b ≡ Ok (asked_by 0 w.log.events)) in
-    let text = subst U same (made.text, made.ops) in
-    ((f, told.file, (made.good f.bytes told.content).0), (whole.0, whole.1, (whole.2.0, text.0, text.1)))
+    ((f, told.file, (made.good f.bytes told.content).0), (whole.0, whole.1, subst (AskFor (asked_by 0 w.log.events)) same made.asked))
 
 -- its numbers are of 64 bits
 all-small : (h : List Event) → HaveLines h → All IsSmall h
@@ -190,6 +184,7 @@ was-run format image trace bytes read d n w fault flushed old new k flag sized n
     let facts = closed-of format bytes d n w fault made in
     let start = faults-is made.first d (made-devices format d made.first made.made) made.made.node in
     record {
+      asked = (bytes, made.asked);
       inputs = on-told old.files (λ told is-told read-told. inputs format image trace bytes read d n w fault told (told-as image d told sized is-told).0 (told-as image d told sized is-told).1 is read-told made) device read-is;
       run = record {
         asked = refl;
@@ -313,6 +308,16 @@ store-stands before now (Input name line cause) is = is
 store-stands before now (Stuck actor waits) is = is
 store-stands before now NoMemory is = is
 
+pub call-stands : (before now : Option CallOnFile) (status : Status) → now ≡ before → CallStands status before now
+call-stands before now (Fault Store count) is = tt
+call-stands before now (Fault (Dev dev) count) is = is
+call-stands before now (Fault Sink count) is = is
+call-stands before now Done is = is
+call-stands before now Usage is = is
+call-stands before now (Input name line cause) is = is
+call-stands before now (Stuck actor waits) is = is
+call-stands before now NoMemory is = is
+
 pub sink-stands : (before now : ℕ) (status : Status) → now ≡ before → SinkStands status before now
 sink-stands before now (Fault Store count) is = is
 sink-stands before now (Fault (Dev dev) count) is = tt
@@ -359,22 +364,6 @@ bad-image format image why.TooLarge files f there is bad = (f, is, bad)
 bad-image format image why.NeedsBacking files f there is bad = (f, is, bad)
 bad-image format image (why.Image stop) files f there is bad = (f, is, bad)
 
--- what a refusal says of itself
-trace-cause : (bytes : List ℕ) (line : ℕ) (cause : InputWhy) → IsFlawInTrace cause line bytes → IsTraceCause cause line
-trace-cause bytes line why.Absent is = absurd is
-trace-cause bytes line why.TooLarge is = absurd is
-trace-cause bytes line why.NeedsBacking is = absurd is
-trace-cause bytes line (why.Image stop) is = absurd is
-trace-cause bytes line why.TooLong is = (flaws.TooLong, refl, is.0)
-trace-cause bytes line why.NotUtf8 is = (flaws.NotUtf8, refl, is.0)
-trace-cause bytes line why.BadLine is = (flaws.BadLine, refl, names-line bytes (line_stops.BadLine line) is.2)
-trace-cause bytes line why.TooMany is = (flaws.TooMany, refl, names-line bytes (line_stops.TooMany line) is.2)
-
-read-cause : (read : TraceRead) (line : ℕ) (cause : InputWhy) → IsRefusedRead read cause line → IsTraceCause cause line
-read-cause (reads.Whole bytes) line cause is = trace-cause bytes line cause is
-read-cause reads.Absent line cause is = (flaws.Absent, is.1, is.0)
-read-cause reads.TooLong line cause is = (flaws.TooLong, is.1, is.0)
-
 -- the image was opened, where it is there
 quietly-for : (format : Format) (image : List ℕ) (d : DeviceSeen) (old new : Outside) (cause : InputWhy) → IsRefusedImage format cause d → IsBackQuietly image d old new
     → IsOpenedQuietlyFor cause image old new
@@ -394,7 +383,7 @@ speaks-of : (format : Format) (image trace : List ℕ) (read : TraceRead) (d : D
     → (old new : Outside) → IsBackQuietly image d old new → SpeaksOfInput format image trace old new name line cause
 speaks-of format image trace read d name line cause (inl bad) old new opened =
     inl (bad.0, bad.1, bad.2.cause, quietly-for format image d old new cause bad.2 opened)
-speaks-of format image trace read d name line cause (inr good) old new opened = inr (good.1, read-cause read line cause good.2, (d, opened, good.0.length))
+speaks-of format image trace read d name line cause (inr good) old new opened = inr (good.1, (read, good.2), (d, opened, good.0.length))
 
 refused-by : (format : Format) (image trace : List ℕ) (read : TraceRead) (d : DeviceSeen) (files : List File) (name : List ℕ) (line : ℕ) (cause : InputWhy)
     → ((f : File) × IsToldAs image d files f) → IsTraceRead trace read files

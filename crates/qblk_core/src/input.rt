@@ -1,7 +1,7 @@
 //! Inputs of a run: the trace that was read, and what is taken before the first request.
 ghost use Rattle.std.specs.Prelude.{◌≡◌, ◌≤◌, List, ℕ, length, IfOk, IfErr, IfSome, IsUtf8, Ok};
 ghost use Rattle.trace_codec.specs.Trace.{ops_of};
-ghost use Rattle.qblk_core.specs.Run.{IsFlawInTrace, guest_names};
+ghost use Rattle.qblk_core.specs.Run.{AskFor, IsFlawInTrace, guest_names};
 ghost use Rattle.qblk_inputs.specs.Inputs.{most_text};
 ghost use Rattle.qblk_core.specs.Inputs.{IsRefusal};
 ghost use Rattle.qblk_core.specs.Ready.{IsSetUpFor};
@@ -99,8 +99,7 @@ fn take_memory(alloc: Global, ops: Vec<Op>) -> Result<Prepared, NoMemory>
 /// The requests of a trace with all the memory that a run of them takes, or its refusal.
 pub(crate) fn judge(alloc: Global, trace: &str, read: TraceRead) -> Result<Prepared, Status>
     ensures ok { IfOk result
-        (λ p. (bytes : List ℕ) × (read ≡ TraceRead.Whole bytes) × IsUtf8 bytes
-        × (ops_of bytes ≡ Ok p.ops.items)
+        (λ p. (bytes : List ℕ) × (read ≡ TraceRead.Whole bytes) × AskFor p.ops.items bytes
         × IsSetUpFor p.ops.items p.history p.buffer.items p.names p.line) }
     ensures err { IfErr result (IsTraceStop trace.now read) }
 {

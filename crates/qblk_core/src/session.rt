@@ -12,7 +12,7 @@ ghost use Rattle.blk_history.specs.Transcript.{transcript};
 ghost use Rattle.qblk_core.specs.Comes.{HaveLines};
 ghost use Rattle.qblk_core.specs.Face.{SessionSeen};
 ghost use Rattle.qblk_core.specs.ImageNodes.{seen_device};
-ghost use Rattle.qblk_core.specs.Run.{guest_names, OnOpened, AnswersIo, StoreStands, TellsFaults};
+ghost use Rattle.qblk_core.specs.Run.{guest_names, OnOpened, AnswersIo, StoreStands, CallStands, TellsFaults};
 
 use crate::closing::device_of;
 use crate::engine::Engine;
@@ -58,6 +58,9 @@ fn read_trace_file<S: Store>(store: &mut S, name: &str) -> Result<TraceRead, Sta
     ensures quiet { OnOk result (S.faults store.new ≡ S.faults store.old) }
     ensures stands { IfErr result
         (λ status. StoreStands status (S.faults store.old) (S.faults store.new)) }
+    ensures last { OnOk result (S.failed_call store.new ≡ S.failed_call store.old) }
+    ensures call { IfErr result
+        (λ status. CallStands status (S.failed_call store.old) (S.failed_call store.new)) }
 {
     match store.read_all(name, MAX_TEXT) {
         Ok(bytes) => Ok(TraceRead::Whole(bytes)),
@@ -88,6 +91,9 @@ fn open_image<S: Store>(alloc: Global, store: &mut S, name: &str) -> Result<S::D
     ensures quiet { OnOk result (S.faults store.new ≡ S.faults store.old) }
     ensures stands { IfErr result
         (λ status. StoreStands status (S.faults store.old) (S.faults store.new)) }
+    ensures last { OnOk result (S.failed_call store.new ≡ S.failed_call store.old) }
+    ensures call { IfErr result
+        (λ status. CallStands status (S.failed_call store.old) (S.failed_call store.new)) }
 {
     match store.open_file(name) {
         Ok(device) => Ok(device),

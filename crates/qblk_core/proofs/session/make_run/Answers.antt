@@ -22,6 +22,6 @@ returns-clause-made g c =
     let first = c.in-Ok.opened.0 in
     let done : RequestsDone (begun first p.history) w p.ops.items = subst (λ (e : SessionSeen). RequestsDone e w p.ops.items) c.new-engine.ensures c.run_requests.ensures in
     let whole = made-run c.args.format first closed.0 closed.1 (seen_device g.D.Device c.args.device) (seen_device g.D.Device back) w p.history p.ops.items ok.0 c.finish-device.result.2
-    opened.made opened.disks (λ b told. g.met.D.Device.told_size c.args.device b told) ok.2 ok.3 ok.4.empty done c.finish-device.ensures.one closed.2
+    opened.made opened.disks (λ b told. g.met.D.Device.told_size c.args.device b told) ok.2 ok.3.empty done c.finish-device.ensures.one closed.2
     (λ b told. g.met.D.Device.told_flushed back b told) (λ b told. g.met.D.Device.told_size back b told) in
-    (ok.0, w, ok.1, whole, c.finish-device.ensures.history, ok.4.named, ok.4.blank, ok.4.line_room)
+    (ok.0, w, ok.1, whole, c.finish-device.ensures.history, ok.3.named, ok.3.blank, ok.3.line_room)

@@ -12,7 +12,7 @@ use Rattle.blk_nodes.specs.Nodes.{DeviceSeen}
 use Rattle.qblk_core.specs.ImageNodes.{device_faults, seen_device}
 use Rattle.qblk_core.specs.Session.{EndsIoAs}
 use Rattle.qblk_core.proofs.Returned.{open_opening, none-out-back}
-use Rattle.qblk_core.proofs.Whole.{ends, stops, store-stands, sink-stands, ends-stands, closed-of}
+use Rattle.qblk_core.proofs.Whole.{ends, stops, store-stands, call-stands, sink-stands, ends-stands, closed-of}
 use Rattle.qblk_core.proofs.session.run_on.Goals as goal
 
 pub give_back-requires : goal.give_back-requires
@@ -101,7 +101,9 @@ returns-in-Ok-made-clause-faults g c =
     let made = rw c.in-Ok-made.is at c.make_run-made.ensures.made in
     let w = made.1 in
     let counts = c.give_back.ensures.faults ∙ c.in-Ok-open_image.ensures.quiet ∙ c.in-Ok.ensures.quiet in
+    let calls = c.give_back.ensures.call ∙ c.in-Ok-open_image.ensures.last ∙ c.in-Ok.ensures.last in
     record {
+      call = call-stands (S.failed_call c.args.store.now) (S.failed_call c.give_back.new.self) c.write_out.result calls;
       store = store-stands (S.faults c.args.store.now) (S.faults c.give_back.new.self) c.write_out.result counts;
       sink = ends-stands n (device_faults w.nodes) c.in-Ok-made.made.fault (K.sent c.args.out.now) (K.sent c.write_out.new.out) (transcript guest_names c.in-Ok-made.made.history.events)
           (K.faults c.args.out.now) (K.faults c.write_out.new.out) c.write_out.result (closed-of c.args.format made.0 (seen_device D c.in-Ok-open_image.device) n w c.in-Ok-made.made.fault made.3).flushed c.write_out.ensures;
@@ -111,7 +113,9 @@ pub returns-in-Err-made-clause-faults : goal.returns-in-Err-made-clause-faults
 returns-in-Err-made-clause-faults g c =
     let S = g.S.Store in
     let counts = c.give_back.ensures.faults ∙ c.in-Ok-open_image.ensures.quiet ∙ c.in-Ok.ensures.quiet in
+    let calls = c.give_back.ensures.call ∙ c.in-Ok-open_image.ensures.last ∙ c.in-Ok.ensures.last in
     record {
+      call = call-stands (S.failed_call c.args.store.now) (S.failed_call c.give_back.new.self) c.in-Err-made.status calls;
       store = store-stands (S.faults c.args.store.now) (S.faults c.give_back.new.self) c.in-Err-made.status counts;
       sink = sink-stands (g.K.Sink.faults c.args.out.now) (g.K.Sink.faults c.args.out.now) c.in-Err-made.status refl;
     }
