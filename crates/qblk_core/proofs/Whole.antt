@@ -39,8 +39,8 @@ use Rattle.qblk_core.proofs.Closed.{IsFlushed, HasClosed, closed-facts}
 use Rattle.qblk_core.proofs.Made.{made-one, made-kind, made-devices, image-as, told-as-disk}
 use Rattle.qblk_core.proofs.OneDevice.{head-same, faults-is, capacity-is}
 use Rattle.qblk_core.proofs.OneImage.{told-is}
-use Rattle.qblk_core.specs.Run.{Outside, OnOpened, AskFor, machine_of, guest_names, closed_opening, IsRunOn, IsOverFile, TellsDisk, IsImageCause, IsBackQuietly, IsOpenedQuietlyFor, SpeaksOfInput, HasImage, HasTrace, IsFlawInTrace, IsBadBytes, IsBadImage, IsTraceFileRefused, IsImageOrTraceRefused, WasIoRun, StoreStands, CallStands, SinkStands, FailsToOpen, FailsToFlushIo, IsFaultyIo, AnswersIo}
-use Rattle.qblk_core.specs.Session.{IsTraceRead, IsStoreStop, NamesStoreOn, IsOpenStop, AreRequestsMade, IsGoodDevice, IsRefusedRead, IsRefusedImage, IsRunStop, EndsIoAs}
+use Rattle.qblk_core.specs.Run.{Outside, OnOpened, AskFor, machine_of, guest_names, closed_opening, IsRunOn, IsOverFile, TellsDisk, IsImageCause, IsBackQuietly, IsOpenedQuietlyFor, SpeaksOfInput, HasImage, HasTrace, IsFlawInTrace, IsBadBytes, IsBadImage, IsRefusedRead, IsTraceFileRefused, IsImageOrTraceRefused, WasIoRun, StoreStands, CallStands, SinkStands, FailsToOpen, FailsToFlushIo, IsFaultyIo, AnswersIo}
+use Rattle.qblk_core.specs.Session.{IsTraceRead, IsStoreStop, NamesStoreOn, IsOpenStop, AreRequestsMade, IsGoodDevice, IsRefusedImage, IsRunStop, EndsIoAs}
 use Rattle.qblk_core.specs.Inputs.{IsRefusal}
 use Rattle.qblk_core.specs.declared.input.TraceRead.{TraceRead}
 use Rattle.qblk_core.specs.declared.input.TraceRead.TheVariants as reads

@@ -1,5 +1,5 @@
 -- The parts of a run on an image, from its inputs to the transcript.
-use Rattle.std.specs.Prelude.{◌≡◌, ◌≢◌, ◌⊎◌, ℕ, ◌<◌, ◌≤◌, true, List, [], length, IsUtf8, Option, Some, None, is_some, Ok, ◌∷◌, ◌++◌, option_map}
+use Rattle.std.specs.Prelude.{◌≡◌, ◌≢◌, ◌⊎◌, ℕ, ◌<◌, ◌≤◌, true, List, [], length, Option, Some, None, is_some, ◌∷◌, ◌++◌, option_map}
 use Rattle.blk_base.specs.Counts.{Rose}
 use Rattle.blk_base.specs.Files.{IfTold}
 use Rattle.blk_base.specs.Answers.{HasFile, LacksFile}
@@ -8,7 +8,6 @@ use Rattle.blk_base.specs.declared.file.File.{File}
 use Rattle.blk_base.specs.declared.store.StoreCall.{StoreCall}
 use Rattle.blk_base.specs.declared.fault.FaultAt.{FaultAt}
 use Rattle.blk_base.specs.declared.fault.FaultFrom.TheVariants.{Store, Dev, Sink}
-use Rattle.trace_codec.specs.Trace.{ops_of}
 use Rattle.blk_history.specs.Owned.{asked_by}
 use Rattle.blk_base.specs.declared.fault.Outcome.{Outcome}
 use Rattle.blk_base.specs.declared.fault.Outcome.TheVariants.{Io}
@@ -31,7 +30,7 @@ use Rattle.qblk_core.specs.Output.{SendsFront}
 use Rattle.qblk_core.specs.declared.input.TraceRead.{TraceRead}
 use Rattle.qblk_core.specs.declared.input.TraceRead.TheVariants as reads
 use Rattle.qblk_core.specs.declared.status.InputWhy.{InputWhy}
-use Rattle.qblk_core.specs.declared.status.InputWhy.TheVariants.{Absent, TooLong}
+use Rattle.qblk_core.specs.declared.status.InputWhy.TheVariants.{Absent}
 use Rattle.qblk_core.specs.declared.status.Status.{Status}
 use Rattle.qblk_core.specs.declared.status.Status.TheVariants.{Done, Usage, Input, Fault, Stuck, NoMemory}
 
