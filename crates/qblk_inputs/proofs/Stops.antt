@@ -88,10 +88,10 @@ script_flaw Absent line h = h
 script_flaw TooLong line h = h
 script_flaw why line h = absurd h
 
-trace_flaw : (why : InputFlaw) (line : ℕ) → IsUnreadFlaw why line → IsTraceFlaw why line
-trace_flaw Absent line h = h
-trace_flaw TooLong line h = h
-trace_flaw why line h = absurd h
+trace_flaw : (before : Amounts) (why : InputFlaw) (line : ℕ) → IsUnreadFlaw why line → IsTraceFlaw before why line
+trace_flaw before Absent line h = h
+trace_flaw before TooLong line h = h
+trace_flaw before why line h = absurd h
 
 pub script_unread : (told : Option (List File)) (name : List ℕ) (before now : ℕ) (stop : InputStop)
     → StopsFor (OfFile told name IsUnreadFlaw IsUnread) before now stop → StopsFor (OfFile told name IsScriptFlaw IsRefusedScript) before now stop
@@ -100,10 +100,10 @@ script_unread told name before now stop h =
     (λ given why line p. (p.0, script_flaw why line p.1, told_map told _ _ (λ files. unread_script name why line files) p.2)) h
 
 pub trace_unread : (asked : Amounts) (told : Option (List File)) (name : List ℕ) (before now : ℕ) (stop : InputStop)
-    → StopsFor (OfFile told name IsUnreadFlaw IsUnread) before now stop → StopsFor (OfFile told name IsTraceFlaw (IsRefusedTrace asked)) before now stop
+    → StopsFor (OfFile told name IsUnreadFlaw IsUnread) before now stop → StopsFor (OfFile told name (IsTraceFlaw asked) (IsRefusedTrace asked)) before now stop
 trace_unread asked told name before now stop h =
-    stops_more (OfFile told name IsUnreadFlaw IsUnread) (OfFile told name IsTraceFlaw (IsRefusedTrace asked)) before now stop
-    (λ given why line p. (p.0, trace_flaw why line p.1, told_map told _ _ (λ files. unread_trace asked name why line files) p.2)) h
+    stops_more (OfFile told name IsUnreadFlaw IsUnread) (OfFile told name (IsTraceFlaw asked) (IsRefusedTrace asked)) before now stop
+    (λ given why line p. (p.0, trace_flaw asked why line p.1, told_map told _ _ (λ files. unread_trace asked name why line files) p.2)) h
 
 -- ---- a file that is read
 
@@ -136,13 +136,13 @@ trace_read told name bytes before asked wishes h text is =
     reads told name bytes (ReadsAsTrace before wishes asked) h (λ short. record { text = record { short = short; text = text }; read = is })
 
 pub trace_bad : (told : Option (List File)) (name bytes : List ℕ) (before : Amounts) (line : ℕ) → IfTold told (IsReadOfFile name bytes)
-    → length bytes ≤ 67108864 → IsUtf8 bytes → wishes_in before bytes ≡ Err (stops.BadLine line) → OfFile told name IsTraceFlaw (IsRefusedTrace before) name BadLine line
+    → length bytes ≤ 67108864 → IsUtf8 bytes → wishes_in before bytes ≡ Err (stops.BadLine line) → OfFile told name (IsTraceFlaw before) (IsRefusedTrace before) name BadLine line
 trace_bad told name bytes before line h short text is =
     let bad : IsBadTrace before BadLine line bytes = (record { short = short; text = text }, is) in
-    (refl, (before, bytes, bad), reads told name bytes (IsBadTrace before BadLine line) h (λ _. bad))
+    (refl, (bytes, bad), reads told name bytes (IsBadTrace before BadLine line) h (λ _. bad))
 
 pub trace_long : (told : Option (List File)) (name bytes : List ℕ) (before : Amounts) (line : ℕ) → IfTold told (IsReadOfFile name bytes)
-    → length bytes ≤ 67108864 → IsUtf8 bytes → wishes_in before bytes ≡ Err (stops.TooMany line) → OfFile told name IsTraceFlaw (IsRefusedTrace before) name TooMany line
+    → length bytes ≤ 67108864 → IsUtf8 bytes → wishes_in before bytes ≡ Err (stops.TooMany line) → OfFile told name (IsTraceFlaw before) (IsRefusedTrace before) name TooMany line
 trace_long told name bytes before line h short text is =
     let bad : IsBadTrace before TooMany line bytes = (record { short = short; text = text }, is) in
-    (refl, (before, bytes, bad), reads told name bytes (IsBadTrace before TooMany line) h (λ _. bad))
+    (refl, (bytes, bad), reads told name bytes (IsBadTrace before TooMany line) h (λ _. bad))

@@ -10,7 +10,7 @@ use Rattle.trace_codec.specs.declared.wish.Wish.{Wish}
 use Rattle.qblk_inputs.specs.declared.stop.InputFlaw.{InputFlaw}
 use Rattle.trace_codec.specs.Script.{Order}
 use Rattle.qblk_inputs.specs.Words.{Player, Cast, guests_of}
-use Rattle.qblk_inputs.specs.Inputs.{IsScript, ReadsAsTrace, HasTraces, AreTraces, HasWork, IsRefusedScript, IsRefusedTrace, IsFirstRefused, IsRefusedInput, IsScriptFlaw, IsTraceFlaw}
+use Rattle.qblk_inputs.specs.Inputs.{IsScript, ReadsAsTrace, HasTraces, AreTraces, HasWork, IsRefusedScript, IsRefusedTrace, IsFirstRefused, IsRefusedInput, IsScriptFlaw, IsTraceFlaw, SpeaksOfTraces}
 use Rattle.qblk_inputs.specs.Reading.{OfFile, OfTraces, OfInputs, FailsOnTrace, OnFile, OnTraces, OnInputs}
 
 abbrev traces_of : List Player → List (List ℕ)
@@ -22,10 +22,11 @@ pub record IsAhead (told : Option (List File)) (players : List Player) (asked : 
   pub are : (more : List (List Wish)) → AreTraces asked rest more → AreTraces nothing players (done ++ more)
   pub bad : (name : List ℕ) (why : InputFlaw) (line : ℕ) → IfTold told (IsFirstRefused asked rest name line why) → IfTold told (IsFirstRefused nothing players name line why)
   pub fails : (name : List ℕ) → IfTold told (FailsOnTrace asked rest name) → IfTold told (FailsOnTrace nothing players name)
+  pub speaks : (name : List ℕ) (line : ℕ) (why : InputFlaw) → SpeaksOfTraces asked rest name line why → SpeaksOfTraces nothing players name line why
   pub names : (name : List ℕ) → Contains (traces_of rest) name → Contains (traces_of players) name
 
 pub ahead-first : (told : Option (List File)) (players : List Player) → IsAhead told players nothing players []
-ahead-first told players = record { good = λ more h. h; are = λ more h. h; bad = λ name why line h. h; fails = λ name h. h; names = λ name h. h }
+ahead-first told players = record { good = λ more h. h; are = λ more h. h; bad = λ name why line h. h; fails = λ name h. h; speaks = λ name line why h. h; names = λ name h. h }
 
 more-traces : (told : Option (List File)) (before asked : Amounts) (p : Player) (rest : List Player) (wishes : List Wish) (more : List (List Wish))
     → IfTold told (HasFile p.trace (λ f. ReadsAsTrace before wishes asked f.bytes)) → IfTold told (HasTraces asked rest more) → IfTold told (HasTraces before (p ∷ rest) (wishes ∷ more))
@@ -49,6 +50,7 @@ ahead-next told players before asked p rest done wishes here said a = record {
   are = λ more h. subst (AreTraces nothing players) (sym (append_assoc done (wishes ∷ []) more)) (a.are (wishes ∷ more) (said.0, asked, said.1, h));
   bad = λ name why line h. a.bad name why line (more-refused told before asked p rest wishes name why line here h);
   fails = λ name h. a.fails name (more-fails told before asked p rest wishes name here h);
+  speaks = λ name line why h. a.speaks name line why (inr (said.0, wishes, asked, said.1, h));
   names = λ name h. a.names name (Contains-append_right (p.trace ∷ []) (traces_of rest) name h);
 }
 
@@ -63,7 +65,7 @@ pub ahead-said : (told : Option (List File)) (players : List Player) (asked : Am
 ahead-said told players asked done a = subst (AreTraces nothing players) (append-nil done) (a.are [] tt)
 
 first-refused : (told : Option (List File)) (asked : Amounts) (p : Player) (rest : List Player) (name : List ℕ) (why : InputFlaw) (line : ℕ)
-    → OfFile told p.trace IsTraceFlaw (IsRefusedTrace asked) name why line → IfTold told (IsFirstRefused asked (p ∷ rest) name line why)
+    → OfFile told p.trace (IsTraceFlaw asked) (IsRefusedTrace asked) name why line → IfTold told (IsFirstRefused asked (p ∷ rest) name line why)
 first-refused None asked p rest name why line h = tt
 first-refused (Some files) asked p rest name why line h = inl (h.0, h.2)
 
@@ -71,9 +73,9 @@ first-trace : (p : Player) (rest : List Player) (name : List ℕ) → name ≡ p
 first-trace p rest name is = (0, omega arith, sym is)
 
 pub ahead-stops : (told : Option (List File)) (players : List Player) (asked : Amounts) (p : Player) (rest : List Player) (done : List (List Wish)) (name : List ℕ) (why : InputFlaw) (line : ℕ)
-    → IsAhead told players asked (p ∷ rest) done → OfFile told p.trace IsTraceFlaw (IsRefusedTrace asked) name why line → OfTraces told players name why line
+    → IsAhead told players asked (p ∷ rest) done → OfFile told p.trace (IsTraceFlaw asked) (IsRefusedTrace asked) name why line → OfTraces told players name why line
 ahead-stops told players asked p rest done name why line a h =
-    ((a.names name (first-trace p rest name h.0), h.1), a.bad name why line (first-refused told asked p rest name why line h))
+    (a.speaks name line why (inl (h.0, h.1)), a.bad name why line (first-refused told asked p rest name why line h))
 
 first-fails : (told : Option (List File)) (asked : Amounts) (p : Player) (rest : List Player) (name : List ℕ) → OnFile told p.trace name → IfTold told (FailsOnTrace asked (p ∷ rest) name)
 first-fails None asked p rest name h = tt

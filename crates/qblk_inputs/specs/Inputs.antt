@@ -1,5 +1,5 @@
 -- The inputs of a run: a script, and then a trace for each guest.
-use Rattle.std.specs.Prelude.{◌≡◌, ◌⊎◌, ◌<◌, ◌≤◌, ℕ, List, [], ◌∷◌, length, map, Contains, IsUtf8, Ok, Err}
+use Rattle.std.specs.Prelude.{◌≡◌, ◌⊎◌, ◌<◌, ◌≤◌, ℕ, List, [], ◌∷◌, length, IsUtf8, Ok, Err}
 use Rattle.blk_base.specs.Answers.{HasFile, LacksFile}
 use Rattle.blk_base.specs.declared.file.File.{File}
 use Rattle.trace_codec.specs.Amounts.{Amounts, nothing}
@@ -122,19 +122,23 @@ IsScriptFlaw TooLong line = line ≡ 0
 IsScriptFlaw BadLine line = ⊥
 IsScriptFlaw TooMany line = line ≡ 4097
 
--- those that a trace may have: some text has such a line, behind traces that ask for so much
-abbrev pub IsTraceFlaw : InputFlaw → ℕ → Type 0
-IsTraceFlaw Absent line = line ≡ 0
-IsTraceFlaw NotUtf8 line = line ≡ 0
-IsTraceFlaw TooLong line = line ≡ 0
-IsTraceFlaw why line = (before : Amounts) × (bytes : List ℕ) × IsBadTrace before why line bytes
+-- those that a trace may have behind traces that ask for so much: some text has such a line
+abbrev pub IsTraceFlaw : Amounts → InputFlaw → ℕ → Type 0
+IsTraceFlaw before Absent line = line ≡ 0
+IsTraceFlaw before NotUtf8 line = line ≡ 0
+IsTraceFlaw before TooLong line = line ≡ 0
+IsTraceFlaw before why line = (bytes : List ℕ) × IsBadTrace before why line bytes
 
--- it speaks of one of the traces, with a flaw of a trace
-abbrev pub SpeaksOfTrace : List Player → List ℕ → ℕ → InputFlaw → Type 0
-SpeaksOfTrace players name line why =
-    Contains (map (λ p. p.trace) players) name × IsTraceFlaw why line
+-- it speaks of one of the traces, with a flaw that this may have behind texts that are read
+abbrev pub SpeaksOfTraces : Amounts → List Player → List ℕ → ℕ → InputFlaw → Type 0
+SpeaksOfTraces before [] name line why = ⊥
+SpeaksOfTraces before (p ∷ players) name line why =
+    ((name ≡ p.trace) × IsTraceFlaw before why line)
+    ⊎ ((bytes : List ℕ) × (wishes : List Wish) × (asked : Amounts)
+    × ReadsAsTrace before wishes asked bytes × SpeaksOfTraces asked players name line why)
 
 -- of the script or of one of the traces
 abbrev pub SpeaksOfCast : Cast → List ℕ → ℕ → InputFlaw → Type 0
 SpeaksOfCast cast name line why =
-    ((name ≡ cast.script) × IsScriptFlaw why line) ⊎ SpeaksOfTrace cast.players name line why
+    ((name ≡ cast.script) × IsScriptFlaw why line)
+    ⊎ SpeaksOfTraces nothing cast.players name line why

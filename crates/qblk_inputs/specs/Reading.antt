@@ -11,7 +11,7 @@ use Rattle.blk_base.specs.declared.store.StoreCall.TheVariants as calls
 use Rattle.trace_codec.specs.Amounts.{Amounts, nothing}
 use Rattle.trace_codec.specs.Script.{Order}
 use Rattle.trace_codec.specs.declared.wish.Wish.{Wish}
-use Rattle.qblk_inputs.specs.Inputs.{IsScript, ReadsAsTrace, IsFirstRefused, IsRefusedInput, SpeaksOfTrace, SpeaksOfCast, most_text}
+use Rattle.qblk_inputs.specs.Inputs.{IsScript, ReadsAsTrace, IsFirstRefused, IsRefusedInput, SpeaksOfTraces, SpeaksOfCast, most_text}
 use Rattle.qblk_inputs.specs.Words.{Player, Cast, guests_of}
 use Rattle.qblk_inputs.specs.declared.stop.InputFlaw.{InputFlaw}
 use Rattle.qblk_inputs.specs.declared.stop.InputFlaw.TheVariants.{Absent, TooLong}
@@ -59,7 +59,7 @@ OfFile told name Q P given why line = (given ≡ name) × Q why line × IfTold t
 -- a refusal of one of the traces, where files are told of the first that is refused
 abbrev pub OfTraces : Option (List File) → List Player → List ℕ → InputFlaw → ℕ → Type 0
 OfTraces told players name why line =
-    SpeaksOfTrace players name line why
+    SpeaksOfTraces nothing players name line why
     × IfTold told (IsFirstRefused nothing players name line why)
 
 -- a refusal of one of the inputs, where files are told of the first that is refused

@@ -125,7 +125,7 @@ fn read_trace<S: Store>(
     ensures said { IfOk result
         (λ wishes. (bytes : List ℕ) × ReadsAsTrace asked.old wishes.items asked.new bytes) }
     ensures stop { IfErr result (StopsFor
-        (OfFile (S.files store.old) name.now IsTraceFlaw (IsRefusedTrace asked.old))
+        (OfFile (S.files store.old) name.now (IsTraceFlaw asked.old) (IsRefusedTrace asked.old))
         (S.faults store.old) (S.faults store.new)) }
     ensures file { IfErr result (StopsOn (OnFile (S.files store.old) name.now)
         (S.failed_call store.old) (S.failed_call store.new)) }

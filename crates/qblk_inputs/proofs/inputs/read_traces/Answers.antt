@@ -62,7 +62,7 @@ returns-in-Err-clause-stop g c =
     let ahead = subst P (players_from c.args.players.now c.loop-word.word-index w (omega arith) c.word-item.is) invariant.ahead in
     let trace : c.player_of.result.1.now ≡ (player_of w.bytes).trace = c.player_of.ensures.trace ∙ ap (λ (bs : List ℕ). (player_of bs).trace) c.as_str.ensures in
     let here = rw (trace, invariant.files, invariant.quiet) at c.in-Err.ensures.stop in
-    stops_more (OfFile files (player_of w.bytes).trace IsTraceFlaw (IsRefusedTrace c.loop-word.asked)) (OfTraces files players) (g.S.Store.faults c.args.store.now)
+    stops_more (OfFile files (player_of w.bytes).trace (IsTraceFlaw c.loop-word.asked) (IsRefusedTrace c.loop-word.asked)) (OfTraces files players) (g.S.Store.faults c.args.store.now)
     (g.S.Store.faults c.read_trace.new.store) c.in-Err.stop
     (λ name why line bad. ahead-stops files players c.loop-word.asked (player_of w.bytes) rest (map (λ t. t.items) c.loop-word.traces.items) name why line ahead bad) here
 
