@@ -11,6 +11,7 @@ use Rattle.blk_nodes.specs.Nodes.{DeviceSeen, device_in, is_device_of}
 use Rattle.blk_nodes.specs.Reading.{StoppedBy}
 use Rattle.blk_nodes.specs.declared.stop.FormatStop.{FormatStop}
 use Rattle.blk_nodes.specs.declared.stop.FormatStop.TheVariants as stop
+use Rattle.qmp_asks.specs.Values.{amount_or}
 use Rattle.qmp_codec.specs.Commands.{Cmd}
 use Rattle.qmp_codec.specs.declared.command.Command.TheVariants as command
 use Rattle.qmp_codec.specs.declared.nodes.BlockdevCreate.{BlockdevCreate}
