@@ -148,7 +148,7 @@ module _ (cast : Cast) (work : Work) (old new : Setting) (room : Room) (sized : 
   put good n sent rose = (work, its, n, record { was = was None good n sent; stopped = stopped }, rose, refl)
 
   unsent : new.sent ≡ old.sent → new.sink_faults ≡ old.sink_faults → Answers cast old new NoMemory
-  unsent sent sink = (sent, sink, inr (work, fault, its, inputs, run false (inl refl)))
+  unsent sent sink = (sent, sink, inr (work, fault, its, said, inputs, run false (inl refl)))
 
   by-end : (whole : List ℕ) → whole ≡ whole_transcript its → (x : Option FaultAt) → fault ≡ x → (y : Option (ℕ × Waits Written)) → waiting ≡ y → WentOut old.sent new.sent whole old.sink_faults new.sink_faults
       → Answers cast old new (ended_as x y)

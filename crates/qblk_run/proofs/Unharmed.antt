@@ -22,6 +22,7 @@ use Rattle.qblk_core.specs.declared.status.Status.{Status}
 use Rattle.qblk_core.specs.declared.status.Status.TheVariants.{Done, Usage, Input, Fault, Stuck, NoMemory}
 use Rattle.qblk_inputs.specs.Words.{Cast}
 use Rattle.qblk_core.specs.Completeness.{HasStood}
+use Rattle.world_commands.specs.Closing.{IsBackAfterFlush}
 use Rattle.qblk_run.specs.Completeness.{HasSpaceFor, HaveSpace, NamesNoFault, NoneHasRisen, full_in}
 use Rattle.qblk_run.specs.Run.{Setting, Answers, IsFaulty}
 use Rattle.qblk_run.specs.Worlds.{GoesThrough, IsEventOf}
@@ -93,8 +94,8 @@ faultless cast old new Store count none fault = not-rose old.store.faults new.st
 faultless cast old new (Dev dev) count none (work, a, n, stopped, out) =
     let run = stopped.was.run in
     let fails = run.flush.2 in
-    let at = with-some (slice_get a.openings run.flush.0.0) (λ o. (o.returned ≡ Some count) × HasFailedSince o.faults count) fails.last in
-    let stood = all-at (λ o. (c : ℕ) → o.returned ≡ Some c → HasStood o.faults c) a.openings run.flush.0.0 at.0 (none.devices a.openings run.openings) at.1 count at.2.0 in
+    let at = with-some (slice_get a.openings run.flush.0.0) (λ o. IsBackAfterFlush count o × HasFailedSince o.faults count) fails.last in
+    let stood = all-at (λ o. (c : ℕ) → o.returned ≡ Some c → HasStood o.faults c) a.openings run.flush.0.0 at.0 (none.devices a.openings run.openings) at.1 count at.2.0.0 in
     not-failed at.0.faults count count stood at.2.1 refl
 faultless cast old new Sink count none (work, a, n, stopped, rose, same) = not-rose old.sink_faults new.sink_faults count none.sink rose same
 
