@@ -2,7 +2,7 @@
 use Rattle.std.proofs.Common.{◌≡◌, ◌⊎◌, ℕ, ◌+◌, ◌-◌, ◌<◌, ◌≤◌, max, List, [], ◌∷◌, ◌++◌, length, get_or, take, drop, replicate, refl, sym, ◌∙◌, ap, arith, inl, inr, length-append, length-drop}
 use Rattle.std.proofs.lemmas.List.{length-replicate, length-take-le, get_or-take, get_or-drop, get_or_append_left, get_or-append_right, get_or-replicate, get_or_past, ext_get_or, take-append-le}
 use Rattle.std.proofs.lemmas.Bool.{cases_lt}
-use Rattle.blk_base.specs.Content.{bytes_at, overwritten, with_bytes, size_with}
+use Rattle.blk_base.specs.Content.{bytes_at, AreZeroPast, overwritten, with_bytes, size_with}
 
 abbrev zeros : ℕ → List ℕ
 zeros n = replicate n 0
@@ -29,6 +29,13 @@ length-bytes_at b at n = length-take-le n (drop at b ++ zeros n) (omega (arith, 
 pub get_or-bytes_at : (b : List ℕ) (at n k : ℕ) → k < n → get_or (bytes_at b at n) k 0 ≡ get_or b (at + k) 0
 unfolding bytes_at
 get_or-bytes_at b at n k below = get_or-take n (drop at b ++ zeros n) k 0 below ∙ get_or-padded (drop at b) n k ∙ get_or-drop at b k 0
+
+-- past the end all is 0
+pub zero_past : (b read : List ℕ) (at n : ℕ) → read ≡ bytes_at b at n → AreZeroPast (length b) at read
+zero_past b read at n is k past = ap (λ (xs : List ℕ). get_or xs k 0) is ∙ elim (cases_lt k n) [
+  | inl below ↦ get_or-bytes_at b at n k below ∙ get_or_past b (at + k) 0 past
+  | inr beyond ↦ get_or_past (bytes_at b at n) k 0 (omega (arith, length-bytes_at b at n, beyond))
+]
 
 -- bytes of which each is given by its place
 pub bytes_at-by_place : (b xs : List ℕ) (at n : ℕ) → length xs ≡ n → ((k : ℕ) → k < n → get_or xs k 0 ≡ get_or b (at + k) 0) → xs ≡ bytes_at b at n

@@ -137,14 +137,17 @@ module _ {D : Type 0} (g : Ghosts D) where
   cause-later vs ws all made None capacity next a b c same part first cause =
       let fits = cause.0 in let before = first.0 in
       (omega (arith, end_of_writes-append vs ws, before, fits, same), cause.1 ∙ first.1)
-  cause-later vs ws all made (Some (Io count)) capacity next a b c same part first cause = (subst (λ n. Rose n count) first.1 cause.0, cause.1)
+  cause-later vs ws all made (Some (Io count)) capacity next a b c same part first cause =
+      let within = cause.0.2 in
+      ((cause.0.0, stopped_at-later (IsCutBy (Io count)) vs ws made part ∙ cause.0.1, omega (arith, within, same)), subst (λ n. Rose n count) first.1 cause.1, cause.2)
   cause-later vs ws all made (Some NoSpace) capacity next a b c same part first cause =
       let beyond = cause.0.2 in
       ((cause.0.0, stopped_at-later (IsCutBy NoSpace) vs ws made part ∙ cause.0.1, omega (arith, beyond, same)), cause.1 ∙ first.1)
 
   pub cause-sooner : (vs ws made : List Write) (stop : DevStop) (capacity a b : ℕ) → IsMade (Some stop) vs made → StopsBy (Some stop) vs made capacity a b
       → StopsBy (Some stop) (vs ++ ws) made capacity a b
-  cause-sooner vs ws made (Io count) capacity a b part cause = cause
+  cause-sooner vs ws made (Io count) capacity a b part cause =
+      ((cause.0.0, stopped_at-sooner (IsCutBy (Io count)) vs ws made part ∙ cause.0.1, cause.0.2), cause.1, cause.2)
   cause-sooner vs ws made NoSpace capacity a b part cause =
       ((cause.0.0, stopped_at-sooner (IsCutBy NoSpace) vs ws made part ∙ cause.0.1, cause.0.2), cause.1)
 

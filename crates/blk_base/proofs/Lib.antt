@@ -1,4 +1,5 @@
 pub mod Contents
+pub mod Readings
 pub mod Openings
 pub mod Calls
 pub mod WriteLists

@@ -1,9 +1,13 @@
 -- Bytes of a disk or file: what is read past the end, what a write leaves, and a log of writes.
-use Rattle.std.specs.Prelude.{ℕ, ◌+◌, max, List, [], ◌∷◌, ◌++◌, length, take, drop, replicate, Option, Some, option_map, ◌≡◌}
+use Rattle.std.specs.Prelude.{ℕ, ◌+◌, ◌≤◌, max, List, [], ◌∷◌, ◌++◌, length, take, drop, replicate, Option, Some, option_map, slice_index, ◌≡◌}
 
 -- n bytes from an offset on, zeros past the end
 unfoldable pub bytes_at : List ℕ → ℕ → ℕ → List ℕ
 bytes_at bytes offset n = take n (drop offset bytes ++ replicate n 0)
+
+-- of bytes that begin at an offset, all past this end are 0
+abbrev pub AreZeroPast : ℕ → ℕ → List ℕ → Type 0
+AreZeroPast end offset bytes = (k : ℕ) → end ≤ offset + k → slice_index bytes k ≡ 0
 
 -- bytes put over what stands at an offset; a gap past the end is zeros
 unfoldable pub overwritten : List ℕ → ℕ → List ℕ → List ℕ

@@ -61,11 +61,17 @@ abbrev pub IsBeyond : List Write → List Write → ℕ → Type 0
 IsBeyond ws made capacity =
     (w : Write) × (stopped_at ws made ≡ Some w) × (capacity < end_of_write w)
 
+-- and would end within it
+abbrev pub IsWithin : List Write → List Write → ℕ → Type 0
+IsWithin ws made capacity =
+    (w : Write) × (stopped_at ws made ≡ Some w) × (end_of_write w ≤ capacity)
+
 -- why a call with these writes, of which so much was made, is done or stops, by its stop, the capacity, and the count of
 -- faults before and now
 abbrev pub StopsBy : Option DevStop → List Write → List Write → ℕ → ℕ → ℕ → Type 0
 StopsBy None ws made capacity before now = (end_of_writes ws ≤ capacity) × (now ≡ before)
-StopsBy (Some (Io count)) ws made capacity before now = Rose before count × (count ≡ now)
+StopsBy (Some (Io count)) ws made capacity before now =
+    IsWithin ws made capacity × Rose before count × (count ≡ now)
 StopsBy (Some NoSpace) ws made capacity before now = IsBeyond ws made capacity × (now ≡ before)
 
 -- what a call leaves that makes these writes, by the stop that it tells: all of them are made, or those before the

@@ -1,5 +1,5 @@
 -- The files of a store, and its record of the devices that it has opened.
-use Rattle.std.specs.Prelude.{ℕ, Bool, ◌&&◌, if◌then◌else◌, List, [], ◌∷◌, bytes_eq, Option, Some, None, is_none}
+use Rattle.std.specs.Prelude.{◌≡◌, ℕ, Bool, ◌&&◌, if◌then◌else◌, List, [], ◌∷◌, bytes_eq, Option, Some, None, is_none}
 use Rattle.std.specs.List.{list_any}
 use Rattle.blk_base.specs.declared.device.DeviceCall.{DeviceCall}
 use Rattle.blk_base.specs.declared.file.File.{File}
@@ -44,3 +44,9 @@ given_back name count call (o ∷ opened) =
 abbrev pub IfTold : {A : Type 0} → Option A → (A → Type 0) → Type 0
 IfTold None P = Unit {0}
 IfTold (Some told) P = P told
+
+-- P holds of a value that was read; where something is told, that is the value of what is told
+pub record WasRead {A B : Type 0} (told : Option A) (of : A → B) (P : B → Type 0) : Type 0 where
+  pub value : B
+  pub is : IfTold told (λ a. value ≡ of a)
+  pub holds : P value

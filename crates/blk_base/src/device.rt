@@ -2,7 +2,7 @@
 ghost use Rattle.std.specs.Prelude.{◌≡◌, ◌↔◌, ◌+◌, ◌<◌, ◌≤◌, ℕ, Bool, true, false, ◌||◌, List, length, Option, Some, option_map, is_some, is_ok, IsTrue, IfErr, OnOk, OnErr, IsErrAnd};
 ghost use Rattle.blk_base.specs.Calls.{IsCallAfter, IsWriteAfter};
 ghost use Rattle.blk_base.specs.Counts.{Rose, taken, IsFailedWrite};
-ghost use Rattle.blk_base.specs.Content.{bytes_at, with_bytes, size_with, Log, after_writes, GoesOn};
+ghost use Rattle.blk_base.specs.Content.{bytes_at, AreZeroPast, with_bytes, size_with, Log, after_writes, GoesOn};
 ghost use Rattle.blk_base.specs.declared.device.DeviceCall.{DeviceCall};
 
 /// A read or a flush failed.
@@ -62,6 +62,7 @@ pub trait Device {
     fn read_at(&mut self, off: u64, buf: &mut [u8]) -> Result<(), DevFault>
         ensures read { OnOk result
             ((b : List ℕ) → content self.old ≡ Some b → buf.new ≡ bytes_at b off (length buf.old)) }
+        ensures past { OnOk result (AreZeroPast (size self.old) off buf.new) }
         ensures failed { OnErr result (Rose (faults self.old) (faults self.new)) }
         ensures quiet { OnOk result (faults self.new ≡ faults self.old) }
         ensures call { IsCallAfter result (DeviceCall.Read off (length buf.old))

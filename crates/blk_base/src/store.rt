@@ -89,7 +89,8 @@ pub trait Store {
         ensures cause { CreateAnswers name.now len (room self.old) (opened self.old)
             (faults self.old) (faults self.new) result }
         ensures quiet { StandsUnlessFailed (faults self.old) (faults self.new) result }
-        ensures call { IsStoreCallAfter result (record { name = name.now; call = StoreCall.Create len })
+        ensures call { IsStoreCallAfter result
+            (record { name = name.now; call = StoreCall.Create len })
             (failed_call self.old) (failed_call self.new) }
         ensures opened { opened self.new ≡ opened self.old }
         ensures room { room self.new ≡ room self.old }
@@ -98,10 +99,12 @@ pub trait Store {
     /// The whole file, where it has at most `limit` bytes.
     fn read_all(&mut self, name: &str, limit: u64) -> Result<Bytes, StoreStop>
         ensures read { IfOk result (λ bytes. IfTold (files self.old) (HoldsBytes name.now bytes)) }
+        ensures limit { IfOk result (λ bytes. length bytes ≤ limit) }
         ensures cause { ReadAnswers name.now limit (files self.old) (opened self.old)
             (faults self.old) (faults self.new) result }
         ensures quiet { StandsUnlessFailed (faults self.old) (faults self.new) result }
-        ensures call { IsStoreCallAfter result (record { name = name.now; call = StoreCall.Read limit })
+        ensures call { IsStoreCallAfter result
+            (record { name = name.now; call = StoreCall.Read limit })
             (failed_call self.old) (failed_call self.new) }
         ensures files { files self.new ≡ files self.old }
         ensures opened { opened self.new ≡ opened self.old }

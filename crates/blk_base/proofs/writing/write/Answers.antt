@@ -8,7 +8,8 @@ pub returns-in-Failed : goal.returns-in-Failed
 returns-in-Failed g c =
     let done : ℕ = c.in-Err.stop.done in
     let bytes : List ℕ = c.args.bytes.now in
-    let failed = (c.in-Err.ensures.failed c.in-Failed.is).1 in
+    let stopped = c.in-Err.ensures.failed c.in-Failed.is in
+    let failed = stopped.1 in
     record {
       made = write_of c.args.at (take done bytes) ∷ [];
       part = inr (record { n = done; short = failed.part; sector = failed.sector; first = refl }, refl);
@@ -21,7 +22,11 @@ returns-in-Failed g c =
         capacity = c.in-Err.ensures.capacity;
         faults = c.in-Err.ensures.faults;
       };
-      cause = (subst (λ n. Rose (g.D.Device.faults c.args.dev.now) n) (sym c.faults.ensures) failed.rose, c.faults.ensures);
+      cause = (
+        (write_of c.args.at bytes, refl, stopped.0),
+        subst (λ n. Rose (g.D.Device.faults c.args.dev.now) n) (sym c.faults.ensures) failed.rose,
+        c.faults.ensures,
+      );
       call = write_failed c.args.at 0 bytes (write_of c.args.at (take done bytes)) c.in-Err.stop.why _ _ c.in-Failed.is c.in-Err.ensures.call;
     }
 
