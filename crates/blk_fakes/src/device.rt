@@ -122,7 +122,7 @@ impl MemDevice {
 
 impl Device for MemDevice {
     ghost use Rattle.std.specs.Prelude.{not, None, ◌⊎◌, ◌≡◌, ◌↔◌, ◌+◌, ◌<◌, ◌≤◌, ◌||◌, ℕ, Bool, true, false, List, length, Some, refl, option_map, is_some, is_ok, IsTrue, IfErr, OnOk, OnErr};
-    ghost use Rattle.blk_base.specs.Content.{Log, after_writes, GoesOn, bytes_at, with_bytes, size_with};
+    ghost use Rattle.blk_base.specs.Content.{AreZeroPast, Log, after_writes, GoesOn, bytes_at, with_bytes, size_with};
     ghost use Rattle.blk_fakes.specs.Disk.{DeviceState, device_bytes, log_of, log_after, torn_at};
     ghost use Rattle.blk_base.specs.Counts.{IsFailedWrite, taken};
     ghost use Rattle.blk_fakes.specs.Calls.{fails_next, with_go, done_at, after_call, write_fails};
@@ -143,10 +143,13 @@ impl Device for MemDevice {
     ghost failed_call = { λ _. None };
 
     /// Fails exactly where the list says so.
+    #[tactic(auto, using(blk_base::proofs::Contents::zero_past))]
     fn read_at(&mut self, off: u64, buf: &mut [u8]) -> Result<(), DevFault>
         ensures goes { is_ok result ≡ not (fails_next self.old.calls) }
         ensures read { OnOk result
             (buf.new ≡ bytes_at (device_bytes self.old.disk) off (length buf.old)) }
+        ensures past { OnOk result
+            (AreZeroPast (length (device_bytes self.old.disk)) off buf.new) }
         ensures after { self.new ≡ record self.old { calls = with_go self.old.calls } }
         ensures faults { self.old.calls.faults ≤ self.new.calls.faults }
     {

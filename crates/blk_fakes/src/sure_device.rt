@@ -87,7 +87,7 @@ impl SureDevice {
 
 impl Device for SureDevice {
     ghost use Rattle.std.specs.Prelude.{◌≡◌, ◌↔◌, ◌+◌, ◌<◌, ◌≤◌, true, false, length, None, Some, refl, IsOk, IfErr, OnOk};
-    ghost use Rattle.blk_base.specs.Content.{GoesOn, bytes_at, with_bytes, size_with};
+    ghost use Rattle.blk_base.specs.Content.{AreZeroPast, GoesOn, bytes_at, with_bytes, size_with};
     ghost use Rattle.blk_base.specs.Counts.{taken};
     ghost use Rattle.blk_base.specs.declared.device.Stop.TheVariants.{NoSpace};
     ghost use Rattle.blk_fakes.specs.Disk.{DeviceState, device_bytes, log_of, log_after};
@@ -108,10 +108,11 @@ impl Device for SureDevice {
     ghost failed_call = { λ _. None };
 
     /// Never fails.
-    #[tactic(auto, using(crate::proofs::Sure::next_goes, crate::proofs::Sure::sure_after))]
+    #[tactic(auto, using(crate::proofs::Sure::next_goes, crate::proofs::Sure::sure_after, blk_base::proofs::Contents::zero_past))]
     fn read_at(&mut self, off: u64, buf: &mut [u8]) -> Result<(), DevFault>
         ensures ok { IsOk result }
         ensures read { buf.new ≡ bytes_at (device_bytes self.old.disk) off (length buf.old) }
+        ensures past { AreZeroPast (length (device_bytes self.old.disk)) off buf.new }
         ensures disk { self.new.disk ≡ self.old.disk }
     {
         self.dev.read_at(off, buf)

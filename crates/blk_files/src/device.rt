@@ -1,5 +1,6 @@
 //! A file of the system that is open.
-ghost use Rattle.std.specs.Prelude.{◌≡◌, ◌+◌, ◌<◌, ◌≤◌, ◌⊎◌, ◌%◌, length, None, Some, IfErr};
+ghost use Rattle.std.specs.Prelude.{◌≡◌, ◌+◌, ◌<◌, ◌≤◌, ◌⊎◌, ◌%◌, length, None, Some, IfErr, OnOk};
+ghost use Rattle.blk_base.specs.Content.{AreZeroPast};
 ghost use Rattle.blk_base.specs.declared.device.DeviceCall.{DeviceCall};
 
 use blk_base::{DevFault, Device, DeviceCall, Stop, WriteStop};
@@ -11,7 +12,7 @@ use std::os::unix::fs::FileExt;
 /// The highest end that a write may have.
 pub(crate) const CAPACITY: u64 = 9_223_372_036_854_775_807;
 
-/// Reads a whole buffer, zeros past the end of the file.
+/// Reads a whole buffer, with zeros where the system says that the file has ended.
 fn read_full(file: &File, off: u64, buf: &mut [u8]) -> io::Result<()> {
     let mut at = 0;
     for _ in 0..u64::MAX {
@@ -36,6 +37,16 @@ fn read_full(file: &File, off: u64, buf: &mut [u8]) -> io::Result<()> {
         }
     }
     Err(io::Error::from(io::ErrorKind::TimedOut))
+}
+
+/// Reads a whole buffer, with zeros past an end: what the file has there is none of its bytes.
+fn read_below(file: &File, end: u64, off: u64, buf: &mut [u8]) -> io::Result<()>
+    ensures { OnOk result (AreZeroPast end off buf.new) }
+{
+    let within = end.saturating_sub(off).min(buf.len() as u64) as usize;
+    read_full(file, off, &mut buf[..within])?;
+    buf[within..].fill(0);
+    Ok(())
 }
 
 /// A write that the file gave up: how many bytes were written before, and what the system said.
@@ -174,7 +185,7 @@ impl Device for FileDevice {
     ghost told_log = { λ d b l is kept. untold b is };
 
     fn read_at(&mut self, off: u64, buf: &mut [u8]) -> Result<(), DevFault> {
-        match read_full(&self.file, off, buf) {
+        match read_below(&self.file, self.length, off, buf) {
             Ok(()) => Ok(()),
             Err(error) => {
                 let len = buf.len() as u64;
