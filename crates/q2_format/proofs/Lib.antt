@@ -1,5 +1,6 @@
 pub mod ByPlace
 pub mod Words
+pub mod Standing
 pub mod Extending
 pub mod Texts
 pub mod Creating

@@ -15,6 +15,12 @@ place_bytes file at n = map (λ i. slice_index file i) (range_with_len at n)
 unfoldable pub words_at : List ℕ → ℕ → ℕ → List ℕ
 words_at file at n = map (λ k. number_at file (at + 8 * k) 8) (range_with_len 0 n)
 
+-- a file of `len` bytes can have these words from a place on
+pub record CanStandAt (len at : ℕ) (words : List ℕ) : Type 0 where
+  pub file : List ℕ
+  pub size : length file ≡ len
+  pub are : words ≡ words_at file at (length words)
+
 -- two files read the same at the n places from `at` on
 pub record ReadsAlike (old new : List ℕ) (at n : ℕ) : Type 0 where
   pub same : (i : ℕ) → at ≤ i → i < at + n → slice_index new i ≡ slice_index old i
