@@ -1,6 +1,8 @@
 pub mod Decoding
 pub mod Ranges
+pub mod Standing
 pub mod Shapes
+pub mod TableRead
 pub mod FreeClusters
 pub mod Uses
 pub mod Writes

@@ -1,8 +1,8 @@
 -- What calls that only read leave, by the fault that their errors tell.
-use Rattle.std.proofs.Common.{◌≡◌, Option, None, Result, Ok, Err, sym, ap, subst, ◌∙◌}
+use Rattle.std.proofs.Common.{◌≡◌, None, Result, Err, sym, ap, subst, ◌∙◌}
 use Rattle.blk_base.specs.Device.{Reads, Untouched}
 use Rattle.blk_base.specs.declared.device.Device.{Ghosts}
-use Rattle.blk_base.proofs.DeviceLemmas.{reads_then, untouched-same}
+use Rattle.blk_base.proofs.DeviceLemmas.{reads_then}
 use Rattle.q2_refs.specs.Loading.{fault_in_refs, fault_of_refs}
 use Rattle.q2_refs.specs.declared.stop.RefsStop.{RefsStop}
 

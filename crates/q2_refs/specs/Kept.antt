@@ -1,6 +1,7 @@
 -- What is kept in memory of an image's refcounts, and of which file it is.
-use Rattle.std.specs.Prelude.{◌≡◌, ◌≢◌, ℕ, ◌*◌, ◌/◌, ◌%◌, ◌^◌, ◌<◌, ◌≤◌, List, length, slice_index}
-use Rattle.q2_format.specs.Sizes.{cluster_size, block_entries}
+use Rattle.std.specs.Prelude.{◌≡◌, ◌≢◌, ℕ, ◌+◌, ◌*◌, ◌/◌, ◌%◌, ◌^◌, ◌<◌, ◌≤◌, List, length, slice_index}
+use Rattle.q2_format.specs.Bytes.{number_at}
+use Rattle.q2_format.specs.Sizes.{cluster_size, block_entries, refcount_bytes}
 use Rattle.q2_format.specs.Entry.{block_offset}
 use Rattle.q2_format.specs.Tables.{refcount_table, refcount_of}
 use Rattle.q2_format.specs.declared.header.Header.{Header}
@@ -45,6 +46,24 @@ AreAbsentZero n table counts below = (k : ℕ) → k < below
 -- a cluster whose block is absent counts 0
 abbrev pub AreAbsentFree : KeptRefs → Type 0
 AreAbsentFree kept = AreAbsentZero (per_block kept) kept.table kept.counts (length kept.counts)
+
+-- counts of w bytes from a place on, at most n of them, are those of a block that a file of `len` bytes can have at an offset
+pub record StandsAsBlock (len offset w n from : ℕ) (counts : List ℕ) : Type 0 where
+  pub file : List ℕ
+  pub size : length file ≡ len
+  pub are : (k : ℕ) → k < n → from + k < length counts
+      → slice_index counts (from + k) ≡ number_at file (offset + k * w) w
+
+-- so are, of the first blocks, below a number, the counts of those that are there
+abbrev pub BlocksStand : ℕ → ℕ → ℕ → List ℕ → List ℕ → ℕ → Type 0
+BlocksStand len w n table counts below = (i : ℕ) → i < below → block_offset (slice_index table i) ≢ 0
+    → StandsAsBlock len (block_offset (slice_index table i)) w n (i * n) counts
+
+-- the refcounts are those of blocks that a file of `len` bytes can have
+abbrev pub CountsStand : ℕ → KeptRefs → Type 0
+CountsStand len kept =
+    BlocksStand len (refcount_bytes kept.refcount_order) (per_block kept) kept.table kept.counts
+    (length kept.table)
 
 -- each of the first counts, below a number, is above 0
 abbrev pub AreTaken : List ℕ → ℕ → Type 0

@@ -1,13 +1,13 @@
 -- Reading an image's refcounts: what is refused, and why each answer comes.
-use Rattle.std.specs.Prelude.{◌≡◌, ◌≢◌, ◌⊎◌, ℕ, ◌*◌, ◌≤◌, ◌<◌, ⊤, List, [], ◌∷◌, length, slice_index, Option, Some, None, Result, Ok, Err}
+use Rattle.std.specs.Prelude.{◌≡◌, ◌≢◌, ℕ, ◌*◌, ◌≤◌, ◌<◌, ⊤, List, [], ◌∷◌, length, slice_index, Option, Some, None, Result, Ok, Err, IfOk}
 use Rattle.std.specs.Option.{option_map}
-use Rattle.blk_base.specs.Files.{IfTold}
 use Rattle.blk_base.specs.declared.device.DeviceCall.{DeviceCall}
 use Rattle.blk_base.specs.declared.device.DeviceCall.TheVariants as calls
+use Rattle.q2_format.specs.Bytes.{CanStandAt}
 use Rattle.q2_format.specs.Entry.{block_offset}
 use Rattle.q2_format.specs.Sizes.{cluster_size, entries_in_cluster, block_entries}
 use Rattle.q2_format.specs.Header.{first}
-use Rattle.q2_format.specs.Tables.{refcount_of, refcount_table}
+use Rattle.q2_format.specs.Tables.{refcount_of}
 use Rattle.q2_format.specs.Sound.{bad_refcount_table, bad_block, reserved_in_refcount_table}
 use Rattle.q2_format.specs.declared.header.Header.{Header}
 use Rattle.q2_format.specs.declared.header.TheConstants.{MAX_REFCOUNT_TABLE_CLUSTERS}
@@ -45,6 +45,15 @@ RefusedBy (Err (Offset at)) refusal = refusal ≡ Some (Offset at)
 RefusedBy (Err (Reserved index)) refusal = refusal ≡ Some (Reserved index)
 RefusedBy (Err (Io count)) refusal = ⊤
 RefusedBy (Err NoMemory) refusal = ⊤
+
+-- What is answered of these words of a header's refcount table, which a file of `len` bytes can have: their first refusal, or
+-- what has them as its words.
+pub record AnswersWords {A : Type 0} (h : Header) (len : ℕ) (words_of : A → List ℕ)
+    (result : Result A RefsStop) (words : List ℕ) : Type 0 where
+  pub entries : length words ≡ table_entries h
+  pub stand : CanStandAt len h.ref_offset words
+  pub refused : RefusedBy result (refcounts_refusal h len words)
+  pub kept : IfOk result (λ a. words_of a ≡ words)
 
 -- the fault that a stop tells, and an answer
 abbrev pub fault_in_refs : RefsStop → Option ℕ
@@ -96,17 +105,3 @@ pub record IsBlockCall (h : Header) (reach : ℕ) (table : List ℕ) (call : Dev
   pub counts : i * block_entries (cluster_size h.cluster_bits) h.refcount_order < reach
   pub there : block_offset (slice_index table i) ≢ 0
   pub is : call ≡ calls.Read (block_offset (slice_index table i)) (cluster_size h.cluster_bits)
-
--- behind words that nothing refuses, and that are the file's, where it is told
-pub record IsCallBehindTable (h : Header) (len reach : ℕ) (content : Option (List ℕ))
-    (call : DeviceCall) : Type 0 where
-  pub table : List ℕ
-  pub entries : length table ≡ table_entries h
-  pub accepted : refcounts_refusal h len table ≡ None
-  pub told : IfTold content (λ file. table ≡ refcount_table file h)
-  pub read : IsBlockCall h reach table call
-
--- that of the table or of a block
-abbrev pub IsRefsCall : Header → ℕ → ℕ → Option (List ℕ) → DeviceCall → Type 0
-IsRefsCall h len reach content call =
-    IsTableCall h len call ⊎ IsCallBehindTable h len reach content call

@@ -9,6 +9,6 @@ mod stop;
 mod writing;
 
 pub use allocating::RefStop;
-pub use loading::{load_counts, load_refs, load_table};
+pub use loading::{load_counts, load_table};
 pub use refs::Refs;
 pub use stop::RefsStop;

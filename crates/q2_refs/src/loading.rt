@@ -1,18 +1,19 @@
 //! Reading the refcount table and the blocks that it names.
-ghost use Rattle.std.specs.Prelude.{◌≡◌, ◌+◌, ◌-◌, ◌*◌, ◌%◌, ◌^◌, ◌<◌, ◌≤◌, ℕ, List, length, slice_index, None, Some, IfOk, IfErr, OnOk};
+ghost use Rattle.std.specs.Prelude.{◌≡◌, ◌≢◌, ◌+◌, ◌-◌, ◌*◌, ◌%◌, ◌^◌, ◌<◌, ◌≤◌, ℕ, List, length, slice_index, None, Some, Err, IfOk, IfErr, OnOk};
 ghost use Rattle.std.specs.Option.{option_map};
 ghost use Rattle.blk_base.specs.Calls.{FailsAt};
-ghost use Rattle.blk_base.specs.Content.{bytes_at};
+ghost use Rattle.blk_base.specs.Content.{AreZeroPast, bytes_at};
 ghost use Rattle.blk_base.specs.Device.{Reads};
+ghost use Rattle.blk_base.specs.Files.{WasRead};
 ghost use Rattle.blk_base.specs.declared.device.DeviceCall.{DeviceCall};
-ghost use Rattle.q2_format.specs.Bytes.{number_at, words_at};
+ghost use Rattle.q2_format.specs.Bytes.{CanStandAt, number_at, words_at};
 ghost use Rattle.q2_format.specs.Entry.{block_offset};
 ghost use Rattle.q2_format.specs.Header.{CanBeRead, refusal_in};
 ghost use Rattle.q2_format.specs.Sizes.{cluster_size, block_entries};
 ghost use Rattle.q2_format.specs.Sound.{bad_refcount_table};
 ghost use Rattle.q2_format.specs.Tables.{refcount_table};
-ghost use Rattle.q2_refs.specs.Kept.{AreAbsentFree, AreAbsentZero, AreWholeClusters, BeginBelow, IsCountsOf, IsShapedBy};
-ghost use Rattle.q2_refs.specs.Loading.{table_entries, table_reach, refcounts_refusal, RefusedBy, fault_in_refs, fault_of_refs, IsRefsReadStop, HasShape, AreCounts, AreZeroFrom, table_call, IsTableCall, IsBlockCall, IsRefsCall};
+ghost use Rattle.q2_refs.specs.Kept.{AreAbsentFree, AreAbsentZero, AreWholeClusters, BeginBelow, BlocksStand, CountsStand, IsCountsOf, IsShapedBy, StandsAsBlock};
+ghost use Rattle.q2_refs.specs.Loading.{table_entries, table_reach, refcounts_refusal, AnswersWords, fault_in_refs, fault_of_refs, IsRefsReadStop, HasShape, AreCounts, AreZeroFrom, table_call, IsTableCall, IsBlockCall};
 
 use crate::entries::{block_offset, check_words, is_misplaced};
 use crate::refs::{Refs, first_free};
@@ -70,6 +71,7 @@ fn read<D: Device>(dev: &mut D, at: u64, buf: &mut [u8]) -> Result<(), RefsStop>
     ensures read { OnOk result
         ((file : List ℕ) → D.content dev.old ≡ Some file
         → buf.new ≡ bytes_at file at (length buf.old)) }
+    ensures past { OnOk result (AreZeroPast (D.size dev.old) at buf.new) }
     ensures stop { IfErr result IsRefsReadStop }
     ensures device { Reads D.Device (fault_of_refs result) dev.old dev.new }
     ensures call { FailsAt (λ call. call ≡ DeviceCall.Read at (length buf.old))
@@ -117,6 +119,7 @@ fn read_words<D: Device>(
     ensures words { OnOk result
         ((file : List ℕ) → D.content dev.old ≡ Some file
         → words.new ≡ words_at file at (length words.old)) }
+    ensures stand { OnOk result (CanStandAt (D.size dev.old) at words.new) }
     ensures stop { IfErr result IsRefsReadStop }
     ensures device { Reads D.Device (fault_of_refs result) dev.old dev.new }
     ensures call { FailsAt (λ call. call ≡ DeviceCall.Read at (length buffer.old))
@@ -135,6 +138,8 @@ fn read_table<D: Device>(alloc: Global, dev: &mut D, h: &Header) -> Result<Vec<u
         (λ words. (file : List ℕ) → D.content dev.old ≡ Some file
         → words.items ≡ refcount_table file h.now) }
     ensures len { IfOk result (λ words. length words.items ≡ table_entries h.now) }
+    ensures stand { IfOk result
+        (λ words. CanStandAt (D.size dev.old) h.now.ref_offset words.items) }
     ensures stop { IfErr result IsRefsReadStop }
     ensures device { Reads D.Device (fault_of_refs result) dev.old dev.new }
     ensures call { FailsAt (λ call. call ≡ table_call h.now)
@@ -195,6 +200,10 @@ fn read_block<D: Device>(
         ((file : List ℕ) → D.content dev.old ≡ Some file → table.now ≡ refcount_table file h.now
         → let per_block = block_entries (cluster_size h.now.cluster_bits) h.now.refcount_order in
         AreCounts file h.now counts.new (i * per_block) (i * per_block + per_block)) }
+    ensures stand { OnOk result (block_offset (slice_index table.now i) ≢ 0
+        → let per_block = block_entries (cluster_size h.now.cluster_bits) h.now.refcount_order in
+        StandsAsBlock (D.size dev.old) (block_offset (slice_index table.now i)) 2 per_block
+        (i * per_block) counts.new) }
     ensures absent { block_offset (slice_index table.now i) ≡ 0 → counts.new ≡ counts.old }
     ensures before { (k : ℕ)
         → k < i * block_entries (cluster_size h.now.cluster_bits) h.now.refcount_order
@@ -237,6 +246,9 @@ fn read_counts<D: Device>(
     ensures absent { OnOk result (AreAbsentZero
         (block_entries (cluster_size h.now.cluster_bits) h.now.refcount_order) table.now
         counts.new (length counts.old)) }
+    ensures stand { OnOk result (BlocksStand (D.size dev.old) 2
+        (block_entries (cluster_size h.now.cluster_bits) h.now.refcount_order) table.now
+        counts.new (length table.now)) }
     ensures stop { IfErr result IsRefsReadStop }
     ensures device { Reads D.Device (fault_of_refs result) dev.old dev.new }
     ensures call { FailsAt (IsBlockCall h.now (length counts.old) table.now)
@@ -254,14 +266,11 @@ fn read_counts<D: Device>(
 /// `NoMemory` may come before or after.
 pub fn load_table<D: Device>(alloc: Global, dev: &mut D, h: &Header) -> Result<Vec<u64>, RefsStop>
     requires { CanBeRead h.now (D.size dev.old) }
-    ensures refused { (file : List ℕ) → D.content dev.old ≡ Some file →
-        RefusedBy result (refcounts_refusal h.now (D.size dev.old) (refcount_table file h.now)) }
-    ensures accepted { IfOk result
-        (λ words. refcounts_refusal h.now (D.size dev.old) words.items ≡ None) }
-    ensures table { IfOk result
-        (λ words. (file : List ℕ) → D.content dev.old ≡ Some file
-        → words.items ≡ refcount_table file h.now) }
-    ensures len { IfOk result (λ words. length words.items ≡ table_entries h.now) }
+    ensures read { WasRead (D.content dev.old) (λ file. refcount_table file h.now)
+        (AnswersWords h.now (D.size dev.old) (λ table. table.items) result) }
+    // a table out of its place isn't read
+    ensures placed { (off : ℕ) → bad_refcount_table h.now (D.size dev.old) ≡ Some off
+        → result ≡ Err (RefsStop.Offset off) }
     ensures device { Reads D.Device (fault_of_refs result) dev.old dev.new }
     ensures call { FailsAt (IsTableCall h.now (D.size dev.old))
         (fault_of_refs result) (D.failed_call dev.new) }
@@ -327,6 +336,7 @@ pub fn load_counts<D: Device>(
         (λ refs. AreWholeClusters (cluster_size h.now.cluster_bits) refs.table) }
     ensures below { IfOk result (λ refs. BeginBelow (D.size dev.old) refs.table) }
     ensures absent { IfOk result AreAbsentFree }
+    ensures stand { IfOk result (CountsStand (D.size dev.old)) }
 
     // the device
     ensures device { Reads D.Device (fault_of_refs result) dev.old dev.new }
@@ -343,44 +353,4 @@ pub fn load_counts<D: Device>(
         counts.as_mut_slice(),
     )?;
     Ok(refs_of(h, table, counts, buffer))
-}
-
-/// Reads the refcounts of the first `reach` clusters of a file. It reads the refcount table at once, then a
-/// cluster for each block that is there and counts one of them.
-///
-/// What is refused is what `load_table` refuses, before a block is read. The device's bytes stay.
-pub fn load_refs<D: Device>(
-    alloc: Global,
-    dev: &mut D,
-    h: &Header,
-    reach: u64,
-) -> Result<Refs, RefsStop>
-    requires header { CanBeRead h.now (D.size dev.old) }
-    requires reach { reach ≤ table_reach h.now }
-    requires small { reach ≤ 2 ^ 24 }
-
-    // what is read
-    ensures refused { (file : List ℕ) → D.content dev.old ≡ Some file →
-        RefusedBy result (refcounts_refusal h.now (D.size dev.old) (refcount_table file h.now)) }
-    ensures kept { IfOk result
-        (λ refs. (file : List ℕ) → D.content dev.old ≡ Some file → IsCountsOf file h.now refs) }
-
-    // what holds even where the device doesn't tell its bytes
-    ensures accepted { IfOk result
-        (λ refs. refcounts_refusal h.now (D.size dev.old) refs.table ≡ None) }
-    ensures shape { IfOk result (IsShapedBy h.now) }
-    ensures table { IfOk result (λ refs. length refs.table ≡ table_entries h.now) }
-    ensures reach { IfOk result (λ refs. length refs.counts ≡ reach) }
-    ensures blocks { IfOk result
-        (λ refs. AreWholeClusters (cluster_size h.now.cluster_bits) refs.table) }
-    ensures below { IfOk result (λ refs. BeginBelow (D.size dev.old) refs.table) }
-    ensures absent { IfOk result AreAbsentFree }
-
-    // the device
-    ensures device { Reads D.Device (fault_of_refs result) dev.old dev.new }
-    ensures call { FailsAt (IsRefsCall h.now (D.size dev.old) reach (D.content dev.old))
-        (fault_of_refs result) (D.failed_call dev.new) }
-{
-    let table = load_table(alloc, dev, h)?;
-    load_counts(alloc, dev, h, table, reach)
 }

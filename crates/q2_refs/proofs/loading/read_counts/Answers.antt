@@ -1,8 +1,8 @@
-use Rattle.std.proofs.Common.{rules}
+use Rattle.std.proofs.Common.{sym, length, arith, rules}
 use Rattle.std.proofs.lemmas.Result.{err_from_is_err_and}
-use Rattle.blk_base.specs.Device.{Untouched}
 use Rattle.q2_refs.proofs.Loads.{passed_on}
 use Rattle.q2_refs.proofs.Ranges.{absent_further, in_block}
+use Rattle.q2_refs.proofs.Standing.{all_within, blocks_all, blocks_further}
 use Rattle.q2_refs.proofs.loading.read_counts.Goals as goal
 
 pub loop-i-preserved : goal.loop-i-preserved
@@ -13,6 +13,8 @@ loop-i-preserved g c =
       counts = search rules;
       zeros = search rules;
       absent = absent_further (in_block c.args.h.now) c.loop-i.i c.args.table.now c.loop-i.counts c.read_block.new.counts had.absent had.zeros read.before read.absent;
+      stand = blocks_further (g.D.Device.size c.args.dev.now) 2 (in_block c.args.h.now) c.loop-i.i c.args.table.now c.loop-i.counts c.read_block.new.counts
+          had.stand (omega arith) read.before (λ there. rw had.device.reads.size at (read.stand there));
       device = search rules;
     }
 
@@ -21,3 +23,9 @@ returns-in_err-read_block-clause-device g c =
     let p = err_from_is_err_and c.from_residual.result c.from_residual.ensures.1 in
     passed_on g.D.Device p.0 c.in_err-read_block.field-0.0 c.from_residual.result p.1 p.2 c.args.dev.now c.loop-i.dev c.read_block.new.dev
     c.loop-i.invariant.device c.in_err-read_block.ensures.device
+
+pub returns-clause-stand : goal.returns-clause-stand
+returns-clause-stand g c =
+    let ends = rw (c.block_len.ensures, sym c.loop-i.auto.counts) at c.div_ceil-blocks.ensures in
+    blocks_all (g.D.Device.size c.args.dev.now) 2 (in_block c.args.h.now) c.loop-i.i (length c.args.table.now) c.args.table.now c.loop-i.counts c.loop-i.invariant.stand
+    (all_within c.args.h.now (length c.loop-i.counts) c.loop-i.i c.requires.shape (omega (arith, ends)))
