@@ -8,3 +8,4 @@ pub mod Apart
 pub mod LinkWrites
 pub mod Loads
 pub mod LinkStops
+pub mod Trees

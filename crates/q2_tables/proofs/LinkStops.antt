@@ -1,5 +1,5 @@
 -- The writes of a link, wherever they stop: the entry is as before, or it is the new one.
-use Rattle.std.proofs.Common.{◌≡◌, ◌≢◌, ℕ, ◌+◌, ◌*◌, ◌/◌, ◌%◌, ◌^◌, ◌<◌, ◌≤◌, inl, inr, max, List, [], ◌∷◌, ◌++◌, length, take, drop, replicate, get_or, Option, Some, refl, sym, ap, subst, ◌∙◌, arith}
+use Rattle.std.proofs.Common.{◌≡◌, ◌≢◌, ℕ, ◌+◌, ◌*◌, ◌/◌, ◌%◌, ◌^◌, ◌<◌, ◌≤◌, inl, inr, max, List, [], ◌∷◌, ◌++◌, length, take, drop, replicate, get_or, Some, refl, sym, subst, arith}
 use Rattle.std.proofs.lemmas.Bool.{cases_eq, cases_lt, ne_eqb}
 use Rattle.std.proofs.lemmas.List.{length-take, length-replicate, get_or-replicate, get_or_past, take_all}
 use Rattle.blk_base.specs.Content.{with_bytes, size_with}
@@ -12,7 +12,7 @@ use Rattle.q2_format.specs.Sizes.{entries_in_cluster}
 use Rattle.q2_format.specs.Tables.{tree_at}
 use Rattle.q2_format.proofs.ByPlace.{written_by_list}
 use Rattle.q2_tables.specs.Kept.{KeptTables, IsTreeOf}
-use Rattle.q2_tables.specs.Linking.{CanLink, FileAfter, HasOneEntry, IsOldOrLinked, LiesApart, TableAfter, entry_at, entry_write, l1_index, l1_spelling, link_end, link_writes, new_table, table_len, table_of}
+use Rattle.q2_tables.specs.Linking.{CanLink, HasOneEntry, IsOldOrLinked, LiesApart, TableAfter, entry_at, entry_write, l1_index, l1_spelling, link_end, link_writes, new_table, table_len, table_of}
 use Rattle.q2_tables.proofs.Loaded.{positive}
 use Rattle.q2_tables.proofs.LinkWrites.{length-new_table, table_made}
 use Rattle.q2_tables.proofs.Links.{entry_linked, table_linked, table_stopped}

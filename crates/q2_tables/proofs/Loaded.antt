@@ -1,22 +1,24 @@
 -- The words that are read are the tree's, and what is refused of them is what is refused of the tree.
 use Rattle.std.proofs.Common.{◌≡◌, ◌≢◌, ℕ, zero, suc, ◌+◌, ◌-◌, ◌*◌, ◌/◌, ◌%◌, ◌<◌, ◌≤◌, inl, inr, List, [], ◌++◌, length, take, drop, get_or, slice_index, refl, sym, ap, ◌∙◌, subst, arith}
 use Rattle.std.proofs.lemmas.Bool.{cases_lt, eq-eqb, ne_eqb}
-use Rattle.std.proofs.lemmas.List.{ext_get_or, get_or-drop, get_or-take, get_or-append-add, length-take, length-drop, length-append}
+use Rattle.std.proofs.lemmas.List.{ext_get_or, get_or-drop, get_or-take, get_or-append-add, length-take, length-take-le, length-drop, length-append}
 use Rattle.std.proofs.lemmas.Nat.{div-mul-add, mod-mul-add, div_below}
 use Rattle.std.proofs.lemmas.Slice.{take-put_mid_below, take-put_mid, drop-put_mid}
 use borrow.Rule.Slice.PartMut.{put_mid, mid_of}
 use Rattle.byteorder.specs.Endian.{big_number, IsRead}
 use Rattle.blk_base.specs.Content as content
 use Rattle.blk_base.proofs.Contents as contents
-use Rattle.q2_format.specs.Bytes.{number_at, words_at}
+use Rattle.q2_format.specs.Bytes.{CanStandAt, number_at, words_at}
 use Rattle.q2_format.specs.Sizes.{cluster_size, entries_in_cluster}
 use Rattle.q2_format.specs.Entry.{host_offset}
 use Rattle.q2_format.specs.Tables.{active_tree, tree_at, l2_table, l2_word_of}
 use Rattle.q2_format.specs.declared.header.Header.{Header}
 use Rattle.q2_format.proofs.Trees.{l1_of_tree, l2_of_tree}
 use Rattle.q2_tables.specs.Kept.{KeptTables, IsTreeOf}
+use Rattle.q2_tables.specs.Loading.{RowsStand}
 use Rattle.q2_tables.specs.Words.{AreTablesOf, AreUnnamedZero}
 use Rattle.q2_format.proofs.ByPlace.{big_from-moved, get_or-words_at, length-words_at}
+use Rattle.q2_format.proofs.Standing.{words_stand}
 
 -- Words out of a buffer.
 
@@ -35,6 +37,16 @@ pub words_of_buffer : (file buffer words : List ℕ) (at n : ℕ) → buffer ≡
 words_of_buffer file buffer words at n is len each = ext_get_or 0 words (words_at file at n) (len ∙ sym (length-words_at file at n))
     (λ k below. each k below ∙ buffer_number file buffer at (8 * n) (8 * k) 8 is (omega (arith, len))
     ∙ sym (get_or-words_at file at n k (omega (arith, len))))
+
+-- a number of a buffer, whatever it was read from
+own_number : (buffer : List ℕ) (k w : ℕ) → big_number w (drop k buffer) ≡ number_at buffer k w
+unfolding number_at
+own_number buffer k w = big_from-moved w 0 k (drop k buffer) buffer
+    (λ i below. get_or-drop k buffer (0 + i) 0 ∙ ap (λ (j : ℕ). get_or buffer j 0) (omega arith))
+
+-- words out of one that is 0 past the end of a file can stand in a file that is as long
+pub buffer_stands : (buffer words : List ℕ) (len at : ℕ) → content.AreZeroPast len at buffer → IsRead big_number 8 buffer words → CanStandAt len at words
+buffer_stands buffer words len at past each = words_stand len at buffer past words (λ k below. each k below ∙ own_number buffer (8 * k) 8)
 
 pub read_of_length : (file buffer : List ℕ) (at n m : ℕ) → buffer ≡ content.bytes_at file at n → n ≡ m → buffer ≡ content.bytes_at file at m
 read_of_length file buffer at n m is same = is ∙ ap (content.bytes_at file at) same
@@ -153,6 +165,64 @@ fewer_zeros e i words zeros_there = λ n from. zeros_there n (omega arith)
 
 pub row_below : (n i e k : ℕ) → n ≤ i → k < n * e → k < i * e
 row_below n i e k past below = grind arith
+
+-- The L2 tables, each at its place in a file of so many bytes.
+
+-- a row, by its words
+pub row_is : (e a : ℕ) (xs row : List ℕ) → a + e ≤ length xs → length row ≡ e → ((j : ℕ) → j < e → get_or xs (a + j) 0 ≡ get_or row j 0) → take e (drop a xs) ≡ row
+row_is e a xs row fits whole each =
+    let len : length (take e (drop a xs)) ≡ e = length-take-le e (drop a xs) (omega (arith, fits, length-drop a xs)) in
+    ext_get_or 0 (take e (drop a xs)) row (len ∙ sym whole)
+    (λ j below. get_or-take e (drop a xs) j 0 (omega (arith, len)) ∙ get_or-drop a xs j 0 ∙ each j (omega (arith, len)))
+
+length_put_mid : (a k n : ℕ) (xs ys : List ℕ) → a + n ≤ length xs → k ≡ n → length ys ≡ n → length (put_mid a k xs ys) ≡ length xs
+length_put_mid a k n xs ys fits size whole = rw (length-append, length-append, length-take, length-drop, length-drop) (omega (arith, fits, size, whole))
+
+-- the tables of the first i entries stand
+abbrev pub StandBelow : ℕ → ℕ → ℕ → List ℕ → List ℕ → Type 0
+StandBelow len e i l1 words = (j : ℕ) → j < i → host_offset (slice_index l1 j) ≢ 0 → CanStandAt len (host_offset (slice_index l1 j)) (take e (drop (j * e) words))
+
+-- an entry that names no table
+pub stand_passed : (len e i : ℕ) (l1 words : List ℕ) → StandBelow len e i l1 words → host_offset (slice_index l1 i) ≡ 0 → StandBelow len e (i + 1) l1 words
+stand_passed len e i l1 words had none = λ j below named. elim (cases_lt j i) [
+  | inl before ↦ had j before named
+  | inr from ↦ let here : j ≡ i = omega arith in absurd (named (ap (λ (n : ℕ). host_offset (slice_index l1 n)) here ∙ none))
+]
+
+-- one that names a table, which was read
+pub stand_read : (len e i k at : ℕ) (l1 words table : List ℕ) → StandBelow len e i l1 words → at ≡ host_offset (slice_index l1 i) → CanStandAt len at table
+    → (i + 1) * e ≤ length words → k ≡ e → length table ≡ length (mid_of (i * e) k words) → StandBelow len e (i + 1) l1 (put_mid (i * e) k words table)
+stand_read len e i k at l1 words table had there stands fits size same =
+    let room : i * e + e ≤ length words = omega arith in
+    let whole : length table ≡ e = same ∙ part_length words (i * e) k e room size in
+    let new : List ℕ = put_mid (i * e) k words table in
+    let as_long : length new ≡ length words = length_put_mid (i * e) k e words table room size whole in
+    λ j below named. elim (cases_lt j i) [
+      | inl before ↦
+          let behind : (j + 1) * e ≤ i * e = rows_fit j i e (i * e) before refl in
+          let row : (j + 1) * e ≡ j * e + e = omega arith in
+          let inside : j * e + e ≤ length words = omega (arith, behind, row, room) in
+          let old : List ℕ = take e (drop (j * e) words) in
+          let old_size : length old ≡ e = length-take-le e (drop (j * e) words) (omega (arith, inside, length-drop (j * e) words)) in
+          let kept : take e (drop (j * e) new) ≡ old = row_is e (j * e) new old (omega (arith, inside, as_long)) old_size
+          (λ n column. part_before words table (i * e) k e room size whole (j * e + n) (omega (arith, behind, row))
+          ∙ sym (get_or-take e (drop (j * e) words) n 0 column ∙ get_or-drop (j * e) words n 0)) in
+          subst (CanStandAt len (host_offset (slice_index l1 j))) (sym kept) (had j before named)
+      | inr from ↦
+          let here : j ≡ i = omega arith in
+          let read : take e (drop (i * e) new) ≡ table = row_is e (i * e) new table (omega (arith, room, as_long)) whole
+          (part_inside words table (i * e) k e room size whole) in
+          let P : ℕ → Type 0 = λ n. CanStandAt len (host_offset (slice_index l1 n)) (take e (drop (n * e) new)) in
+          subst P (sym here) (subst (CanStandAt len (host_offset (slice_index l1 i))) (sym read) (subst (λ (n : ℕ). CanStandAt len n table) there stands))
+    ]
+
+-- after the last
+pub all_stand : (len e i : ℕ) (l1 words : List ℕ) → StandBelow len e i l1 words → length l1 ≤ i → RowsStand len e l1 words
+all_stand len e i l1 words had past = λ j below. had j (omega arith)
+
+pub rows_kept : (len m e f : ℕ) (l n words : List ℕ) → len ≡ m → e ≡ f → l ≡ n → RowsStand len e l words → RowsStand m f n words
+rows_kept len m e f l n words size same list had =
+    subst (λ (x : List ℕ). RowsStand m f x words) list (subst (λ (x : ℕ). RowsStand m x l words) same (subst (λ (x : ℕ). RowsStand x e l words) size had))
 
 -- Words under entries that name no table.
 

@@ -1,5 +1,5 @@
 -- What calls that only read leave, by the fault that their errors tell.
-use Rattle.std.proofs.Common.{◌≡◌, Option, None, Result, Ok, Err, refl, sym, ap, subst, ◌∙◌}
+use Rattle.std.proofs.Common.{◌≡◌, None, Result, Err, refl, sym, ap, subst, ◌∙◌}
 use Rattle.blk_base.specs.Device.{Reads, Untouched}
 use Rattle.blk_base.specs.declared.device.Device.{Ghosts}
 use Rattle.blk_base.proofs.DeviceLemmas.{reads_then}

@@ -11,7 +11,7 @@ use Rattle.q2_format.specs.Entry.{host_offset, is_compressed, has_reserved_in_l1
 use Rattle.q2_format.specs.Header.{refused_where}
 use Rattle.q2_format.specs.References.{own_offset}
 use Rattle.q2_format.specs.Sound.{lowest, is_misplaced, bad_l1_table, bad_l2_table, bad_host, reserved_in_l1, reserved_in_l2, compressed_cluster, guest_clusters}
-use Rattle.q2_format.specs.Tables.{Tree, active_tree, l2_word_of}
+use Rattle.q2_format.specs.Tables.{Tree, l2_word_of}
 use Rattle.q2_format.specs.declared.header.Header.{Header}
 use Rattle.q2_format.proofs.Firsts.{lowest_at, none_lowest, first-none, option_map-none, refused_where-none}
 use Rattle.q2_tables.specs.Kept.{KeptTables, IsTreeOf, is_plain}
@@ -136,14 +136,12 @@ refused_in_words h len kept tree is table l1 =
     let compressed = compressed_refused c len tree kept.words count is.words in
     rw (table, tables, hosts, bits, l2, compressed, is.l1) refl
 
--- what is refused of a file's tree, by the words that were read from it
-pub refused_of : (file : List ℕ) (h : Header) (len : ℕ) (kept : KeptTables) → kept.c ≡ cluster_size h.cluster_bits
-    → IsTreeOf (cluster_size h.cluster_bits) kept (active_tree file h)
-    → option_map Offset (bad_l1_table h len) ≡ None → misplaced_table kept.c len kept.l1 ≡ None
-    → load_refusal h len (active_tree file h) ≡ refused_words kept.c len kept.l1 kept.words
-refused_of file h len kept size tree table tables =
+-- the same with the cluster size that was kept
+pub refused_of : (h : Header) (len : ℕ) (kept : KeptTables) (tree : Tree) → kept.c ≡ cluster_size h.cluster_bits → IsTreeOf (cluster_size h.cluster_bits) kept tree
+    → option_map Offset (bad_l1_table h len) ≡ None → misplaced_table kept.c len kept.l1 ≡ None → load_refusal h len tree ≡ refused_words kept.c len kept.l1 kept.words
+refused_of h len kept tree size is table tables =
     let here : misplaced_table (cluster_size h.cluster_bits) len kept.l1 ≡ None = ap (λ (n : ℕ). misplaced_table n len kept.l1) (sym size) ∙ tables in
-    refused_in_words h len kept (active_tree file h) tree table here ∙ ap (λ (n : ℕ). refused_words n len kept.l1 kept.words) (sym size)
+    refused_in_words h len kept tree is table here ∙ ap (λ (n : ℕ). refused_words n len kept.l1 kept.words) (sym size)
 
 -- Where nothing is refused of the words, they are in order.
 

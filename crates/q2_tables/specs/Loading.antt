@@ -1,10 +1,10 @@
 -- What loading refuses, and what it keeps.
-use Rattle.std.specs.Prelude.{◌≡◌, ◌≢◌, ◌⊎◌, ℕ, ◌*◌, ◌<◌, true, false, List, [], ◌∷◌, length, slice_index, Option, None, Some, Result, Ok, Err}
+use Rattle.std.specs.Prelude.{◌≡◌, ◌≢◌, ◌⊎◌, ℕ, ◌*◌, ◌<◌, ◌==◌, if◌then◌else◌, true, false, List, [], ◌∷◌, length, take, drop, slice_index, slice_index_or, Option, None, Some, Result, Ok, Err}
 use Rattle.std.specs.Option.{option_map}
 use Rattle.blk_base.specs.Files.{IfTold}
 use Rattle.blk_base.specs.declared.device.DeviceCall.{DeviceCall}
 use Rattle.blk_base.specs.declared.device.DeviceCall.TheVariants as calls
-use Rattle.q2_format.specs.Bytes.{words_at}
+use Rattle.q2_format.specs.Bytes.{CanStandAt, words_at}
 use Rattle.q2_format.specs.Sizes.{cluster_size, entries_in_cluster}
 use Rattle.q2_format.specs.Entry.{host_offset, has_reserved_in_l1}
 use Rattle.q2_format.specs.Header.{first}
@@ -13,7 +13,7 @@ use Rattle.q2_format.specs.References.{own_offset}
 use Rattle.q2_format.specs.Sound.{is_misplaced, bad_l1_table, bad_l2_table, bad_host, reserved_in_l1, reserved_in_l2, compressed_cluster}
 use Rattle.q2_format.specs.declared.header.Header.{Header}
 use Rattle.q2_tables.specs.Kept.{KeptTables, IsTreeOf, is_plain}
-use Rattle.q2_tables.specs.Words.{AreUnnamedZero, misplaced_table}
+use Rattle.q2_tables.specs.Words.{AreUnnamedZero, IsReadOfTable, misplaced_table}
 use Rattle.q2_tables.specs.declared.stop.TablesStop.{TablesStop}
 use Rattle.q2_tables.specs.declared.stop.TablesStop.TheVariants.{Offset, ReservedInL1, ReservedInL2, Compressed, Io, NoMemory}
 
@@ -43,6 +43,26 @@ Loads h len tree (Ok kept) =
     (load_refusal h len tree ≡ None) × IsTreeOf (cluster_size h.cluster_bits) kept tree
 Loads h len tree (Err stop) = IsTableRefusal stop → load_refusal h len tree ≡ Some stop
 
+-- an entry of the L1 table that names no L2 table has no words of one, and each other as many as a table has
+abbrev pub HasRows : ℕ → Tree → Type 0
+HasRows entries tree = (i : ℕ) → i < length tree.l1
+    → length (slice_index_or tree.l2 i [])
+    ≡ (if host_offset (slice_index tree.l1 i) == 0 then 0 else entries)
+
+-- a file of `len` bytes can have each table of a tree at its place
+pub record TreeStands (h : Header) (len : ℕ) (tree : Tree) : Type 0 where
+  pub l1 : CanStandAt len h.l1_offset tree.l1
+  pub rows : (i : ℕ) → i < length tree.l1 → host_offset (slice_index tree.l1 i) ≢ 0
+      → CanStandAt len (host_offset (slice_index tree.l1 i)) (slice_index_or tree.l2 i [])
+
+-- what is answered of this tree of a header
+pub record AnswersTree (h : Header) (len : ℕ) (result : Result KeptTables TablesStop) (tree : Tree)
+    : Type 0 where
+  pub entries : length tree.l1 ≡ h.l1_size
+  pub rows : HasRows (entries_in_cluster (cluster_size h.cluster_bits)) tree
+  pub stands : TreeStands h len tree
+  pub loads : Loads h len tree result
+
 -- the fault that a stop tells, and an answer
 abbrev pub fault_in_tables : TablesStop → Option ℕ
 fault_in_tables (Io count) = Some count
@@ -56,6 +76,11 @@ abbrev pub fault_of_tables : {A : Type 0} → Result A TablesStop → Option ℕ
 fault_of_tables (Ok tables) = None
 fault_of_tables (Err stop) = fault_in_tables stop
 
+-- so it can, of the words of all L2 tables one behind the other, each with so many entries
+abbrev pub RowsStand : ℕ → ℕ → List ℕ → List ℕ → Type 0
+RowsStand len entries l1 words = (i : ℕ) → i < length l1 → host_offset (slice_index l1 i) ≢ 0
+    → CanStandAt len (host_offset (slice_index l1 i)) (take entries (drop (i * entries) words))
+
 -- what is kept of a file of `len` bytes, whether or not it tells its bytes
 pub record IsLoaded (h : Header) (len : ℕ) (kept : KeptTables) : Type 0 where
   pub c : kept.c ≡ cluster_size h.cluster_bits
@@ -66,6 +91,8 @@ pub record IsLoaded (h : Header) (len : ℕ) (kept : KeptTables) : Type 0 where
       → is_misplaced kept.c len (host_offset (slice_index kept.l1 i)) ≡ false
   pub hosts : (cluster : ℕ) → cluster < length kept.words
       → is_misplaced kept.c len (own_offset (slice_index kept.words cluster)) ≡ false
+  pub l1_stands : CanStandAt len h.l1_offset kept.l1
+  pub rows_stand : RowsStand len (entries_in_cluster kept.c) kept.l1 kept.words
   -- a cluster without an L2 table has no word
   pub unnamed : AreUnnamedZero (entries_in_cluster kept.c) kept.l1 kept.words (length kept.words)
   pub unreserved : (i : ℕ) → i < length kept.l1 → has_reserved_in_l1 (slice_index kept.l1 i) ≡ false
@@ -74,21 +101,15 @@ pub record IsLoaded (h : Header) (len : ℕ) (kept : KeptTables) : Type 0 where
 
 -- Which read fails, in a file of `len` bytes.
 
--- that of an L2 table which an entry of this L1 table names
-pub record IsL2Call (h : Header) (l1 : List ℕ) (call : DeviceCall) : Type 0 where
-  pub i : ℕ
-  pub within : i < length l1
-  pub there : host_offset (slice_index l1 i) ≢ 0
-  pub is : call ≡ calls.Read (host_offset (slice_index l1 i)) (cluster_size h.cluster_bits)
-
 -- behind an L1 table whose entries nothing refuses, and that is the file's, where it is told
 pub record IsCallBehindL1 (h : Header) (len : ℕ) (content : Option (List ℕ))
     (call : DeviceCall) : Type 0 where
   pub l1 : List ℕ
   pub entries : length l1 ≡ h.l1_size
+  pub stands : CanStandAt len h.l1_offset l1
   pub told : IfTold content (λ file. l1 ≡ words_at file h.l1_offset h.l1_size)
   pub placed : misplaced_table (cluster_size h.cluster_bits) len l1 ≡ None
-  pub read : IsL2Call h l1 call
+  pub read : IsReadOfTable (cluster_size h.cluster_bits) l1 call
 
 -- that of the L1 table, which lies in its place, or of an L2 table
 abbrev pub IsTablesCall : Header → ℕ → Option (List ℕ) → DeviceCall → Type 0

@@ -1,14 +1,15 @@
 //! Loading the tables of an image: one read a table, and a look at each word for each kind of fault.
-ghost use Rattle.std.specs.Prelude.{◌≡◌, ◌*◌, ◌/◌, ◌^◌, ◌<◌, ◌≤◌, ℕ, List, length, slice_index, Some, None, IfOk, IfErr, OnOk, option_map};
+ghost use Rattle.std.specs.Prelude.{◌≡◌, ◌*◌, ◌/◌, ◌^◌, ◌<◌, ◌≤◌, ℕ, List, length, slice_index, Some, None, Err, IfOk, IfErr, OnOk, option_map};
 ghost use Rattle.blk_base.specs.Calls.{FailsAt};
 ghost use Rattle.blk_base.specs.Device.{Reads};
+ghost use Rattle.blk_base.specs.Files.{WasRead};
 ghost use Rattle.blk_base.specs.declared.device.DeviceCall.{DeviceCall};
-ghost use Rattle.q2_format.specs.Bytes.{words_at};
+ghost use Rattle.q2_format.specs.Bytes.{CanStandAt, words_at};
 ghost use Rattle.q2_format.specs.Sizes.{cluster_size, entries_in_cluster};
 ghost use Rattle.q2_format.specs.Header.{CanBeRead};
 ghost use Rattle.q2_format.specs.Sound.{bad_l1_table};
 ghost use Rattle.q2_format.specs.Tables.{active_tree};
-ghost use Rattle.q2_tables.specs.Loading.{Loads, fault_of_tables, load_refusal, IsLoaded, IsTableRefusal, IsTablesCall};
+ghost use Rattle.q2_tables.specs.Loading.{AnswersTree, fault_of_tables, IsLoaded, IsTablesCall, RowsStand};
 ghost use Rattle.q2_tables.specs.Words.{AreTablesOf, AreUnnamedZero, IsReadOfTable, IsTablesReadStop, misplaced_table};
 ghost use Rattle.q2_tables.specs.declared.stop.TablesStop.TheVariants.{Offset};
 
@@ -32,6 +33,7 @@ fn read_table<D: Device>(
     ensures told { OnOk result
         ((file : List ℕ) → D.content dev.old ≡ Some file
         → words.new ≡ words_at file at (length words.old)) }
+    ensures stands { OnOk result (CanStandAt (D.size dev.old) at words.new) }
     ensures stop { IfErr result IsTablesReadStop }
     ensures device { Reads D.Device (fault_of_tables result) dev.old dev.new }
     ensures call { FailsAt (λ call. call ≡ DeviceCall.Read at (length buffer.old))
@@ -64,6 +66,8 @@ fn read_l2_tables<D: Device>(
         → AreTablesOf file (length buffer.old) l1.now words.new) }
     ensures unnamed { OnOk result (AreUnnamedZero (entries_in_cluster (length buffer.old)) l1.now
         words.new (length words.old)) }
+    ensures stands { OnOk result
+        (RowsStand (D.size dev.old) (entries_in_cluster (length buffer.old)) l1.now words.new) }
     ensures stop { IfErr result IsTablesReadStop }
     ensures device { Reads D.Device (fault_of_tables result) dev.old dev.new }
     ensures call { FailsAt (IsReadOfTable (length buffer.old) l1.now)
@@ -107,6 +111,7 @@ fn read_l1<D: Device>(
         (λ l1. (file : List ℕ) → D.content dev.old ≡ Some file
         → l1.items ≡ words_at file at entries) }
     ensures len { IfOk result (λ l1. length l1.items ≡ entries) }
+    ensures stands { IfOk result (λ l1. CanStandAt (D.size dev.old) at l1.items) }
     ensures stop { IfErr result IsTablesReadStop }
     ensures device { Reads D.Device (fault_of_tables result) dev.old dev.new }
     ensures call { FailsAt (λ call. call ≡ DeviceCall.Read at (8 * entries))
@@ -135,6 +140,9 @@ fn read_l2<D: Device>(
         (length words.items)) }
     ensures len { IfOk result
         (λ words. length words.items ≡ length l1.now * entries_in_cluster (length buffer.old)) }
+    ensures stands { IfOk result
+        (λ words. RowsStand (D.size dev.old) (entries_in_cluster (length buffer.old)) l1.now
+        words.items) }
     ensures stop { IfErr result IsTablesReadStop }
     ensures device { Reads D.Device (fault_of_tables result) dev.old dev.new }
     ensures call { FailsAt (IsReadOfTable (length buffer.old) l1.now)
@@ -158,13 +166,15 @@ fn load_l1<D: Device>(
     ensures told { IfOk result
         (λ l1. (file : List ℕ) → D.content dev.old ≡ Some file
         → l1.items ≡ words_at file h.now.l1_offset h.now.l1_size) }
-    ensures refused { IfErr result
-        (λ stop. (file : List ℕ) → D.content dev.old ≡ Some file → IsTableRefusal stop
-        → load_refusal h.now len (active_tree file h.now) ≡ Some stop) }
+    ensures refused { len ≡ D.size dev.old → IfErr result
+        (λ stop. WasRead (D.content dev.old) (λ file. active_tree file h.now)
+        (AnswersTree h.now len (Err stop))) }
+    ensures judged { (off : ℕ) → bad_l1_table h.now len ≡ Some off → result ≡ Err (Offset off) }
     ensures placed { IfOk result
         (λ l1. (option_map Offset (bad_l1_table h.now len) ≡ None)
         × (misplaced_table c len l1.items ≡ None)) }
     ensures entries { IfOk result (λ l1. length l1.items ≡ h.now.l1_size) }
+    ensures stands { IfOk result (λ l1. CanStandAt (D.size dev.old) h.now.l1_offset l1.items) }
     ensures device { Reads D.Device (fault_of_tables result) dev.old dev.new }
     ensures call { FailsAt (λ call. (bad_l1_table h.now len ≡ None)
         × (call ≡ DeviceCall.Read h.now.l1_offset (8 * h.now.l1_size)))
@@ -199,8 +209,11 @@ fn cluster_len(h: &Header, len: u64) -> u64
 /// tables are read before an entry of one is judged, also of what the other L2 tables tell.
 pub fn load_tables<D: Device>(alloc: Global, dev: &mut D, h: &Header) -> Result<Tables, TablesStop>
     requires { CanBeRead h.now (D.size dev.old) }
-    ensures told { (file : List ℕ) → D.content dev.old ≡ Some file
-        → Loads h.now (D.size dev.old) (active_tree file h.now) result }
+    ensures read { WasRead (D.content dev.old) (λ file. active_tree file h.now)
+        (AnswersTree h.now (D.size dev.old) result) }
+    // an L1 table out of its place isn't read
+    ensures placed { (off : ℕ) → bad_l1_table h.now (D.size dev.old) ≡ Some off
+        → result ≡ Err (Offset off) }
     ensures loaded { IfOk result (IsLoaded h.now (D.size dev.old)) }
     ensures device { Reads D.Device (fault_of_tables result) dev.old dev.new }
     ensures call { FailsAt (IsTablesCall h.now (D.size dev.old) (D.content dev.old))
