@@ -9,7 +9,7 @@ use Rattle.blk_base.specs.declared.device.Device.{Ghosts}
 use Rattle.blk_base.specs.declared.fault.DevStop.{DevStop}
 use Rattle.blk_base.specs.declared.fault.DevStop.TheVariants.{Io, NoSpace}
 use Rattle.blk_base.proofs.DeviceLemmas.{beyond-within}
-use Rattle.blk_base.proofs.WriteLists.{part-later}
+use Rattle.blk_base.proofs.WriteLists.{end_of_writes-append, part-later, stopped_at-later}
 use Rattle.byteorder.specs.Numbers.{length-bytes_high_first}
 use Rattle.q2_format.specs.Entry.{host_of, l2_spelling}
 use Rattle.q2_format.specs.declared.entries.L2Entry.{L2Entry}
@@ -84,12 +84,14 @@ module _ {D : Type 0} (g : Ghosts D) where
       let block : refs.KeptRefs = with_block_for image.refs n in
       let cut : List Write = first_bytes 0 (count_write block n) ∷ [] in
       let part : IsPart IsTorn (count_write block n ∷ []) cut = inr (count_torn block n, refl) in
+      let at = stopped_at-later IsTorn (block_writes_for image.refs n) (count_write block n ∷ []) cut part in
+      let end = end_of_writes-append (block_writes_for image.refs n) (count_write block n ∷ []) in
       record {
         writes = record {
           made = all_but_count image.refs n;
           part = part-later IsTorn (block_writes_for image.refs n) (count_write block n ∷ []) cut part;
           wrote = placed.1;
-          cause = writes.cause;
+          cause = ((count_write block n, at, omega (arith, fits, end)), writes.cause.1, writes.cause.2);
           call = placed.2;
         };
         known = record {

@@ -32,16 +32,16 @@ cleared_all g image a b some wrote fits quiet call =
 
 -- or not at all
 pub cleared_part : {D : Type 0} (g : Ghosts D) (image : Known) (done count : ℕ) (reason : Stop) (a b : D) → image.header.autoclear ≢ 0 → done ≡ 0
-    → Wrote g (write_of 88 (take done (replicate 8 0)) ∷ []) a b → Rose (g.faults a) count → count ≡ g.faults b
+    → Wrote g (write_of 88 (take done (replicate 8 0)) ∷ []) a b → 96 ≤ g.capacity a → Rose (g.faults a) count → count ≡ g.faults b
     → reason ≡ why.Failed → IsWriteAfterStop reason (calls.Write 88 8) (g.failed_call a) (g.failed_call b) → Writes g (clear_writes image) (Some (Io count)) a b
-cleared_part g image done count reason a b some none wrote rose is failed call =
+cleared_part g image done count reason a b some none wrote fits rose is failed call =
     let test = ne_eqb image.header.autoclear 0 some in
     let short : done < 8 = omega (arith, none) in
     rw test (record {
       made = write_of 88 (take done (replicate 8 0)) ∷ [];
       part = inr (record { n = done; short = short; sector = inl none; first = refl }, refl);
       wrote = wrote;
-      cause = (rose, is);
+      cause = ((write_of 88 (replicate 8 0), refl, fits), rose, is);
       call = write_failed 88 count (replicate 8 0) (write_of 88 (take done (replicate 8 0))) reason (g.failed_call a) (g.failed_call b) failed call;
     })
 

@@ -1,18 +1,21 @@
 -- The refusals of the refcount table, and how many refcounts it has.
-use Rattle.std.proofs.Common.{◌≡◌, ℕ, ◌≤◌, ◌||◌, eqb, List, [], ◌∷◌, Option, Some, None, refl, sym, ◌∙◌, arith}
+use Rattle.std.proofs.Common.{◌≡◌, ℕ, ◌≤◌, ◌||◌, eqb, List, [], ◌∷◌, Option, Some, None, Ok, Err, Vec, Global, refl, sym, ap, subst, ◌∙◌, arith}
 use Rattle.std.specs.Option.{option_map}
 use Rattle.std.proofs.lemmas.Bool.Decides.{nat_tests}
 use Rattle.q2_format.specs.Sizes.{cluster_size}
 use Rattle.q2_format.specs.Header.{first, IsWithinLimits}
-use Rattle.q2_format.specs.Tables.{refcount_table}
 use Rattle.q2_format.specs.Sound.{bad_refcount_table, bad_l1_table, bad_block, reserved_in_refcount_table, is_misplaced}
 use Rattle.q2_format.specs.Sound as sound
 use Rattle.q2_format.specs.declared.header.Header.{Header}
 use Rattle.q2_format.proofs.Firsts.{first-none, option_map-none, refused_where-none}
 use Rattle.q2_refs.specs.Loading.{refcounts_refusal, table_reach}
+use Rattle.q2_refs.specs.Loading as refs
 use Rattle.q2_refs.specs.declared.stop.RefsStop.TheVariants.{Offset, Reserved}
 use Rattle.q2_image.specs.Opening.{place_stops}
-use Rattle.q2_image.specs.Loading.{TableTells, counts_loaded, IsBlockStop}
+use Rattle.q2_image.specs.Loading.{AnswersTable, IsTableRead, TableTells, counts_loaded}
+use Rattle.q2_image.specs.declared.counting.RefTable.TheVariants.{Read}
+use Rattle.q2_image.specs.declared.counting.RefTable.TheVariants as tables
+use Rattle.q2_image.specs.declared.stop.ImageStop.TheVariants as stops
 
 -- both tables lie in their places
 pub both_placed : (h : Header) (len : ℕ) → place_stops h len ≡ None → (bad_refcount_table h len ≡ None) × (bad_l1_table h len ≡ None)
@@ -41,28 +44,38 @@ an_entry None None index h = absurd (cc)
 an_entry None (Some i) index h = (refl, cc)
 an_entry (Some o) r index h = absurd (cc)
 
--- what each answer tells of a file's refcount table
-pub accepted_tells : (file : List ℕ) (h : Header) (len : ℕ) → place_stops h len ≡ None → refcounts_refusal h len (refcount_table file h) ≡ None → TableTells file h len None None
-accepted_tells file h len placed none =
-    let both = nothing (bad_block (cluster_size h.cluster_bits) len (refcount_table file h)) (reserved_in_refcount_table (refcount_table file h))
-    (sym (words_alone h len (refcount_table file h) (both_placed h len placed).0) ∙ none) in
+-- what each answer tells of the words of a refcount table
+pub accepted_tells : (h : Header) (len : ℕ) (table : List ℕ) → place_stops h len ≡ None → refcounts_refusal h len table ≡ None → TableTells h len table None
+accepted_tells h len table placed none =
+    let both = nothing (bad_block (cluster_size h.cluster_bits) len table) (reserved_in_refcount_table table) (sym (words_alone h len table (both_placed h len placed).0) ∙ none) in
     record { block = both.0; reserved = both.1 }
 
-pub reserved_tells : (file : List ℕ) (h : Header) (len index : ℕ) → place_stops h len ≡ None
-    → refcounts_refusal h len (refcount_table file h) ≡ Some (Reserved index) → TableTells file h len None (Some index)
-reserved_tells file h len index placed some =
-    let both = an_entry (bad_block (cluster_size h.cluster_bits) len (refcount_table file h)) (reserved_in_refcount_table (refcount_table file h)) index
-    (sym (words_alone h len (refcount_table file h) (both_placed h len placed).0) ∙ some) in
+pub reserved_tells : (h : Header) (len index : ℕ) (table : List ℕ) → place_stops h len ≡ None → refcounts_refusal h len table ≡ Some (Reserved index) → TableTells h len table (Some index)
+reserved_tells h len index table placed some =
+    let both = an_entry (bad_block (cluster_size h.cluster_bits) len table) (reserved_in_refcount_table table) index (sym (words_alone h len table (both_placed h len placed).0) ∙ some) in
     record { block = both.0; reserved = both.1 }
 
-pub offset_tells : (file : List ℕ) (h : Header) (len offset : ℕ) → place_stops h len ≡ None
-    → refcounts_refusal h len (refcount_table file h) ≡ Some (Offset offset) → IsBlockStop file h len (sound.Offset offset)
-offset_tells file h len offset placed some = (
-  offset,
-  refl,
-  a_block (bad_block (cluster_size h.cluster_bits) len (refcount_table file h)) (reserved_in_refcount_table (refcount_table file h)) offset
-      (sym (words_alone h len (refcount_table file h) (both_placed h len placed).0) ∙ some),
-)
+pub offset_tells : (h : Header) (len offset : ℕ) (table : List ℕ) → place_stops h len ≡ None → refcounts_refusal h len table ≡ Some (Offset offset)
+    → option_map sound.Offset (bad_block (cluster_size h.cluster_bits) len table) ≡ Some (sound.Offset offset)
+offset_tells h len offset table placed some = ap (option_map sound.Offset)
+    (a_block (bad_block (cluster_size h.cluster_bits) len table) (reserved_in_refcount_table table) offset (sym (words_alone h len table (both_placed h len placed).0) ∙ some))
+
+-- what reading a refcount table in its place answers, as its reading in an image does
+module _ (h : Header) (len : ℕ) (placed : place_stops h len ≡ None) where
+  pub table_answered : (kept : Vec ℕ Global) (words : List ℕ) → refs.AnswersWords h len (λ (table : Vec ℕ Global). table.items) (Ok kept) words → AnswersTable h len (Ok (Read kept)) words
+  table_answered kept words answers =
+      record { entries = answers.entries; stands = answers.stand; tells = (accepted_tells h len words placed answers.refused, answers.kept) }
+
+  pub reserved_answered : (index : ℕ) (words : List ℕ) → refs.AnswersWords h len (λ (table : Vec ℕ Global). table.items) (Err (Reserved index)) words
+      → AnswersTable h len (Ok (tables.Reserved index)) words
+  reserved_answered index words answers = record { entries = answers.entries; stands = answers.stand; tells = (reserved_tells h len index words placed answers.refused, tt) }
+
+  pub offset_answered : (offset : ℕ) (words : List ℕ) → refs.AnswersWords h len (λ (table : Vec ℕ Global). table.items) (Err (Offset offset)) words → AnswersTable h len (Err (stops.Offset offset)) words
+  offset_answered offset words answers = record { entries = answers.entries; stands = answers.stand; tells = offset_tells h len offset words placed answers.refused }
+
+-- an accepted table's words
+pub accepted_words : (h : Header) (len : ℕ) (kept : Vec ℕ Global) (words : List ℕ) → refs.AnswersWords h len (λ (table : Vec ℕ Global). table.items) (Ok kept) words → IsTableRead h len kept.items
+accepted_words h len kept words answers = subst (IsTableRead h len) (sym answers.kept) (record { accepted = answers.refused; entries = answers.entries; stands = answers.stand })
 
 -- a refcount table in its place has a cluster
 pub some_cluster : (h : Header) (len : ℕ) → bad_refcount_table h len ≡ None → 1 ≤ h.ref_clusters

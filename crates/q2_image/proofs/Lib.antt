@@ -6,6 +6,7 @@ pub mod Guests
 pub mod Autocleared
 pub mod Merged
 pub mod Order
+pub mod WordsRead
 pub mod Faults
 pub mod NameRoom
 pub mod HeaderKept

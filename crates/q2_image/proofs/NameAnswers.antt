@@ -374,7 +374,7 @@ module _ {D : Type 0} (g : Ghosts D) where
   renames_cause image left name format (Err (Io count)) a b (inr stops) = by_last stops.makes
     where
       by_last : StopsWithFields g image name format (early_writes image stops.n name format) count left a b → CountsFault (Some count) (g.faults a) (g.faults b)
-      by_last (inl last) = last.0.writes.cause
+      by_last (inl last) = (last.0.writes.cause.1, last.0.writes.cause.2)
       by_last (inr fails) =
           let same : count ≡ fails.0.count = let is = fails.0.is in cc in
           subst (λ (n : ℕ). CountsFault (Some n) (g.faults a) (g.faults b)) (sym same) fails.0.cause

@@ -188,7 +188,7 @@ module _ {D : Type 0} (g : Ghosts D) where
           made = write_of at (take done bytes) ∷ [];
           part = inr (record { n = done; short = stopped.part; sector = stopped.sector; first = refl }, refl);
           wrote = wrote;
-          cause = (stopped.rose, refl);
+          cause = ((write_of at bytes, refl, (failed refl).0), stopped.rose, refl);
           call = write_failed at (g.faults b) bytes (write_of at (take done bytes)) why.Failed (g.failed_call a) (g.failed_call b) refl call;
         },
         refl,

@@ -1,9 +1,9 @@
 -- Which read of an opening fails, by the answers of the calls that make it up.
-use Rattle.std.proofs.Common.{◌≡◌, ℕ, ◌⊎◌, inl, inr, List, Option, Some, None, Result, Ok, Err, IfErr, refl, sym, ap, subst, ◌∙◌}
+use Rattle.std.proofs.Common.{◌≡◌, ℕ, ◌⊎◌, inl, inr, List, Option, Some, None, Result, Ok, Err, IfErr, sym, ap, subst, ◌∙◌}
 use Rattle.blk_base.specs.Calls.{FailsAt}
-use Rattle.blk_base.specs.Files.{IfTold}
 use Rattle.blk_base.specs.declared.device.DeviceCall.{DeviceCall}
 use Rattle.blk_base.proofs.Calls.{fails_as}
+use Rattle.blk_base.proofs.Readings.{told_if}
 use Rattle.q2_format.specs.Header.{CanBeRead, IsWithinLimits, header_of}
 use Rattle.q2_format.specs.References.{cluster_bound}
 use Rattle.q2_format.specs.declared.header.Header.{Header}
@@ -14,11 +14,6 @@ use Rattle.q2_image.specs.Loading.{IsReadFrom, IsTableRead, counts_loaded}
 use Rattle.q2_image.specs.Opening.{IsNoFault, fault_in_image, fault_of_image, header_stops, overlap_stop, place_stops, uses_in}
 use Rattle.q2_image.specs.OpeningCalls.{AreBlocksPlaced, AreTablesRead, IsFirstCall, IsHeaderRead, IsOpeningCall}
 use Rattle.q2_image.specs.declared.stop.ImageStop.{ImageStop}
-
--- what is so of each content that is told
-pub told_if : {A : Type 0} (told : Option A) (P : A → Type 0) → ((a : A) → told ≡ Some a → P a) → IfTold told P
-told_if None P all = tt
-told_if (Some a) P all = all a refl
 
 -- an answer that tells no failed call, and one that passes a stop on
 pub no_call : {A : Type 0} (P : DeviceCall → Type 0) (r : Result A ImageStop) (last : Option DeviceCall) → IfErr r IsNoFault → FailsAt P (fault_of_image r) last

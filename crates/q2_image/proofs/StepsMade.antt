@@ -156,7 +156,7 @@ module _ {D : Type 0} (g : Ghosts D) where
   pub steps_cause : {A : Type 0} (image left : Known) (steps : List WriteStep) (r : Result A DevStop) (a b : D) → IfErr r TellsFault
       → MakesSteps g image steps (stop_of r) left a b → CountsFault (count_of r) (g.faults a) (g.faults b)
   steps_cause image left steps (Ok done) a b cause makes = makes.writes.cause.1
-  steps_cause image left steps (Err (Io count)) a b cause makes = makes.writes.cause
+  steps_cause image left steps (Err (Io count)) a b cause makes = (makes.writes.cause.1, makes.writes.cause.2)
   steps_cause image left steps (Err NoSpace) a b cause makes = absurd cause
 
   pub changes_none : (image : Known) (a : D) → (image ≡ image) × Untouched g a a

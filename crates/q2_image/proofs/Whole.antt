@@ -1,19 +1,20 @@
 -- An image that was opened is the file's.
-use Rattle.std.proofs.Common.{◌≡◌, ℕ, ◌≤◌, min, max, List, length, take, Option, None, Result, Ok, Err, IfOk, sym, subst, ◌∙◌, arith}
+use Rattle.std.proofs.Common.{◌≡◌, ℕ, ◌≤◌, min, max, List, length, take, None, Result, Ok, Err, IfOk, sym, subst, ◌∙◌, arith}
 use Rattle.std.proofs.lemmas.List.{get_or-take, length-take}
 use Rattle.q2_format.specs.Sizes.{cluster_size}
 use Rattle.q2_format.specs.Header.{header_of}
 use Rattle.q2_format.specs.Tables.{active_tree, refcount_table}
 use Rattle.q2_format.specs.References.{cluster_bound, reach_of}
-use Rattle.q2_format.specs.Sound.{Refusal, image_refusal}
+use Rattle.q2_format.specs.Sound.{image_refusal}
 use Rattle.q2_format.specs.declared.header.Header.{Header}
 use Rattle.q2_refs.specs.Kept.{IsCountsOf}
 use Rattle.q2_refs.specs.Kept as refs
 use Rattle.q2_tables.specs.Kept.{IsTreeOf}
 use Rattle.q2_tables.specs.Kept as tables
 use Rattle.q2_image.specs.declared.stop.ImageStop.{ImageStop}
-use Rattle.q2_image.specs.Opening.{Judges, Names, header_stops, place_stops, names_stops, overlap_stop, uses_in}
+use Rattle.q2_image.specs.Opening.{Judges, Names, header_stops, place_stops, overlap_stop, uses_in}
 use Rattle.q2_image.specs.Loading.{table_stops, counts_loaded, HasCounts, IsReadFrom}
+use Rattle.q2_image.specs.Placed.{kept_stops}
 use Rattle.q2_image.specs.Image.{Known, IsImageOf}
 use Rattle.q2_image.proofs.Opened.{header_names, place_names, word_names, overlap_of_image, last_names, is_sound}
 
@@ -66,10 +67,6 @@ overlap_named file h len size table t stop asked whole places read is =
     let O : ℕ → Type 0 = λ n. Names (overlap_stop (uses_in h table t.l1 t.words) (cluster_bound h n)) stop in
     overlap_of_image file h table t stop read.header read.headers (subst P whole places) read.stops read.same read.tree (subst O (asked ∙ whole) is)
 
--- the last refusals, by the kept words
-abbrev pub last_of : Header → ℕ → refs.KeptRefs → tables.KeptTables → Option Refusal
-last_of h len r t = names_stops h (uses_in h r.table t.l1 t.words) r.counts (cluster_bound h len)
-
 pub header_named : (file : List ℕ) (len : ℕ) (stop : ImageStop) → len ≡ length file → Names (header_stops file len) stop → Names (image_refusal file) stop
 header_named file len stop size is = let P : ℕ → Type 0 = λ n. Names (header_stops file n) stop in header_names file stop (subst P size is)
 
@@ -95,14 +92,14 @@ at_end file h len r t from = let P : ℕ → Type 0 = AtEnd file h r t in subst 
 
 -- the refusal of a file, by the last stage's answer
 pub last_judged : {A : Type 0} (file : List ℕ) (h : Header) (len : ℕ) (r : refs.KeptRefs) (t : tables.KeptTables) (result : Result A ImageStop) → IsLoadedFrom file h len r t
-    → Judges (last_of h len r t) result → Judges (image_refusal file) result
+    → Judges (kept_stops h len r t) result → Judges (image_refusal file) result
 last_judged file h len r t (Ok image) from none =
     let at = at_end file h len r t from in
-    let P : ℕ → Type 0 = λ n. last_of h n r t ≡ None in
+    let P : ℕ → Type 0 = λ n. kept_stops h n r t ≡ None in
     is_sound file h r t from.header at.0 at.1 at.2 from.counts from.tree at.3 (subst P from.size none)
 last_judged file h len r t (Err stop) from is =
     let at = at_end file h len r t from in
-    let P : ℕ → Type 0 = λ n. Names (last_of h n r t) stop in
+    let P : ℕ → Type 0 = λ n. Names (kept_stops h n r t) stop in
     last_names file h r t stop from.header at.0 at.1 at.2 from.counts from.tree at.3 (subst P from.size is)
 
 -- fewer counts are still the file's
@@ -117,10 +114,10 @@ fewer_counts file h r n counts = record {
 abbrev pub image_with : Header → ℕ → refs.KeptRefs → tables.KeptTables → Known
 image_with h len r t = record { header = h; tables = t; refs = record r { counts = take (reach_of h len) r.counts } }
 
-pub is_image : (file : List ℕ) (h : Header) (len : ℕ) (r : refs.KeptRefs) (t : tables.KeptTables) → IsLoadedFrom file h len r t → last_of h len r t ≡ None → IsImageOf file (image_with h len r t)
+pub is_image : (file : List ℕ) (h : Header) (len : ℕ) (r : refs.KeptRefs) (t : tables.KeptTables) → IsLoadedFrom file h len r t → kept_stops h len r t ≡ None → IsImageOf file (image_with h len r t)
 is_image file h len r t from none =
     let at = at_end file h len r t from in
-    let P : ℕ → Type 0 = λ n. last_of h n r t ≡ None in
+    let P : ℕ → Type 0 = λ n. kept_stops h n r t ≡ None in
     record {
       sound = is_sound file h r t from.header at.0 at.1 at.2 from.counts from.tree at.3 (subst P from.size none);
       header = from.header;
@@ -129,7 +126,7 @@ is_image file h len r t from none =
     }
 
 pub ok_image : {T : List ℕ → Type 0} (h : Header) (len : ℕ) (r : refs.KeptRefs) (t : tables.KeptTables) (result : Result Known ImageStop)
-    → ((file : List ℕ) → T file → IsLoadedFrom file h len r t) → Judges (last_of h len r t) result → IfOk result (λ image. image ≡ image_with h len r t)
+    → ((file : List ℕ) → T file → IsLoadedFrom file h len r t) → Judges (kept_stops h len r t) result → IfOk result (λ image. image ≡ image_with h len r t)
     → IfOk result (λ image. (file : List ℕ) → T file → IsImageOf file image)
 ok_image h len r t (Ok image) from none is = λ file told. let P : Known → Type 0 = λ k. IsImageOf file k in subst P (sym is) (is_image file h len r t (from file told) none)
 ok_image h len r t (Err stop) from none is = tt

@@ -7,6 +7,7 @@ pub mod Guest
 pub mod Merge
 pub mod Image
 pub mod Placed
+pub mod Refusals
 pub mod Reading
 pub mod Writing
 pub mod Room

@@ -1,20 +1,23 @@
 -- Loading refcounts and tables: which refusal comes first, and what is loaded.
-use Rattle.std.specs.Prelude.{◌≡◌, ℕ, max, Option, Some, None, List, [], ◌∷◌, length}
+use Rattle.std.specs.Prelude.{◌≡◌, ℕ, max, Option, Some, None, Result, Ok, Err, IfOk, List, [], ◌∷◌, length}
 use Rattle.std.specs.Option.{option_map}
-use Rattle.q2_format.specs.Sizes.{cluster_size}
+use Rattle.q2_format.specs.Sizes.{cluster_size, entries_in_cluster}
+use Rattle.q2_format.specs.Bytes.{CanStandAt}
 use Rattle.q2_format.specs.Header.{first, header_of}
 use Rattle.q2_format.specs.Tables.{Tree, active_tree, refcount_table}
 use Rattle.q2_format.specs.References.{cluster_bound, reach_of}
 use Rattle.q2_format.specs.Sound.{Refusal, bad_block, bad_l2_table, bad_host, reserved_in_l1, reserved_in_l2, reserved_in_refcount_table, compressed_cluster}
 use Rattle.q2_format.specs.Sound as sound
 use Rattle.q2_format.specs.declared.header.Header.{Header}
-use Rattle.q2_refs.specs.Kept.{KeptRefs, IsShapedBy, AreWholeClusters, BeginBelow}
+use Rattle.q2_refs.specs.Kept.{KeptRefs, IsShapedBy, AreWholeClusters, BeginBelow, CountsStand}
 use Rattle.q2_refs.specs.Loading.{table_entries, refcounts_refusal}
 use Rattle.q2_tables.specs.Kept.{IsTreeOf}
 use Rattle.q2_tables.specs.Kept as tables
-use Rattle.q2_image.specs.Opening.{header_stops}
+use Rattle.q2_tables.specs.Loading.{HasRows, TreeStands}
+use Rattle.q2_image.specs.Opening.{Judges, Names, header_stops}
 use Rattle.q2_image.specs.declared.counting.RefTable.{RefTable}
 use Rattle.q2_image.specs.declared.counting.RefTable.TheVariants.{Read, Reserved}
+use Rattle.q2_image.specs.declared.stop.ImageStop.{ImageStop}
 
 -- the refusals of the words of all tables, in their order
 unfoldable pub table_stops : Header → ℕ → List ℕ → Tree → Option Refusal
@@ -37,15 +40,50 @@ abbrev pub reserved_entry : RefTable → Option ℕ
 reserved_entry (Read words) = None
 reserved_entry (Reserved index) = Some index
 
--- the words that were read are those of a file
-abbrev pub IsTableOf : List ℕ → Header → RefTable → Type 0
-IsTableOf file h (Read words) = words.items ≡ refcount_table file h
-IsTableOf file h (Reserved index) = Unit {0}
+-- these are the words that were read
+abbrev pub IsTableOf : List ℕ → RefTable → Type 0
+IsTableOf words (Read kept) = kept.items ≡ words
+IsTableOf words (Reserved index) = Unit {0}
+
+-- what these words of a refcount table say of its reserved bits, where all its blocks lie in their places
+pub record TableTells (h : Header) (len : ℕ) (words : List ℕ) (index : Option ℕ) : Type 0 where
+  pub block : bad_block (cluster_size h.cluster_bits) len words ≡ None
+  pub reserved : reserved_in_refcount_table words ≡ index
+
+abbrev pub TellsTable : Header → ℕ → List ℕ → Result RefTable ImageStop → Type 0
+TellsTable h len words (Ok table) =
+    TableTells h len words (reserved_entry table) × IsTableOf words table
+TellsTable h len words (Err stop) =
+    Names (option_map sound.Offset (bad_block (cluster_size h.cluster_bits) len words)) stop
+
+-- what is answered of these words of a header's refcount table, which lies in its place
+pub record AnswersTable (h : Header) (len : ℕ) (result : Result RefTable ImageStop)
+    (words : List ℕ) : Type 0 where
+  pub entries : length words ≡ table_entries h
+  pub stands : CanStandAt len h.ref_offset words
+  pub tells : TellsTable h len words result
+
+-- the words of an image's tables
+pub record ImageWords : Type 0 where
+  pub table : List ℕ
+  pub tree : Tree
+
+abbrev pub words_in : Header → List ℕ → ImageWords
+words_in h file = record { table = refcount_table file h; tree = active_tree file h }
+
+-- as many as a header says, and such as a file of `len` bytes can have at their places
+pub record CanBeWords (h : Header) (len : ℕ) (words : ImageWords) : Type 0 where
+  pub table : length words.table ≡ table_entries h
+  pub l1 : length words.tree.l1 ≡ h.l1_size
+  pub rows : HasRows (entries_in_cluster (cluster_size h.cluster_bits)) words.tree
+  pub table_stands : CanStandAt len h.ref_offset words.table
+  pub tree_stands : TreeStands h len words.tree
 
 -- the words of a refcount table that nothing refuses, whether or not the device tells its bytes
 pub record IsTableRead (h : Header) (len : ℕ) (words : List ℕ) : Type 0 where
   pub accepted : refcounts_refusal h len words ≡ None
   pub entries : length words ≡ table_entries h
+  pub stands : CanStandAt len h.ref_offset words
 
 abbrev pub IsTableAnswer : Header → ℕ → RefTable → Type 0
 IsTableAnswer h len (Read words) = IsTableRead h len words.items
@@ -60,6 +98,16 @@ pub record IsReadFrom (file : List ℕ) (h : Header) (table : List ℕ) (t : tab
   pub same : table ≡ refcount_table file h
   pub tree : IsTreeOf (cluster_size h.cluster_bits) t (active_tree file h)
 
+-- what is answered of these words of a header's tables, which lie in their places
+pub record AnswersWords {A : Type 0} (h : Header) (len : ℕ) (table_of : A → List ℕ)
+    (tables_of : A → tables.KeptTables) (result : Result A ImageStop) (words : ImageWords) : Type 0
+  where
+    pub sizes : CanBeWords h len words
+    pub judged : Judges (table_stops h len words.table words.tree) result
+    pub table : IfOk result (λ a. table_of a ≡ words.table)
+    pub tree : IfOk result
+        (λ a. IsTreeOf (cluster_size h.cluster_bits) (tables_of a) words.tree)
+
 -- the refcounts of a header, whether or not the device tells its bytes
 pub record HasCounts (h : Header) (len count : ℕ) (refs : KeptRefs) : Type 0 where
   pub shape : IsShapedBy h refs
@@ -67,15 +115,4 @@ pub record HasCounts (h : Header) (len count : ℕ) (refs : KeptRefs) : Type 0 w
   pub reach : length refs.counts ≡ count
   pub blocks : AreWholeClusters (cluster_size h.cluster_bits) refs.table
   pub below : BeginBelow len refs.table
-
--- what a file's refcount table says of its blocks and its reserved bits
-pub record TableTells (file : List ℕ) (h : Header) (len : ℕ) (misplaced index : Option ℕ) : Type 0
-  where
-    pub block : bad_block (cluster_size h.cluster_bits) len (refcount_table file h) ≡ misplaced
-    pub reserved : reserved_in_refcount_table (refcount_table file h) ≡ index
-
--- a refusal of the refcount table's blocks
-abbrev pub IsBlockStop : List ℕ → Header → ℕ → Refusal → Type 0
-IsBlockStop file h len named =
-    (offset : ℕ) × (named ≡ sound.Offset offset)
-    × (bad_block (cluster_size h.cluster_bits) len (refcount_table file h) ≡ Some offset)
+  pub stand : CountsStand len refs

@@ -2,7 +2,7 @@
 use Rattle.std.specs.Prelude.{◌≡◌, ℕ, ◌+◌, ◌<◌, false, not, ◌==◌, ◌&&◌, nat_lt, length, slice_index, Option, Some, None, Result, Ok, Err, IfSome, List, [], ◌∷◌}
 use Rattle.std.specs.Option.{option_map}
 use Rattle.q2_format.specs.Sizes.{cluster_size}
-use Rattle.q2_format.specs.Header.{CanBeRead, IsWithinLimits, first, refused_where, header_refusal}
+use Rattle.q2_format.specs.Header.{first, refused_where, header_refusal}
 use Rattle.q2_format.specs.Entry.{host_offset, block_offset}
 use Rattle.q2_format.specs.References.{structure_uses, own_offset}
 use Rattle.q2_format.specs.Sound.{Refusal, InHeader, bad_refcount_table, bad_l1_table, is_misplaced, lowest, is_header_full}
@@ -53,14 +53,6 @@ fault_of_image (Err stop) = fault_in_image stop
 -- a stop that names no failed call
 abbrev pub IsNoFault : ImageStop → Type 0
 IsNoFault stop = fault_in_image stop ≡ None
-
--- What a refusal says, whatever the file holds: some bytes are refused so in a file of `len` bytes, or have a header that
--- isn't, behind which it comes.
-abbrev pub IsRefusalFor : ImageStop → ℕ → Type 0
-IsRefusalFor (HeaderStops stop) len = (file : List ℕ) × (header_refusal file len ≡ Some stop)
-IsRefusalFor (Io count) len = Unit {0}
-IsRefusalFor NoMemory len = Unit {0}
-IsRefusalFor stop len = (h : Header) × CanBeRead h len × IsWithinLimits h len
 
 -- a stop that names no refusal of the header
 abbrev pub IsNoHeader : ImageStop → Type 0

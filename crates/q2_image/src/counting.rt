@@ -3,6 +3,7 @@
 ghost use Rattle.std.specs.Prelude.{◌≡◌, ◌≤◌, ◌+◌, ◌*◌, ◌<◌, ◌^◌, ℕ, List, length, Some, None, Option, IfOk, IfErr, IfSome};
 ghost use Rattle.blk_base.specs.Calls.{FailsAt};
 ghost use Rattle.blk_base.specs.Device.{Reads};
+ghost use Rattle.blk_base.specs.Files.{WasRead};
 ghost use Rattle.q2_format.specs.Header.{CanBeRead, IsWithinLimits};
 ghost use Rattle.q2_format.specs.Sound.{lowest};
 ghost use Rattle.q2_format.specs.References.{cluster_bound, reach_of};
@@ -11,7 +12,7 @@ ghost use Rattle.q2_refs.specs.Kept.{AreAbsentFree, IsCountsOf};
 ghost use Rattle.q2_refs.specs.Loading.{IsBlockCall, table_call};
 ghost use Rattle.q2_image.specs.Seen.{IsSeen, is_uncounted};
 ghost use Rattle.q2_image.specs.Opening.{Judges, fault_of_image, IsNoFault, IsNoHeader, place_stops, refusal_of, uncounted_stop};
-ghost use Rattle.q2_image.specs.Loading.{counts_loaded, reserved_entry, IsTableOf, IsTableRead, IsTableAnswer, HasCounts, TableTells, IsBlockStop};
+ghost use Rattle.q2_image.specs.Loading.{counts_loaded, AnswersTable, IsTableRead, IsTableAnswer, HasCounts};
 
 use crate::header::cluster_size;
 use crate::seen::Seen;
@@ -63,11 +64,8 @@ pub(crate) fn load_ref_table<D: Device>(
 ) -> Result<RefTable, ImageStop>
     requires readable { CanBeRead header.now (D.size dev.old) }
     requires placed { place_stops header.now (D.size dev.old) ≡ None }
-    ensures told { IfOk result (λ table. (file : List ℕ) → D.content dev.old ≡ Some file
-        → TableTells file header.now (D.size dev.old) None (reserved_entry table)
-        × IsTableOf file header.now table) }
-    ensures stop { IfErr result (λ stop. (file : List ℕ) → D.content dev.old ≡ Some file
-        → IfSome (refusal_of stop) (IsBlockStop file header.now (D.size dev.old))) }
+    ensures words { WasRead (D.content dev.old) (λ file. refcount_table file header.now)
+        (AnswersTable header.now (D.size dev.old) result) }
     ensures no_header { IfErr result IsNoHeader }
     ensures read { IfOk result (IsTableAnswer header.now (D.size dev.old)) }
     ensures device { Reads D.Device (fault_of_image result) dev.old dev.new }

@@ -2,17 +2,18 @@
 
 ghost use Rattle.std.specs.Prelude.{◌≡◌, ◌+◌, ◌<◌, ◌^◌, ℕ, Bool, false, List, length, Some, None, Option, Err, IfOk, IfErr, IfSome};
 ghost use Rattle.blk_base.specs.Calls.{FailsAt};
-ghost use Rattle.blk_base.specs.Content.{bytes_at};
+ghost use Rattle.blk_base.specs.Content.{AreZeroPast, bytes_at};
 ghost use Rattle.blk_base.specs.Device.{Reads};
 ghost use Rattle.blk_base.specs.declared.device.DeviceCall.{DeviceCall};
 ghost use Rattle.q2_format.specs.Sizes.{cluster_size};
-ghost use Rattle.q2_format.specs.Header.{header_of, header_refusal, IsWithinLimits, CanBeRead};
+ghost use Rattle.q2_format.specs.Header.{header_of, header_refusal, refusal_in, IsWithinLimits, CanBeRead};
 ghost use Rattle.q2_format.specs.Sound.{is_misplaced};
 ghost use Rattle.q2_format.specs.declared.header.HeaderStop.TheVariants.{Short};
 ghost use Rattle.q2_format.specs.declared.header.TheConstants.{MIN_HEADER_LENGTH};
 ghost use Rattle.q2_image.specs.declared.header.TheConstants.{CLUSTER};
-ghost use Rattle.q2_image.specs.Opening.{Judges, fault_of_image, IsNoFault, IsRefusalFor, refusal_of, header_stops, place_stops};
+ghost use Rattle.q2_image.specs.Opening.{Judges, fault_of_image, IsNoFault, refusal_of, header_stops, place_stops};
 ghost use Rattle.q2_image.specs.OpeningCalls.{IsFirstCall};
+ghost use Rattle.q2_image.specs.Refusals.{IsRefusalFor};
 
 use crate::stop::ImageStop;
 use blk_base::{Device, NoMemory};
@@ -34,6 +35,7 @@ fn read_first_cluster<D: Device>(alloc: Global, dev: &mut D) -> Result<Vec<u8>, 
     ensures read { IfOk result
         (λ cluster. (file : List ℕ) → D.content dev.old ≡ Some file
         → cluster.items ≡ bytes_at file 0 CLUSTER) }
+    ensures past { IfOk result (λ cluster. AreZeroPast (D.size dev.old) 0 cluster.items) }
     ensures stop { IfErr result (λ stop. refusal_of stop ≡ None) }
     ensures device { Reads D.Device (fault_of_image result) dev.old dev.new }
     ensures call { FailsAt (λ call. call ≡ DeviceCall.Read 0 CLUSTER)
@@ -46,6 +48,17 @@ fn read_first_cluster<D: Device>(alloc: Global, dev: &mut D) -> Result<Vec<u8>, 
             count: dev.faults(),
         }),
     }
+}
+
+/// The header of a file of `len` bytes by its first cluster, or why it is refused.
+fn judge_header(cluster: &[u8], len: u64) -> Result<Header, HeaderStop>
+    requires { AreZeroPast len 0 cluster.now }
+    ensures refused { refusal_in result ≡ header_refusal cluster.now len }
+    ensures fields { IfOk result (λ header. header ≡ header_of cluster.now) }
+    ensures limits { IfOk result (λ header. IsWithinLimits header len) }
+    ensures refusal { IfErr result (λ stop. IsRefusalFor (ImageStop.Header stop) len) }
+{
+    read_header(cluster, len)
 }
 
 /// The header of the image on a device, or why it is refused. A file that is too short for one isn't read.
@@ -68,7 +81,7 @@ pub(crate) fn open_header<D: Device>(alloc: Global, dev: &mut D) -> Result<Heade
         return Err(ImageStop::Header(HeaderStop::Short));
     }
     let cluster = read_first_cluster(alloc, dev)?;
-    match read_header(&cluster, len) {
+    match judge_header(&cluster, len) {
         Ok(header) => Ok(header),
         Err(stop) => Err(ImageStop::Header(stop)),
     }

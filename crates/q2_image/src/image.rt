@@ -38,6 +38,7 @@ impl Image {
     ghost use Rattle.q2_image.specs.Guest.{file_entry, guest_bytes};
     ghost use Rattle.q2_image.specs.Reading.{IsHost, IsWithinCluster};
     ghost use Rattle.blk_base.specs.Calls.{FailedLast};
+    ghost use Rattle.blk_base.specs.Content.{AreZeroPast};
     ghost use Rattle.blk_base.specs.Device.{Reads};
     ghost use Rattle.blk_base.specs.declared.device.DeviceCall.{DeviceCall};
     ghost use Rattle.q2_image.specs.Writing.{TellsFault, count_of, own_place};
@@ -103,6 +104,7 @@ impl Image {
         ensures read { OnOk result
             ((file backing : List ℕ) → D.content dev.old ≡ Some file → IsImageOf file self.now
             → buf.new ≡ guest_bytes file backing span.start span.len) }
+        ensures past { OnOk result (AreZeroPast (D.size dev.old) (own_place self.now span) buf.new) }
         ensures cause { IfErr result TellsFault }
         ensures device { Reads D.Device (count_of result) dev.old dev.new }
         ensures call { OnErr result (FailedLast

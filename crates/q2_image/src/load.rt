@@ -1,17 +1,16 @@
 //! Loading the refcount table and the mapping's tables of an image, and which of their refusals comes first.
 
-ghost use Rattle.std.specs.Prelude.{◌≡◌, ◌⊎◌, ℕ, List, Some, None, Option, IfOk, IfErr};
+ghost use Rattle.std.specs.Prelude.{◌≡◌, ◌⊎◌, ℕ, None, Option, Ok, IfOk, IfErr};
 ghost use Rattle.blk_base.specs.Calls.{FailsAt};
 ghost use Rattle.blk_base.specs.Device.{Reads};
+ghost use Rattle.blk_base.specs.Files.{WasRead};
 ghost use Rattle.q2_format.specs.Header.{CanBeRead};
-ghost use Rattle.q2_format.specs.Sizes.{cluster_size};
-ghost use Rattle.q2_format.specs.Tables.{active_tree, refcount_table};
+ghost use Rattle.q2_format.specs.Tables.{refcount_table};
 ghost use Rattle.q2_refs.specs.Loading.{table_call};
-ghost use Rattle.q2_tables.specs.Kept.{IsTreeOf};
 ghost use Rattle.q2_tables.specs.Loading.{IsLoaded, IsTablesCall};
 ghost use Rattle.q2_image.specs.OpeningCalls.{AreBlocksPlaced};
-ghost use Rattle.q2_image.specs.Opening.{IsNoHeader, Judges, fault_of_image, place_stops};
-ghost use Rattle.q2_image.specs.Loading.{table_stops, reserved_entry, IsTableOf, IsTableRead, IsTableAnswer, TableTells};
+ghost use Rattle.q2_image.specs.Opening.{IsNoHeader, fault_of_image, place_stops};
+ghost use Rattle.q2_image.specs.Loading.{reserved_entry, AnswersTable, AnswersWords, IsTableRead, IsTableAnswer, words_in};
 ghost use Rattle.q2_image.specs.Merge.{behind_reserved, merged_stop};
 
 use crate::counting::{RefTable, load_ref_table};
@@ -90,18 +89,11 @@ fn load_behind<D: Device>(
 ) -> Result<(Vec<u64>, Tables), ImageStop>
     requires readable { CanBeRead header.now (D.size dev.old) }
     requires placed { place_stops header.now (D.size dev.old) ≡ None }
-    requires told { (file : List ℕ) → D.content dev.old ≡ Some file
-        → TableTells file header.now (D.size dev.old) None (reserved_entry table)
-        × IsTableOf file header.now table }
+    requires words { WasRead (D.content dev.old) (λ file. refcount_table file header.now)
+        (AnswersTable header.now (D.size dev.old) (Ok table)) }
     requires read { IsTableAnswer header.now (D.size dev.old) table }
-    ensures judged { (file : List ℕ) → D.content dev.old ≡ Some file
-        → Judges (table_stops header.now (D.size dev.old) (refcount_table file header.now)
-        (active_tree file header.now)) result }
-    ensures table { IfOk result
-        (λ both. (file : List ℕ) → D.content dev.old ≡ Some file
-        → both.0.items ≡ refcount_table file header.now) }
-    ensures tree { IfOk result (λ both. (file : List ℕ) → D.content dev.old ≡ Some file
-        → IsTreeOf (cluster_size header.now.cluster_bits) both.1 (active_tree file header.now)) }
+    ensures words { WasRead (D.content dev.old) (words_in header.now)
+        (AnswersWords header.now (D.size dev.old) (λ both. both.0.items) (λ both. both.1) result) }
     ensures has_table { IfOk result (λ both. IsTableRead header.now (D.size dev.old) both.0.items) }
     ensures has_tables { IfOk result (λ both. IsLoaded header.now (D.size dev.old) both.1) }
     ensures no_header { IfErr result IsNoHeader }
@@ -127,14 +119,8 @@ pub(crate) fn load<D: Device>(
 ) -> Result<(Vec<u64>, Tables), ImageStop>
     requires readable { CanBeRead header.now (D.size dev.old) }
     requires placed { place_stops header.now (D.size dev.old) ≡ None }
-    ensures judged { (file : List ℕ) → D.content dev.old ≡ Some file
-        → Judges (table_stops header.now (D.size dev.old) (refcount_table file header.now)
-        (active_tree file header.now)) result }
-    ensures table { IfOk result
-        (λ both. (file : List ℕ) → D.content dev.old ≡ Some file
-        → both.0.items ≡ refcount_table file header.now) }
-    ensures tree { IfOk result (λ both. (file : List ℕ) → D.content dev.old ≡ Some file
-        → IsTreeOf (cluster_size header.now.cluster_bits) both.1 (active_tree file header.now)) }
+    ensures words { WasRead (D.content dev.old) (words_in header.now)
+        (AnswersWords header.now (D.size dev.old) (λ both. both.0.items) (λ both. both.1) result) }
     ensures has_table { IfOk result (λ both. IsTableRead header.now (D.size dev.old) both.0.items) }
     ensures has_tables { IfOk result (λ both. IsLoaded header.now (D.size dev.old) both.1) }
     ensures no_header { IfErr result IsNoHeader }

@@ -6,14 +6,14 @@ ghost use Rattle.blk_base.specs.Device.{Reads};
 ghost use Rattle.q2_format.specs.Header.{CanBeRead, IsWithinLimits, refused_where};
 ghost use Rattle.q2_format.specs.References.{cluster_bound, reach_of};
 ghost use Rattle.q2_format.specs.Sound.{image_refusal, is_header_full, HeaderFull};
-ghost use Rattle.q2_refs.specs.Kept.{AreAbsentFree};
 ghost use Rattle.q2_refs.specs.Loading.{IsBlockCall};
 ghost use Rattle.q2_tables.specs.Loading.{IsLoaded};
-ghost use Rattle.q2_image.specs.Opening.{Judges, fault_of_image, IsNoFault, IsRefusalFor, ArePlaced, uses_in, overlap_stop, names_stops, place_stops};
+ghost use Rattle.q2_image.specs.Opening.{Judges, fault_of_image, IsNoFault, ArePlaced, uses_in, overlap_stop, names_stops, place_stops};
 ghost use Rattle.q2_image.specs.OpeningCalls.{AreTablesRead, IsOpeningCall};
-ghost use Rattle.q2_image.specs.Placed.{IsPlacedIn};
+ghost use Rattle.q2_image.specs.Placed.{AreKept, FitsFile, kept_stops};
+ghost use Rattle.q2_image.specs.Refusals.{IsRefusalFor};
 ghost use Rattle.q2_image.specs.Seen.{IsSeen};
-ghost use Rattle.q2_image.specs.Loading.{counts_loaded, HasCounts, IsTableRead, IsReadFrom};
+ghost use Rattle.q2_image.specs.Loading.{counts_loaded, IsTableRead, IsReadFrom};
 ghost use Rattle.q2_image.specs.Image.{IsImageOf, IsOpen};
 ghost use Rattle.q2_format.specs.declared.header.HeaderStop.TheVariants.{Short};
 ghost use Rattle.q2_format.specs.declared.header.TheConstants.{MIN_HEADER_LENGTH};
@@ -98,17 +98,12 @@ fn finish(
     requires readable { CanBeRead header len }
     requires limits { IsWithinLimits header len }
     requires places { place_stops header len ≡ None }
-    requires counts { HasCounts header len (counts_loaded header len) refs }
-    requires table { IsTableRead header len refs.table }
-    requires absent { AreAbsentFree refs }
-    requires loaded { IsLoaded header len tables }
+    requires kept { AreKept header len refs tables }
     requires count { length seen.now.named ≡ cluster_bound header len }
     requires seen { IsSeen (uses_in header refs.table tables.l1 tables.words) seen.now }
     requires once { overlap_stop (uses_in header refs.table tables.l1 tables.words)
         (cluster_bound header len) ≡ None }
-    ensures judged { Judges
-        (names_stops header (uses_in header refs.table tables.l1 tables.words) refs.counts
-        (cluster_bound header len)) result }
+    ensures judged { Judges (kept_stops header len refs tables) result }
     ensures known { IfOk result
         (λ image. image
         ≡ record {
@@ -116,7 +111,7 @@ fn finish(
           tables = tables;
           refs = record refs { counts = take (reach_of header len) refs.counts };
         }) }
-    ensures placed { IfOk result (IsPlacedIn len) }
+    ensures fits { IfOk result (FitsFile len) }
     ensures no_fault { IfErr result IsNoFault }
 {
     check_names(&header, &refs, seen)?;
@@ -151,7 +146,7 @@ fn open_tables<D: Device>(
         (λ image. (file : List ℕ) → D.content dev.old ≡ Some file → IsImageOf file image) }
     ensures reach { IfOk result
         (λ image. length image.refs.counts ≡ reach_of image.header (D.size dev.old)) }
-    ensures placed { IfOk result (IsPlacedIn (D.size dev.old)) }
+    ensures fits { IfOk result (FitsFile (D.size dev.old)) }
     ensures refusal { IfErr result (λ stop. IsRefusalFor stop (D.size dev.old)) }
     ensures device { Reads D.Device (fault_of_image result) dev.old dev.new }
     ensures call { FailsAt (λ call.
@@ -182,7 +177,7 @@ pub fn open_image<D: Device>(alloc: Global, dev: &mut D) -> Result<Image, ImageS
         (λ image. (file : List ℕ) → D.content dev.old ≡ Some file → IsImageOf file image) }
     ensures reach { IfOk result
         (λ image. length image.refs.counts ≡ reach_of image.header (D.size dev.old)) }
-    ensures placed { IfOk result (IsPlacedIn (D.size dev.old)) }
+    ensures fits { IfOk result (FitsFile (D.size dev.old)) }
     ensures open { IfOk result IsOpen }
     // what a refusal says of the length, whatever the file holds
     ensures refusal { IfErr result (λ stop. IsRefusalFor stop (D.size dev.old)) }

@@ -44,7 +44,8 @@ returns-in-Ok-clause-writes g c =
 pub returns-in-Failed-clause-writes : goal.returns-in-Failed-clause-writes
 returns-in-Failed-clause-writes g c =
     let done : ℕ = c.in-Err.stop.done in
-    let failed = (c.in-Err.ensures.failed c.in-Failed.is).1 in
+    let stopped = c.in-Err.ensures.failed c.in-Failed.is in
+    let failed = stopped.1 in
     record {
       made = write_of c.args.at (take done c.args.bytes.now) ∷ [];
       part = inr (record { n = done; short = failed.part; sector = failed.sector; first = refl }, refl);
@@ -57,6 +58,10 @@ returns-in-Failed-clause-writes g c =
         capacity = c.in-Err.ensures.capacity;
         faults = c.in-Err.ensures.faults;
       };
-      cause = (subst (λ (n : ℕ). Rose (g.D.Device.faults c.args.dev.now) n) (sym c.faults.ensures) failed.rose, c.faults.ensures);
+      cause = (
+        (write_of c.args.at c.args.bytes.now, refl, stopped.0),
+        subst (λ (n : ℕ). Rose (g.D.Device.faults c.args.dev.now) n) (sym c.faults.ensures) failed.rose,
+        c.faults.ensures,
+      );
       call = write_failed c.args.at 0 c.args.bytes.now (write_of c.args.at (take done c.args.bytes.now)) c.in-Err.stop.why _ _ c.in-Failed.is c.in-Err.ensures.call;
     }

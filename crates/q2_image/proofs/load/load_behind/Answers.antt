@@ -1,57 +1,62 @@
-use Rattle.std.proofs.Common.{◌≡◌, ℕ, Option, None, sym, ap, subst, ◌∙◌}
+use Rattle.std.proofs.Common.{◌≡◌, ℕ, List, Option, Ok, Err, Vec, Global, sym, ap, subst, ◌∙◌}
 use Rattle.blk_base.specs.Calls.{FailsAt}
 use Rattle.blk_base.specs.Device.{Reads}
 use Rattle.blk_base.specs.declared.device.DeviceCall.{DeviceCall}
-use Rattle.q2_format.specs.Tables.{active_tree, refcount_table}
-use Rattle.q2_tables.specs.Loading.{fault_in_tables, IsTablesCall}
-use Rattle.q2_image.specs.Loading.{table_stops, reserved_entry, TableTells, IsTableOf, IsTableAnswer}
-use Rattle.q2_image.specs.Opening.{IsNoHeader, Names, fault_in_image}
+use Rattle.q2_tables.specs.Kept.{KeptTables}
+use Rattle.q2_tables.specs.Loading.{AnswersTree, fault_in_tables, IsTablesCall}
+use Rattle.q2_image.specs.Loading.{AnswersTable, AnswersWords, IsTableAnswer, IsTableOf, reserved_entry}
+use Rattle.q2_image.specs.Opening.{IsNoHeader, fault_in_image}
 use Rattle.q2_image.specs.Merge.{merged_stop}
 use Rattle.q2_image.specs.declared.counting.RefTable.{RefTable}
-use Rattle.q2_image.specs.declared.stop.ImageStop.{ImageStop}
 use Rattle.q2_image.proofs.Faults.{merged_fault}
-use Rattle.q2_image.proofs.Merged.{judged_ok, judged_reserved, judged_stop}
 use Rattle.q2_image.proofs.Refused.{merged_behind}
+use Rattle.q2_image.proofs.WordsRead.{both_answered, reserved_answered, tree_answered, words_read}
 use Rattle.q2_image.proofs.load.load_behind.Goals as goal
 
-pub returns-in-Ok-words_of-clause-judged : goal.returns-in-Ok-words_of-clause-judged
-returns-in-Ok-words_of-clause-judged g c = λ file told.
-    let h = c.args.header.now in
-    let len = g.D.Device.size c.args.dev.now in
-    let P : RefTable → Type 0 = λ table. TableTells file h len None (reserved_entry table) in
-    judged_ok file h len (active_tree file h) c.requires.placed (subst P c.in-Ok-words_of.ensures.read (c.requires.told file told).0) (c.in-Ok.ensures.told file told).0
+-- what is loaded
+abbrev Both : Type 0
+Both = Vec ℕ Global × KeptTables
 
-pub returns-in-Ok-words_of-clause-table : goal.returns-in-Ok-words_of-clause-table
-returns-in-Ok-words_of-clause-table g c = λ file told.
-    let P : RefTable → Type 0 = λ table. IsTableOf file c.args.header.now table in
-    subst P c.in-Ok-words_of.ensures.read (c.requires.told file told).1
+pub returns-in-Ok-words_of-clause-words : goal.returns-in-Ok-words_of-clause-words
+returns-in-Ok-words_of-clause-words g c =
+    let h = c.args.header.now in
+    let len : ℕ = g.D.Device.size c.args.dev.now in
+    let table_of : Both → List ℕ = λ both. both.0.items in
+    let tables_of : Both → KeptTables = λ both. both.1 in
+    let a : Both = (c.in-Ok-words_of.words, c.in-Ok.tables) in
+    let read = c.args.table in
+    let is = c.in-Ok-words_of.ensures.read in
+    let S : RefTable → Type 0 = λ table. (words : List ℕ) → IsTableOf words table → c.in-Ok-words_of.words.items ≡ words in
+    words_read (g.D.Device.content c.args.dev.now) h (AnswersTable h len (Ok read)) (AnswersTree h len (Ok c.in-Ok.tables)) (AnswersWords h len table_of tables_of (Ok a))
+    (both_answered h len table_of tables_of c.requires.placed a read (ap reserved_entry is) (subst S (sym is) (λ words same. same))) c.requires.words c.in-Ok.ensures.read
 
 pub returns-in-Ok-words_of-clause-has_table : goal.returns-in-Ok-words_of-clause-has_table
 returns-in-Ok-words_of-clause-has_table g c =
     let P : RefTable → Type 0 = λ table. IsTableAnswer c.args.header.now (g.D.Device.size c.args.dev.now) table in
     subst P c.in-Ok-words_of.ensures.read c.requires.read
 
-pub returns-in-Ok-words_of-clause-tree : goal.returns-in-Ok-words_of-clause-tree
-returns-in-Ok-words_of-clause-tree g c = λ file told. (c.in-Ok.ensures.told file told).1
-
-pub returns-in-Err-words_of-clause-judged : goal.returns-in-Err-words_of-clause-judged
-returns-in-Err-words_of-clause-judged g c = λ file told.
+pub returns-in-Err-words_of-clause-words : goal.returns-in-Err-words_of-clause-words
+returns-in-Err-words_of-clause-words g c =
     let h = c.args.header.now in
-    let len = g.D.Device.size c.args.dev.now in
+    let len : ℕ = g.D.Device.size c.args.dev.now in
+    let table_of : Both → List ℕ = λ both. both.0.items in
+    let tables_of : Both → KeptTables = λ both. both.1 in
+    let read = c.args.table in
+    let stop = c.in-Err-words_of.stop in
     let found = c.in-Err-words_of.ensures.reserved in
-    let P : RefTable → Type 0 = λ table. TableTells file h len None (reserved_entry table) in
-    let J : ImageStop → Type 0 = λ stop. Names (table_stops h len (refcount_table file h) (active_tree file h)) stop in
-    subst J (sym found.2)
-    (judged_reserved file h len found.0 (active_tree file h) c.requires.placed (subst P found.1 (c.requires.told file told).0) (c.in-Ok.ensures.told file told).0)
+    words_read (g.D.Device.content c.args.dev.now) h (AnswersTable h len (Ok read)) (AnswersTree h len (Ok c.in-Ok.tables)) (AnswersWords h len table_of tables_of (Err stop))
+    (reserved_answered h len table_of tables_of c.requires.placed c.in-Ok.tables read found.0 stop found.1 found.2) c.requires.words c.in-Ok.ensures.read
 
-pub returns-in-Err-clause-judged : goal.returns-in-Err-clause-judged
-returns-in-Err-clause-judged g c = λ file told.
+pub returns-in-Err-clause-words : goal.returns-in-Err-clause-words
+returns-in-Err-clause-words g c =
     let h = c.args.header.now in
-    let len = g.D.Device.size c.args.dev.now in
-    let J : ImageStop → Type 0 = λ stop. Names (table_stops h len (refcount_table file h) (active_tree file h)) stop in
-    let M : Option ℕ → Type 0 = λ reserved. J (merged_stop h reserved c.in-Err.stop) in
-    subst J (sym c.merge.ensures) (subst M (sym c.reserved_in.ensures)
-    (judged_stop file h len (reserved_entry c.args.table) (active_tree file h) c.in-Err.stop c.requires.placed (c.requires.told file told).0 (c.in-Err.ensures.told file told)))
+    let len : ℕ = g.D.Device.size c.args.dev.now in
+    let table_of : Both → List ℕ = λ both. both.0.items in
+    let tables_of : Both → KeptTables = λ both. both.1 in
+    let read = c.args.table in
+    let merged : c.merge.result ≡ merged_stop h (reserved_entry read) c.in-Err.stop = c.merge.ensures ∙ ap (λ (reserved : Option ℕ). merged_stop h reserved c.in-Err.stop) c.reserved_in.ensures in
+    words_read (g.D.Device.content c.args.dev.now) h (AnswersTable h len (Ok read)) (AnswersTree h len (Err c.in-Err.stop)) (AnswersWords h len table_of tables_of (Err c.merge.result))
+    (tree_answered h len table_of tables_of c.requires.placed read c.in-Err.stop c.merge.result merged) c.requires.words c.in-Err.ensures.read
 
 pub returns-in-Err-clause-device : goal.returns-in-Err-clause-device
 returns-in-Err-clause-device g c =

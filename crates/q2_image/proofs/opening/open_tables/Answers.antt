@@ -2,16 +2,17 @@ use Rattle.std.proofs.Common.{◌≡◌, ℕ, List, None, sym, subst, ◌∙◌}
 use Rattle.std.proofs.lemmas.Result.{err_from_is_err_and}
 use Rattle.blk_base.proofs.DeviceLemmas.{untouched-same}
 use Rattle.q2_format.specs.References.{cluster_bound}
-use Rattle.q2_image.specs.Loading.{counts_loaded, HasCounts, IsTableRead}
-use Rattle.q2_image.specs.Opening.{Names, ArePlaced, uses_in, overlap_stop}
+use Rattle.q2_image.specs.Loading.{counts_loaded, HasCounts}
+use Rattle.q2_image.specs.Opening.{Judges, Names, ArePlaced, uses_in, overlap_stop}
+use Rattle.q2_image.specs.Placed.{AreKept, kept_stops}
 use Rattle.q2_image.specs.Seen.{IsSeen}
 use Rattle.q2_image.proofs.Opened.{are_placed}
 use Rattle.q2_image.proofs.Faults.{refused_quietly, answered_quietly}
 use Rattle.q2_image.proofs.Order.{none_named}
 use Rattle.q2_image.proofs.Whole.{overlap_named, loaded_from, last_judged, ok_image, ok_reach, ok_reach_at}
 use Rattle.q2_image.proofs.OpeningCalls.{IsCountsCall, no_call, no_call_passed, call_passed, counts_read, tables_read}
-use Rattle.q2_image.proofs.Placed.{ok_placed_at}
-use Rattle.q2_image.proofs.Refused.{behind_header, last_refused, overlap_behind, unnamed_for}
+use Rattle.q2_image.proofs.Placed.{kept_refs, ok_fits_at}
+use Rattle.q2_image.proofs.Refused.{last_refused, overlap_refused, unnamed_for}
 use Rattle.q2_image.proofs.opening.open_tables.Goals as goal
 
 pub name_once-requires-clause-placed : goal.name_once-requires-clause-placed
@@ -21,10 +22,13 @@ name_once-requires-clause-placed g c =
     let W : List ℕ → Type 0 = λ words. ArePlaced c.args.header c.length-len.result words c.args.tables.l1 c.args.tables.words in
     subst W (sym c.as_slice.ensures.value) (subst P (sym c.length-len.ensures) here)
 
-pub finish-requires-clause-counts : goal.finish-requires-clause-counts
-finish-requires-clause-counts g c =
-    let P : ℕ → Type 0 = λ n. HasCounts c.args.header n (counts_loaded c.args.header n) c.in_ok-refs.refs in
-    subst P (sym c.length-len.ensures) c.in_ok-refs.ensures.loaded
+pub finish-requires-clause-kept : goal.finish-requires-clause-kept
+finish-requires-clause-kept g c =
+    let h = c.args.header in
+    let P : ℕ → Type 0 = λ n. AreKept h n c.in_ok-refs.refs c.args.tables in
+    subst P (sym c.length-len.ensures)
+    (kept_refs h (g.D.Device.size c.args.dev.now) c.args.table.items c.in_ok-refs.refs c.args.tables c.in_ok-refs.ensures.table c.requires.table c.requires.loaded c.in_ok-refs.ensures.loaded
+    c.in_ok-refs.ensures.absent)
 
 pub finish-requires-clause-seen : goal.finish-requires-clause-seen
 finish-requires-clause-seen g c =
@@ -96,20 +100,17 @@ pub returns-clause-call : goal.returns-clause-call
 returns-clause-call g c =
     no_call (IsCountsCall c.args.header (g.D.Device.size c.args.dev.now) (g.D.Device.content c.args.dev.now) c.args.table.items) c.finish.result _ c.finish.ensures.no_fault
 
-pub finish-requires-clause-table : goal.finish-requires-clause-table
-finish-requires-clause-table g c =
-    let P : ℕ → Type 0 = λ n. IsTableRead c.args.header n c.args.table.items in
-    let W : List ℕ → Type 0 = λ words. IsTableRead c.args.header c.length-len.result words in
-    subst W (sym c.in_ok-refs.ensures.table) (subst P (sym c.length-len.ensures) c.requires.table)
-
-pub returns-clause-placed : goal.returns-clause-placed
-returns-clause-placed g c = ok_placed_at c.finish.result c.length-len.result (g.D.Device.size c.args.dev.now) c.length-len.ensures c.finish.ensures.placed
+pub returns-clause-fits : goal.returns-clause-fits
+returns-clause-fits g c = ok_fits_at c.finish.result c.length-len.result (g.D.Device.size c.args.dev.now) c.length-len.ensures c.finish.ensures.fits
 
 pub returns-in_err-seen-clause-refusal : goal.returns-in_err-seen-clause-refusal
 returns-in_err-seen-clause-refusal g c =
     let p = err_from_is_err_and c.from_residual.result c.from_residual.ensures.1 in
-    rw (p.1, p.2) (behind_header c.args.header (g.D.Device.size c.args.dev.now) c.in_err-seen.field-0.0 c.requires.readable c.requires.limits
-    (overlap_behind _ (cluster_bound c.args.header c.length-len.result) c.in_err-seen.field-0.0 c.in_err-seen.ensures.judged))
+    let h = c.args.header in
+    let stop = c.in_err-seen.field-0.0 in
+    let O : List ℕ → ℕ → Type 0 = λ table n. Names (overlap_stop (uses_in h table c.args.tables.l1 c.args.tables.words) (cluster_bound h n)) stop in
+    let named = subst (O c.args.table.items) c.length-len.ensures (subst (λ table. O table c.length-len.result) c.as_slice.ensures.value c.in_err-seen.ensures.judged) in
+    rw (p.1, p.2) (overlap_refused h (g.D.Device.size c.args.dev.now) c.args.table.items c.args.tables stop c.requires.readable c.requires.limits c.requires.places c.requires.table c.requires.loaded named)
 
 pub returns-in_err-refs-clause-refusal : goal.returns-in_err-refs-clause-refusal
 returns-in_err-refs-clause-refusal g c =
@@ -117,5 +118,10 @@ returns-in_err-refs-clause-refusal g c =
     rw (p.1, p.2) (unnamed_for c.in_err-refs.field-0.0 (g.D.Device.size c.args.dev.now) c.in_err-refs.ensures.stop)
 
 pub returns-clause-refusal : goal.returns-clause-refusal
-returns-clause-refusal g c = last_refused c.args.header (g.D.Device.size c.args.dev.now) (cluster_bound c.args.header c.length-len.result)
-    (uses_in c.args.header c.in_ok-refs.refs.table c.args.tables.l1 c.args.tables.words) c.in_ok-refs.refs.counts c.finish.result c.requires.readable c.requires.limits c.finish.ensures.judged
+returns-clause-refusal g c =
+    let h = c.args.header in
+    let J : ℕ → Type 0 = λ n. Judges (kept_stops h n c.in_ok-refs.refs c.args.tables) c.finish.result in
+    last_refused h (g.D.Device.size c.args.dev.now) c.in_ok-refs.refs c.args.tables c.finish.result c.requires.readable c.requires.limits c.requires.places
+    (kept_refs h (g.D.Device.size c.args.dev.now) c.args.table.items c.in_ok-refs.refs c.args.tables c.in_ok-refs.ensures.table c.requires.table c.requires.loaded c.in_ok-refs.ensures.loaded
+    c.in_ok-refs.ensures.absent)
+    (subst J c.length-len.ensures c.finish.ensures.judged)

@@ -46,8 +46,9 @@ returns-in-Err-clause-writes g c =
     let some : c.args.self.now.header.autoclear ≢ 0 = λ none. c.if-self-eq0.false (ap (λ (k : Known). k.header.autoclear) c.self.view_is ∙ none) in
     let stop = c.in-Err.field-0 in
     let nothing = nothing_done stop _ _ _ c.in-Err.ensures.no_space c.in-Err.ensures.failed in
-    let rose = rose_by_why stop.why stop.done _ _ _ c.in-Err.ensures.no_space c.in-Err.ensures.failed (clear_fits c.args.self.now (g.D.Device.capacity c.args.dev.now) some c.requires.fits) in
-    let failed = failed_by_why stop.why stop.done _ _ _ c.in-Err.ensures.no_space (clear_fits c.args.self.now (g.D.Device.capacity c.args.dev.now) some c.requires.fits) in
+    let fits = clear_fits c.args.self.now (g.D.Device.capacity c.args.dev.now) some c.requires.fits in
+    let rose = rose_by_why stop.why stop.done _ _ _ c.in-Err.ensures.no_space c.in-Err.ensures.failed fits in
+    let failed = failed_by_why stop.why stop.done _ _ _ c.in-Err.ensures.no_space fits in
     let R : ℕ → Type 0 = λ n. Rose (g.D.Device.faults c.args.dev.now) n in
     cleared_part g.D.Device c.args.self.now stop.done c.faults.result stop.why c.args.dev.now c.write_at.new.self some nothing
     (record {
@@ -58,4 +59,4 @@ returns-in-Err-clause-writes g c =
       flushed = c.in-Err.ensures.flushed;
       capacity = c.in-Err.ensures.capacity;
       faults = c.in-Err.ensures.faults;
-    }) (subst R (sym c.faults.ensures) rose) c.faults.ensures failed c.in-Err.ensures.call
+    }) fits (subst R (sym c.faults.ensures) rose) c.faults.ensures failed c.in-Err.ensures.call
