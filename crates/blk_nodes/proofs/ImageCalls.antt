@@ -55,8 +55,8 @@ pub cluster_cause : {D : Type 0} (g : Ghosts D) (fits : Type 0) (own : Option �
 cluster_cause g fits own n image steps (Ok done) left before now old new number first last is fit full =
     (fit (λ bad. absurd (cc bad)), last ∙ is.writes.cause.1 ∙ sym first)
 cluster_cause g fits own n image steps (Err (stops.Io count)) left before now old new number first last is fit full =
-    let rose = is.writes.cause.0 in
-    let here = is.writes.cause.1 in
+    let rose = is.writes.cause.1 in
+    let here = is.writes.cause.2 in
     (fit (λ bad. absurd (cc bad)), record { named = number; rose = rw first rose; now = here ∙ sym last })
 cluster_cause g fits own n image steps (Err stops.NoSpace) left before now old new number first last is fit full =
     let all = full refl in (all.0, number, all.1, all.2)

@@ -16,9 +16,10 @@ use Rattle.q2_format.specs.declared.header.HeaderStop.TheVariants.{Short}
 use Rattle.q2_format.specs.declared.header.TheConstants.{MIN_HEADER_LENGTH}
 use Rattle.q2_format.specs.declared.entries.L2Entry.TheVariants as entries
 use Rattle.q2_image.specs.Image.{Known, IsImageOf, IsOpen, clusters_in, entry_in}
-use Rattle.q2_image.specs.Opening.{IsRefusalFor, Names, fault_in_image}
+use Rattle.q2_image.specs.Opening.{Names, fault_in_image}
 use Rattle.q2_image.specs.OpeningCalls.{IsOpeningCall}
-use Rattle.q2_image.specs.Placed.{IsPlacedIn}
+use Rattle.q2_image.specs.Placed.{FitsFile}
+use Rattle.q2_image.specs.Refusals.{IsRefusalFor}
 use Rattle.q2_image.specs.declared.stop.ImageStop.{ImageStop}
 use Rattle.q2_image.specs.declared.stop.ImageStop.TheVariants as images
 use Rattle.blk_nodes.specs.Adding.{with_node_row, file_edge, kind_with, IsDenied, IsAllowed}
@@ -92,7 +93,7 @@ pub record IsOpenedOn (device : DeviceSeen) (image : Known) : Type 0 where
   pub known : (bytes : List ℕ) → device.content ≡ Some bytes → IsImageOf bytes image
   pub reach : length image.refs.counts ≡ reach_of image.header device.size
   pub long : MIN_HEADER_LENGTH ≤ device.size
-  pub placed : IsPlacedIn device.size image
+  pub fits : FitsFile device.size image
 
 -- why it isn't opened: one that is too short for a header, for that
 pub record IsUnopenedOn (old new : DeviceSeen) (stop : ImageStop) : Type 0 where

@@ -213,8 +213,3 @@ pub room-kept : (t : RunTable) (devices : List DeviceSeen) (old new : StoreSeen)
 room-kept t [] old new fault back = ap (λ (s : StoreSeen). s.room) back.0
 room-kept t (device ∷ devices) old new fault back =
     room-kept t devices back.0 new back.2 back.4 ∙ ap (λ (s : StoreSeen). s.room) back.3.kept
-
-pub call-kept : (t : RunTable) (devices : List DeviceSeen) (old new : StoreSeen) (fault : Option FaultAt) → AreBack t devices old new fault → new.failed_call ≡ old.failed_call
-call-kept t [] old new fault back = ap (λ (s : StoreSeen). s.failed_call) back.0
-call-kept t (device ∷ devices) old new fault back =
-    call-kept t devices back.0 new back.2 back.4 ∙ ap (λ (s : StoreSeen). s.failed_call) back.3.kept

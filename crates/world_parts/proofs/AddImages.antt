@@ -4,7 +4,7 @@ use Rattle.std.specs.Prelude.{bytes_eq, is_none, is_some, if◌then◌else◌, n
 use Rattle.std.proofs.lemmas.Bool.{not-false}
 use Rattle.blk_graph.proofs.Members.{find-Some}
 use Rattle.q2_format.specs.References.{reach_of}
-use Rattle.q2_image.specs.Placed.{IsPlacedIn}
+use Rattle.q2_image.specs.Placed.{FitsFile}
 use Rattle.q2_format.specs.declared.header.Header.{Header}
 use Rattle.q2_format.specs.declared.header.TheConstants.{MIN_HEADER_LENGTH}
 use Rattle.q2_image.specs.Image.{Known}
@@ -73,7 +73,7 @@ image-stays old new file image risen opened =
         known = λ bytes told. opened.on.known bytes (sym (ap (λ (d : DeviceSeen). d.content) now.2.same) ∙ told);
         reach = opened.on.reach ∙ ap (λ (n : ℕ). reach_of image.header n) (sym (ap (λ (d : DeviceSeen). d.size) now.2.same));
         long = subst (λ (n : ℕ). MIN_HEADER_LENGTH ≤ n) (sym (ap (λ (d : DeviceSeen). d.size) now.2.same)) opened.on.long;
-        placed = subst (λ (n : ℕ). IsPlacedIn n image) (sym (ap (λ (d : DeviceSeen). d.size) now.2.same)) opened.on.placed;
+        fits = subst (λ (n : ℕ). FitsFile n image) (sym (ap (λ (d : DeviceSeen). d.size) now.2.same)) opened.on.fits;
       };
     }
 

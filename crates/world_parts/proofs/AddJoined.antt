@@ -240,7 +240,7 @@ module _ (t : RunTable) (nodes : Nodes) (alike : AreNodesOf t nodes) (joined : I
           opened = record {
             device = of_node node device;
             held = held;
-            on = record { opened = on.opened; known = on.known; reach = on.reach; long = on.long; placed = on.placed };
+            on = record { opened = on.opened; known = on.known; reach = on.reach; long = on.long; fits = on.fits };
           };
           fits =
               ap (backing_stop image (backing_for t qcow2.backing)) (sizes-then (backing_for t qcow2.backing) there)
