@@ -58,12 +58,7 @@ fn read_file<S: Store>(alloc: Global, store: &mut S, name: &str) -> Result<Bytes
     ensures quiet { OnOk result (S.faults store.new ≡ S.faults store.old) }
 {
     match store.read_all(name, MAX_TEXT) {
-        Ok(bytes) => {
-            if bytes.len() as u64 > MAX_TEXT {
-                return Err(refused(alloc, name, 0, InputFlaw::TooLong));
-            }
-            Ok(bytes)
-        }
+        Ok(bytes) => Ok(bytes),
         Err(StoreStop::Absent) => Err(refused(alloc, name, 0, InputFlaw::Absent)),
         Err(StoreStop::TooLong) => Err(refused(alloc, name, 0, InputFlaw::TooLong)),
         Err(StoreStop::Failed) => Err(InputStop::Failed {
