@@ -1,5 +1,5 @@
 -- The nodes of a run, made step by step, and what stops them.
-use Rattle.std.proofs.Common.{◌≡◌, ℕ, ◌<◌, ◌≤◌, true, false, List, [], ◌∷◌, length, Some, Result, Ok, Err, refl, sym, ◌∙◌, ap, subst, arith}
+use Rattle.std.proofs.Common.{◌≡◌, ℕ, ◌<◌, ◌≤◌, Bool, true, false, List, [], ◌∷◌, length, Some, Result, Ok, Err, refl, sym, ◌∙◌, ap, subst, arith}
 use Rattle.std.specs.Prelude.{◌↔◌, IsSome, IsOk, IfErr, is_some}
 use Rattle.blk_base.specs.Calls.{FailsAt}
 use Rattle.blk_base.specs.Device.{CountsFault}
@@ -10,13 +10,13 @@ use Rattle.blk_graph.specs.declared.kind.NodeKind.{NodeKind}
 use Rattle.blk_graph.specs.Ids.{IsLowestFree}
 use Rattle.blk_graph.specs.Rule.{KeepsPermissions}
 use Rattle.blk_graph.proofs.Members.{Contains-here, Contains-there}
-use Rattle.q2_format.specs.Sizes.{cluster_size, clusters_for}
 use Rattle.q2_format.specs.Sound.{image_refusal}
 use Rattle.q2_format.specs.declared.header.Header.{Header}
 use Rattle.q2_format.specs.declared.header.HeaderStop.TheVariants as headers
-use Rattle.q2_format.specs.declared.header.TheConstants.{MAX_FILE_CLUSTERS, MIN_HEADER_LENGTH}
+use Rattle.q2_format.specs.declared.header.TheConstants.{MIN_HEADER_LENGTH}
 use Rattle.q2_image.specs.Image.{Known}
-use Rattle.q2_image.specs.Opening.{IsRefusalFor, Names, fault_in_image, refusal_of}
+use Rattle.q2_image.specs.Opening.{Names, fault_in_image, refusal_of}
+use Rattle.q2_image.specs.Refusals.{IsRefusalFor}
 use Rattle.q2_image.specs.OpeningCalls.{IsOpeningCall}
 use Rattle.q2_image.specs.declared.stop.ImageStop.{ImageStop}
 use Rattle.q2_image.specs.declared.stop.ImageStop.TheVariants as stops
@@ -30,7 +30,7 @@ use Rattle.blk_nodes.specs.Overlays.{IsOpened, IsOpenedOn, IsUnopened, KeptBy, w
 use Rattle.blk_nodes.specs.Reading.{HaveRisen}
 use Rattle.blk_nodes.specs.declared.backing.Backing.TheVariants.{Unsaid}
 use Rattle.blk_nodes.specs.declared.row.Driver.TheVariants as drivers
-use Rattle.qblk_core.specs.Format.{HasGoodLength}
+use Rattle.qblk_core.specs.Format.{CanHoldImage}
 use Rattle.qblk_core.specs.ImageNodes.{file_name, image_name, file_node_alone, asked_image, IsImageNodeOver, AreMadeOf}
 use Rattle.qblk_core.specs.Opened.{IsFileOver, IsOpenedAs, StopsAs, StopsImageNode, open_stop}
 use Rattle.qblk_core.specs.Run.{HasLengthFor, IsBadBytes}
@@ -80,11 +80,9 @@ qcow2-made d old new file id name image over zeroth named lowest is =
 found-device : (d : DeviceSeen) (old : Nodes) (file : ℕ) (x : DeviceSeen) → IsFileOver d old → device_in old.devices file ≡ Some x → x ≡ d
 found-device d old file x over held = first-found d x file (subst (λ (n : Nodes). device_in n.devices file ≡ Some x) over.is held)
 
--- a qcow2 image that is open has a length that can be opened
-pub good-qcow2 : (d : DeviceSeen) (image : Known) → IsOpenedOn d image → HasGoodLength Qcow2 d.size
-good-qcow2 d image on =
-    let limits = on.placed.limits in
-    (on.long, subst (λ (k : ℕ). clusters_for (cluster_size k) d.size ≤ MAX_FILE_CLUSTERS) limits.cluster_bits limits.file_clusters)
+-- a qcow2 image that is open fits its file
+pub can-hold : (names : Bool) (d : DeviceSeen) (image : Known) → IsOpenedOn d image → is_some image.header.name ≡ names → CanHoldImage names d.size
+can-hold names d image on is = (on.long, (image, on.fits, is))
 
 -- one that names a backing file
 pub needs-backing : (d : DeviceSeen) (old new : Nodes) (file : ℕ) (image : Known) → IsFileOver d old → IsOpened old.devices file image → new ≡ old → is_some image.header.name ≡ true
@@ -95,7 +93,7 @@ needs-backing d old new file image over is same named =
     let refused : IsRefusedImage Qcow2 NeedsBacking d = record {
       bytes = λ bytes told. (let known = on.known bytes told in (known.sound, subst (λ (h : Header). IsSome h.name) (sym known.header) named));
       there = λ bad. absurd (let no : ⊥ = cc bad in no);
-      length = good-qcow2 d image on;
+      length = can-hold true d image on named;
       cause = tt;
     } in
     record {

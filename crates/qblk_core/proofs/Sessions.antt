@@ -1,5 +1,5 @@
 -- The parts of a run put together.
-use Rattle.std.proofs.Common.{◌≡◌, ℕ, true, List, [], ◌∷◌, ◌++◌, refl, sym, ◌∙◌, ap, subst, arith, inl, inr, Option, Some}
+use Rattle.std.proofs.Common.{◌≡◌, ℕ, true, false, List, [], ◌∷◌, ◌++◌, refl, sym, ◌∙◌, ap, subst, arith, inl, inr, Option, Some}
 use Rattle.std.specs.Prelude.{is_some, length}
 use Rattle.blk_base.specs.declared.fault.FaultAt.{FaultAt}
 use Rattle.blk_base.specs.declared.fault.Outcome.{Outcome}
@@ -30,7 +30,7 @@ use Rattle.qblk_core.specs.declared.status.Status.TheVariants.{Done, Usage, Inpu
 use Rattle.qblk_core.proofs.Kept.{comes-start}
 use Rattle.qblk_core.proofs.Made.{made-good, made-devices}
 use Rattle.qblk_core.proofs.OneDevice.{first-found, head-same}
-use Rattle.qblk_core.proofs.Openings.{good-qcow2}
+use Rattle.qblk_core.proofs.Openings.{can-hold}
 
 -- what an engine shows before its first request
 abbrev pub begun : Nodes → Recorded → SessionSeen
@@ -67,7 +67,7 @@ good-length : (format : Format) (d : DeviceSeen) (over : Nodes) → IsImageNodeO
 good-length Raw d over is = is.0
 good-length Qcow2 d over is =
     let opened : IsOpened (d ∷ []) 0 is.0 = is.1 in
-    subst (λ (x : DeviceSeen). HasGoodLength Qcow2 x.size) (first-found d opened.device 0 opened.held) (good-qcow2 opened.device is.0 opened.on)
+    subst (λ (x : DeviceSeen). HasGoodLength Qcow2 x.size) (first-found d opened.device 0 opened.held) (can-hold false opened.device is.0 opened.on (ap is_some is.2))
 
 good-device : (format : Format) (first : Nodes) (d : DeviceSeen) → AreMadeOf format d first → Unfolds first → ((b : List ℕ) → d.content ≡ Some b → d.size ≡ length b)
     → IsGoodDevice format d

@@ -25,10 +25,11 @@ use Rattle.q2_format.specs.Header.{header_of}
 use Rattle.q2_format.specs.Sound.{IsSound, image_refusal}
 use Rattle.q2_format.specs.declared.header.HeaderStop.TheVariants as headers
 use Rattle.q2_format.specs.declared.header.TheConstants.{MAX_DISK_SIZE, MIN_HEADER_LENGTH}
-use Rattle.q2_image.specs.Opening.{IsRefusalFor, refusal_of}
+use Rattle.q2_image.specs.Opening.{refusal_of}
+use Rattle.q2_image.specs.Refusals.{IsRefusalFor}
 use Rattle.q2_image.specs.OpeningCalls.{IsOpeningCall}
 use Rattle.q2_image.specs.declared.stop.ImageStop.TheVariants as images
-use Rattle.qblk_core.specs.Format.{disk_by_format, HasGoodLength, IsGoodImage, IsSoundAs}
+use Rattle.qblk_core.specs.Format.{CanHoldImage, disk_by_format, HasGoodLength, IsGoodImage, IsSoundAs}
 use Rattle.qblk_core.specs.declared.words.Format.{Format}
 use Rattle.qblk_core.specs.declared.words.Format.TheVariants.{Raw, Qcow2}
 use Rattle.blk_base.specs.declared.fault.Outcome.{Outcome}
@@ -228,11 +229,12 @@ IsRefusedRead reads.TooLong why line = (line ≡ 0) × (why ≡ TooLong)
 abbrev pub IsTraceCause : InputWhy → ℕ → Type 0
 IsTraceCause why line = (read : TraceRead) × IsRefusedRead read why line
 
--- How long an image is that is refused so: too large; or of qcow2, as long as some bytes that are refused so, and long enough for
--- a header. One that is refused as short for a header may also have a header that is longer than it.
+-- How long an image is that is refused so: too large; or of qcow2, as long as one that names a backing file, or as some bytes that
+-- are refused so, and long enough for a header. One that is refused as short for a header may also have a header that is longer
+-- than it.
 abbrev pub HasLengthFor : InputWhy → ℕ → Type 0
 HasLengthFor TooLarge size = MAX_DISK_SIZE < size
-HasLengthFor NeedsBacking size = HasGoodLength Qcow2 size
+HasLengthFor NeedsBacking size = CanHoldImage true size
 HasLengthFor (Image (images.Header headers.Short)) size =
     IsRefusalFor (images.Header headers.Short) size
 HasLengthFor (Image stop) size = (MIN_HEADER_LENGTH ≤ size) × IsRefusalFor stop size

@@ -41,6 +41,12 @@ IsTraceRead trace (reads.Whole bytes) files =
 IsTraceRead trace reads.Absent files = LacksFile trace files
 IsTraceRead trace reads.TooLong files = HasFile trace (λ f. most_text < length f.bytes) files
 
+-- a whole file is as short as a text may be
+abbrev pub IsShortRead : TraceRead → Type 0
+IsShortRead (reads.Whole bytes) = length bytes ≤ most_text
+IsShortRead reads.Absent = Unit {0}
+IsShortRead reads.TooLong = Unit {0}
+
 -- a call of the store failed, or memory wasn't had
 abbrev pub IsStoreStop : ℕ → ℕ → Status → Type 0
 IsStoreStop before now Done = ⊥

@@ -5,7 +5,7 @@ ghost use Rattle.qblk_core.specs.Run.{AskFor, IsFlawInTrace, guest_names};
 ghost use Rattle.qblk_inputs.specs.Inputs.{most_text};
 ghost use Rattle.qblk_core.specs.Inputs.{IsRefusal};
 ghost use Rattle.qblk_core.specs.Ready.{IsSetUpFor};
-ghost use Rattle.qblk_core.specs.Session.{IsTraceStop};
+ghost use Rattle.qblk_core.specs.Session.{IsShortRead, IsTraceStop};
 
 use crate::engine::BLOCK;
 use crate::output::CHUNK;
@@ -13,7 +13,6 @@ use crate::requests::room_for;
 use crate::status::{InputWhy, Status};
 use blk_base::{Bytes, Names1, NoMemory, Text};
 use blk_history::{History, Rows};
-use qblk_inputs::MAX_TEXT;
 use std::alloc::Global;
 use trace_codec::{Op, TraceStop, read_trace};
 
@@ -98,6 +97,7 @@ fn take_memory(alloc: Global, ops: Vec<Op>) -> Result<Prepared, NoMemory>
 
 /// The requests of a trace with all the memory that a run of them takes, or its refusal.
 pub(crate) fn judge(alloc: Global, trace: &str, read: TraceRead) -> Result<Prepared, Status>
+    requires { IsShortRead read }
     ensures ok { IfOk result
         (λ p. (bytes : List ℕ) × (read ≡ TraceRead.Whole bytes) × AskFor p.ops.items bytes
         × IsSetUpFor p.ops.items p.history p.buffer.items p.names p.line) }
@@ -108,9 +108,6 @@ pub(crate) fn judge(alloc: Global, trace: &str, read: TraceRead) -> Result<Prepa
         TraceRead::Absent => return Err(refused(alloc, trace, 0, InputWhy::Absent)),
         TraceRead::TooLong => return Err(refused(alloc, trace, 0, InputWhy::TooLong)),
     };
-    if bytes.len() as u64 > MAX_TEXT {
-        return Err(refused(alloc, trace, 0, InputWhy::TooLong));
-    }
     match requests_in(alloc, bytes.as_slice()) {
         Ok(ops) => take_memory(alloc, ops).map_err(|_| Status::NoMemory),
         Err(Some((line, why))) => Err(refused(alloc, trace, line, why)),

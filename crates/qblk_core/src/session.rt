@@ -5,7 +5,7 @@ ghost use Rattle.blk_base.specs.Files.{IfTold};
 ghost use Rattle.blk_base.specs.Stored.{IsDeviceOf};
 ghost use Rattle.blk_base.specs.declared.store.StoreCall.TheVariants as calls;
 ghost use Rattle.qblk_inputs.specs.Reading.{NoneOut, OnFile, input_read};
-ghost use Rattle.qblk_core.specs.Session.{IsTraceRead, IsStoreStop, NamesStoreOn, IsOpenStop, AreRequestsMade, IsRunStop, EndsIoAs, io_ended_as, failed_as};
+ghost use Rattle.qblk_core.specs.Session.{IsTraceRead, IsShortRead, IsStoreStop, NamesStoreOn, IsOpenStop, AreRequestsMade, IsRunStop, EndsIoAs, io_ended_as, failed_as};
 ghost use Rattle.blk_nodes.specs.Reading.{HasRisen};
 ghost use Rattle.qblk_core.specs.Opened.{IsImageStatus};
 ghost use Rattle.blk_history.specs.Transcript.{transcript};
@@ -49,6 +49,7 @@ fn store_fault<S: Store>(store: &S) -> Status
 fn read_trace_file<S: Store>(store: &mut S, name: &str) -> Result<TraceRead, Status>
     requires { NoneOut (S.opened store.old) }
     ensures read { IfOk result (λ read. IfTold (S.files store.old) (IsTraceRead name.now read)) }
+    ensures short { IfOk result IsShortRead }
     ensures stop { IfErr result (IsStoreStop (S.faults store.old) (S.faults store.new)) }
     ensures file { IfErr result
         (NamesStoreOn input_read (OnFile (S.files store.old) name.now)
@@ -127,6 +128,7 @@ fn make_run<D: Device>(
     read: TraceRead,
     device: D,
 ) -> (Result<Made, Status>, D)
+    requires { IsShortRead read }
     ensures made { IfOk result.0
         (λ made. (bytes : List ℕ) × (w : SessionSeen) × (read ≡ TraceRead.Whole bytes)
         × AreRequestsMade format bytes (seen_device D.Device device)
