@@ -20,10 +20,6 @@ module _ {A B : Type 0} (told : Option A) (of : A → B) (P : B → Type 0) wher
   pub read_map : (Q : B → Type 0) → ((value : B) → P value → Q value) → WasRead told of P → WasRead told of Q
   read_map Q map read = record { value = read.value; is = read.is; holds = map read.value read.holds }
 
-  -- of a device that tells the same
-  pub read_at : (later : Option A) → later ≡ told → WasRead later of P → WasRead told of P
-  read_at later same read = subst (λ o. WasRead o of P) same read
-
 -- what holds of what is told, and of another value where nothing is
 pub was_read : {A B : Type 0} (told : Option A) (of : A → B) (P : B → Type 0) (other : B) → ((a : A) → told ≡ Some a → P (of a)) → P other → WasRead told of P
 was_read None of P other all spare = record { value = other; is = tt; holds = spare }
