@@ -26,22 +26,22 @@ module _ {A : Type 0} (content : Option (List ℕ)) (h : Header) (len : ℕ) (wo
       → ((words : List ℕ) → RefusedBy {A = A} (Err e) (refcounts_refusal h len words)) → WasRead content (λ file. refcount_table file h) (AnswersWords h len words_of (Err e))
   refused_any e size all =
       was_read content (λ file. refcount_table file h) (AnswersWords h len words_of (Err e)) (replicate (table_entries h) 0)
-      (λ file told. record { entries = length-table file h; stand = table_stands file h len (size file told); refused = all (refcount_table file h); kept = tt })
-      (record { entries = length-replicate (table_entries h) 0; stand = zeros_stand len h.ref_offset (table_entries h); refused = all (replicate (table_entries h) 0); kept = tt })
+      (λ file told. record { entries = length-table file h; stands = table_stands file h len (size file told); refused = all (refcount_table file h); kept = tt })
+      (record { entries = length-replicate (table_entries h) 0; stands = zeros_stand len h.ref_offset (table_entries h); refused = all (replicate (table_entries h) 0); kept = tt })
 
   -- one of what was read
   pub refused_read : (words : List ℕ) (e : RefsStop) → length words ≡ table_entries h → CanStandAt len h.ref_offset words
       → ((file : List ℕ) → content ≡ Some file → words ≡ refcount_table file h) → RefusedBy {A = A} (Err e) (refcounts_refusal h len words)
       → WasRead content (λ file. refcount_table file h) (AnswersWords h len words_of (Err e))
-  refused_read words e entries stand told is =
-      read_as content (λ file. refcount_table file h) (AnswersWords h len words_of (Err e)) words told (record { entries = entries; stand = stand; refused = is; kept = tt })
+  refused_read words e entries stands told is =
+      read_as content (λ file. refcount_table file h) (AnswersWords h len words_of (Err e)) words told (record { entries = entries; stands = stands; refused = is; kept = tt })
 
   -- and none
   pub accepted_read : (a : A) → length (words_of a) ≡ table_entries h → CanStandAt len h.ref_offset (words_of a)
       → ((file : List ℕ) → content ≡ Some file → words_of a ≡ refcount_table file h) → RefusedBy (Ok a) (refcounts_refusal h len (words_of a))
       → WasRead content (λ file. refcount_table file h) (AnswersWords h len words_of (Ok a))
-  accepted_read a entries stand told is =
-      read_as content (λ file. refcount_table file h) (AnswersWords h len words_of (Ok a)) (words_of a) told (record { entries = entries; stand = stand; refused = is; kept = refl })
+  accepted_read a entries stands told is =
+      read_as content (λ file. refcount_table file h) (AnswersWords h len words_of (Ok a)) (words_of a) told (record { entries = entries; stands = stands; refused = is; kept = refl })
 
 -- a call that only reads refuses nothing
 pub unread_refuses : (A : Type 0) (e : RefsStop) → IsRefsReadStop e → (h : Header) (len : ℕ) (words : List ℕ) → RefusedBy {A = A} (Err e) (refcounts_refusal h len words)

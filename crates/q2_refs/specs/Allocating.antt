@@ -1,9 +1,8 @@
 -- Taking a cluster: what is kept afterwards, what the file is, and what of it stays.
-use Rattle.std.specs.Prelude.{◌≡◌, ◌≢◌, ◌⊎◌, ℕ, ◌+◌, ◌-◌, ◌*◌, ◌/◌, ◌%◌, ◌==◌, if◌then◌else◌, List, [], ◌∷◌, ◌++◌, length, replicate, count_by, slice_index, slice_set, Option, Some, None, Result, Ok, Err}
-use Rattle.blk_base.specs.Calls.{FailsWriting}
+use Rattle.std.specs.Prelude.{◌≡◌, ◌≢◌, ◌⊎◌, ℕ, ◌+◌, ◌-◌, ◌*◌, ◌/◌, ◌%◌, ◌==◌, if◌then◌else◌, List, [], ◌∷◌, ◌++◌, length, replicate, count_by, slice_index, slice_set, Some, None, Result, Ok, Err}
 use Rattle.blk_base.specs.Content.{Write}
-use Rattle.blk_base.specs.Device.{Writes, Wrote}
-use Rattle.blk_base.specs.Writes.{write_of, first_bytes, end_of_writes}
+use Rattle.blk_base.specs.Device.{Untouched, Writes}
+use Rattle.blk_base.specs.Writes.{write_of, first_bytes, end_of_writes, IsCutBy, IsPart}
 use Rattle.blk_base.specs.declared.device.Device.{Ghosts}
 use Rattle.blk_base.specs.declared.fault.DevStop.{DevStop}
 use Rattle.byteorder.specs.Endian.{big_bytes}
@@ -101,12 +100,6 @@ pub record KeepsCounted (old new : List ℕ) (h : Header) : Type 0 where
 abbrev pub end_of_allocation : KeptRefs → ℕ → ℕ
 end_of_allocation kept n = end_of_writes (allocation_writes kept n)
 
--- the stop of the device that an allocation tells
-abbrev pub ref_stop_of : {A : Type 0} → Result A RefStop → Option DevStop
-ref_stop_of (Ok cluster) = None
-ref_stop_of (Err (Dev stop)) = Some stop
-ref_stop_of (Err HostLimit) = None
-
 -- the writes of an allocation, by its answer
 abbrev pub writes_of_answer : KeptRefs → Result ℕ RefStop → List Write
 writes_of_answer kept (Ok cluster) = allocation_writes kept cluster
@@ -118,21 +111,23 @@ abbrev pub all_but_count : KeptRefs → ℕ → List Write
 all_but_count kept n =
     block_writes_for kept n ++ first_bytes 0 (count_write (with_block_for kept n) n) ∷ []
 
--- What a stop leaves of an allocation that gives cluster n: its block was not put and isn't kept, or it was and is,
--- and the refcount was not written, at whose write it stopped.
-abbrev pub StopsAllocating : {D : Type 0} → Ghosts D → KeptRefs → ℕ → DevStop → KeptRefs → D → D
-    → Type 0
-StopsAllocating g kept n stop left old new =
-    ((left ≡ kept) × Writes g (block_writes_for kept n) (Some stop) old new)
-    ⊎ ((left ≡ with_block_for kept n) × Wrote g (all_but_count kept n) old new
-    × FailsWriting (Some stop) (allocation_writes kept n) (all_but_count kept n)
-    (g.failed_call old) (g.failed_call new))
+-- What a stop leaves of an allocation that gives cluster n: it came in the writes of the block, which isn't kept; or the block
+-- was put and is kept, and it came at the refcount, of which nothing was written.
+pub record StopsAllocating {D : Type 0} (g : Ghosts D) (kept : KeptRefs) (n : ℕ) (stop : DevStop)
+    (left : KeptRefs) (old new : D) : Type 0 where
+  pub writes : Writes g (allocation_writes kept n) (Some stop) old new
+  pub known : ((left ≡ kept) × IsPart (IsCutBy stop) (block_writes_for kept n) writes.made)
+      ⊎ ((left ≡ with_block_for kept n) × (writes.made ≡ all_but_count kept n))
 
--- what is kept after each refusal
-abbrev pub IsLeft : {D : Type 0} → Ghosts D → KeptRefs → KeptRefs → RefStop → D → D → Type 0
-IsLeft g kept left (Dev stop) old new =
+-- what an allocation leaves, by its answer
+abbrev pub Allocates : {D : Type 0} → Ghosts D → KeptRefs → Result ℕ RefStop → KeptRefs → D → D
+    → Type 0
+Allocates g kept (Ok cluster) left old new =
+    (left ≡ with_one (with_block_for kept cluster) cluster)
+    × Writes g (allocation_writes kept cluster) None old new
+Allocates g kept (Err (Dev stop)) left old new =
     StopsAllocating g kept (free_cluster kept 0) stop left old new
-IsLeft g kept left HostLimit old new = left ≡ kept
+Allocates g kept (Err HostLimit) left old new = (left ≡ kept) × Untouched g old new
 
 -- a file in which all is sound, and of what counted in an older one all stays
 pub record KeepsSound (old new : List ℕ) : Type 0 where

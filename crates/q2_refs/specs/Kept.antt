@@ -1,5 +1,6 @@
 -- What is kept in memory of an image's refcounts, and of which file it is.
-use Rattle.std.specs.Prelude.{◌≡◌, ◌≢◌, ℕ, ◌+◌, ◌*◌, ◌/◌, ◌%◌, ◌^◌, ◌<◌, ◌≤◌, List, length, slice_index}
+use Rattle.std.specs.Prelude.{◌≡◌, ◌≢◌, ℕ, ◌+◌, ◌*◌, ◌/◌, ◌%◌, ◌^◌, ◌<◌, ◌≤◌, List, length, slice_index, Option}
+use Rattle.blk_base.specs.Files.{IfTold}
 use Rattle.q2_format.specs.Bytes.{number_at}
 use Rattle.q2_format.specs.Sizes.{cluster_size, block_entries, refcount_bytes}
 use Rattle.q2_format.specs.Entry.{block_offset}
@@ -47,23 +48,27 @@ AreAbsentZero n table counts below = (k : ℕ) → k < below
 abbrev pub AreAbsentFree : KeptRefs → Type 0
 AreAbsentFree kept = AreAbsentZero (per_block kept) kept.table kept.counts (length kept.counts)
 
--- counts of w bytes from a place on, at most n of them, are those of a block that a file of `len` bytes can have at an offset
-pub record StandsAsBlock (len offset w n from : ℕ) (counts : List ℕ) : Type 0 where
+-- counts of w bytes from a place on, at most n of them, are those of a block at an offset of a file of `len` bytes, which is the
+-- told one where one is told
+pub record StandsAsBlock (told : Option (List ℕ)) (len offset w n from : ℕ) (counts : List ℕ) : Type
+    0 where
   pub file : List ℕ
+  pub is : IfTold told (λ bytes. file ≡ bytes)
   pub size : length file ≡ len
   pub are : (k : ℕ) → k < n → from + k < length counts
       → slice_index counts (from + k) ≡ number_at file (offset + k * w) w
 
 -- so are, of the first blocks, below a number, the counts of those that are there
-abbrev pub BlocksStand : ℕ → ℕ → ℕ → List ℕ → List ℕ → ℕ → Type 0
-BlocksStand len w n table counts below = (i : ℕ) → i < below → block_offset (slice_index table i) ≢ 0
-    → StandsAsBlock len (block_offset (slice_index table i)) w n (i * n) counts
+abbrev pub BlocksStand : Option (List ℕ) → ℕ → ℕ → ℕ → List ℕ → List ℕ → ℕ → Type 0
+BlocksStand told len w n table counts below =
+    (i : ℕ) → i < below → block_offset (slice_index table i) ≢ 0
+    → StandsAsBlock told len (block_offset (slice_index table i)) w n (i * n) counts
 
--- the refcounts are those of blocks that a file of `len` bytes can have
-abbrev pub CountsStand : ℕ → KeptRefs → Type 0
-CountsStand len kept =
-    BlocksStand len (refcount_bytes kept.refcount_order) (per_block kept) kept.table kept.counts
-    (length kept.table)
+-- the refcounts are those of blocks of such files
+abbrev pub CountsStand : Option (List ℕ) → ℕ → KeptRefs → Type 0
+CountsStand told len kept =
+    BlocksStand told len (refcount_bytes kept.refcount_order) (per_block kept) kept.table
+    kept.counts (length kept.table)
 
 -- each of the first counts, below a number, is above 0
 abbrev pub AreTaken : List ℕ → ℕ → Type 0

@@ -51,7 +51,7 @@ RefusedBy (Err NoMemory) refusal = ⊤
 pub record AnswersWords {A : Type 0} (h : Header) (len : ℕ) (words_of : A → List ℕ)
     (result : Result A RefsStop) (words : List ℕ) : Type 0 where
   pub entries : length words ≡ table_entries h
-  pub stand : CanStandAt len h.ref_offset words
+  pub stands : CanStandAt len h.ref_offset words
   pub refused : RefusedBy result (refcounts_refusal h len words)
   pub kept : IfOk result (λ a. words_of a ≡ words)
 

@@ -45,8 +45,8 @@ fn ends_within(at: u64, n: u64, capacity: u64) -> bool
 }
 
 impl Refs {
-    ghost use Rattle.blk_base.specs.Device.{AtEachStopOf, Untouched, Writes, stop_of};
-    ghost use Rattle.q2_refs.specs.Allocating.{IsAlike, IsInStep, IsLeft, KeepsCounted, KeepsSound, StopsAllocating, allocation_writes, block_writes, block_writes_for, count_place, count_write, end_of_allocation, place_of_block, ref_stop_of, with_block, with_block_for, with_one, writes_of_answer};
+    ghost use Rattle.blk_base.specs.Device.{AtEachStopOf, Writes, stop_of};
+    ghost use Rattle.q2_refs.specs.Allocating.{Allocates, IsAlike, IsInStep, KeepsCounted, KeepsSound, StopsAllocating, allocation_writes, block_writes, block_writes_for, count_place, count_write, end_of_allocation, place_of_block, with_block, with_block_for, with_one, writes_of_answer};
 
     /// Where the refcount of a cluster is, whose block is there.
     fn count_place(&self, cluster: usize) -> u64
@@ -166,8 +166,8 @@ impl Refs {
     fn take<D: Device>(&mut self, dev: &mut D, cluster: usize) -> Result<(), DevStop>
         requires { cluster < length self.old.counts }
         ensures ok { OnOk result (self.new ≡ with_one (with_block_for self.old cluster) cluster) }
-        ensures writes { Writes D.Device (allocation_writes self.old cluster) (stop_of result)
-            dev.old dev.new }
+        ensures writes { OnOk result
+            (Writes D.Device (allocation_writes self.old cluster) None dev.old dev.new) }
         ensures left { IfErr result
             (λ stop. StopsAllocating D.Device self.old cluster stop self.new dev.old dev.new) }
     {
@@ -201,22 +201,13 @@ impl Refs {
         ensures counted { IfOk result
             (λ cluster. (file : List ℕ) → D.content dev.new ≡ Some file
             → refcount_of file (header_of file) cluster ≡ 1) }
-        ensures kept { IfOk result
-            (λ cluster. self.new ≡ with_one (with_block_for self.old cluster) cluster) }
 
         // when none is
         ensures full { (result ≡ Err RefStop.HostLimit) ↔ (free_clusters self.old ≡ []) }
-        ensures untouched { result ≡ Err RefStop.HostLimit → Untouched D.Device dev.old dev.new }
         ensures again { OnErr result (free_clusters self.new ≡ free_clusters self.old) }
-        ensures partly { OnErr result
-            ((self.new ≡ self.old)
-            ⊎ (self.new ≡ with_block_for self.old (free_cluster self.old 0))) }
-        ensures left { IfErr result
-            (λ stop. IsLeft D.Device self.old self.new stop dev.old dev.new) }
 
         // the device
-        ensures writes { Writes D.Device (writes_of_answer self.old result) (ref_stop_of result)
-            dev.old dev.new }
+        ensures leaves { Allocates D.Device self.old result self.new dev.old dev.new }
         ensures stops { AtEachStopOf D.Device KeepsSound (writes_of_answer self.old result)
             dev.old }
 

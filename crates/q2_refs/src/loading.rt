@@ -119,7 +119,7 @@ fn read_words<D: Device>(
     ensures words { OnOk result
         ((file : List ℕ) → D.content dev.old ≡ Some file
         → words.new ≡ words_at file at (length words.old)) }
-    ensures stand { OnOk result (CanStandAt (D.size dev.old) at words.new) }
+    ensures stands { OnOk result (CanStandAt (D.size dev.old) at words.new) }
     ensures stop { IfErr result IsRefsReadStop }
     ensures device { Reads D.Device (fault_of_refs result) dev.old dev.new }
     ensures call { FailsAt (λ call. call ≡ DeviceCall.Read at (length buffer.old))
@@ -138,7 +138,7 @@ fn read_table<D: Device>(alloc: Global, dev: &mut D, h: &Header) -> Result<Vec<u
         (λ words. (file : List ℕ) → D.content dev.old ≡ Some file
         → words.items ≡ refcount_table file h.now) }
     ensures len { IfOk result (λ words. length words.items ≡ table_entries h.now) }
-    ensures stand { IfOk result
+    ensures stands { IfOk result
         (λ words. CanStandAt (D.size dev.old) h.now.ref_offset words.items) }
     ensures stop { IfErr result IsRefsReadStop }
     ensures device { Reads D.Device (fault_of_refs result) dev.old dev.new }
@@ -196,14 +196,10 @@ fn read_block<D: Device>(
     requires buffer { length buffer.old ≡ cluster_size h.now.cluster_bits }
     requires zeros { AreZeroFrom counts.old
         (i * block_entries (cluster_size h.now.cluster_bits) h.now.refcount_order) }
-    ensures counts { OnOk result
-        ((file : List ℕ) → D.content dev.old ≡ Some file → table.now ≡ refcount_table file h.now
+    ensures stands { OnOk result (block_offset (slice_index table.now i) ≢ 0
         → let per_block = block_entries (cluster_size h.now.cluster_bits) h.now.refcount_order in
-        AreCounts file h.now counts.new (i * per_block) (i * per_block + per_block)) }
-    ensures stand { OnOk result (block_offset (slice_index table.now i) ≢ 0
-        → let per_block = block_entries (cluster_size h.now.cluster_bits) h.now.refcount_order in
-        StandsAsBlock (D.size dev.old) (block_offset (slice_index table.now i)) 2 per_block
-        (i * per_block) counts.new) }
+        StandsAsBlock (D.content dev.old) (D.size dev.old) (block_offset (slice_index table.now i))
+        2 per_block (i * per_block) counts.new) }
     ensures absent { block_offset (slice_index table.now i) ≡ 0 → counts.new ≡ counts.old }
     ensures before { (k : ℕ)
         → k < i * block_entries (cluster_size h.now.cluster_bits) h.now.refcount_order
@@ -246,7 +242,7 @@ fn read_counts<D: Device>(
     ensures absent { OnOk result (AreAbsentZero
         (block_entries (cluster_size h.now.cluster_bits) h.now.refcount_order) table.now
         counts.new (length counts.old)) }
-    ensures stand { OnOk result (BlocksStand (D.size dev.old) 2
+    ensures stands { OnOk result (BlocksStand (D.content dev.old) (D.size dev.old) 2
         (block_entries (cluster_size h.now.cluster_bits) h.now.refcount_order) table.now
         counts.new (length table.now)) }
     ensures stop { IfErr result IsRefsReadStop }
@@ -263,7 +259,7 @@ fn read_counts<D: Device>(
 
 /// Reads the words of the refcount table in one read, and refuses what is refused of it, in this order: its place,
 /// the places of its blocks, reserved bits in its entries. `Io` comes in place of what the read would have told, and
-/// `NoMemory` may come before or after.
+/// `NoMemory` may come before or after that, of a table in its place.
 pub fn load_table<D: Device>(alloc: Global, dev: &mut D, h: &Header) -> Result<Vec<u64>, RefsStop>
     requires { CanBeRead h.now (D.size dev.old) }
     ensures read { WasRead (D.content dev.old) (λ file. refcount_table file h.now)
@@ -336,7 +332,7 @@ pub fn load_counts<D: Device>(
         (λ refs. AreWholeClusters (cluster_size h.now.cluster_bits) refs.table) }
     ensures below { IfOk result (λ refs. BeginBelow (D.size dev.old) refs.table) }
     ensures absent { IfOk result AreAbsentFree }
-    ensures stand { IfOk result (CountsStand (D.size dev.old)) }
+    ensures stands { IfOk result (CountsStand (D.content dev.old) (D.size dev.old)) }
 
     // the device
     ensures device { Reads D.Device (fault_of_refs result) dev.old dev.new }

@@ -41,7 +41,7 @@ returns-in_err-check_words-clause-read g c =
     let place = rw c.length-len.ensures at c.in_ok-check_place.ensures.refused in
     let why = rw (c.length-len.ensures, c.cluster_len.ensures, c.as_slice.ensures.value) at c.in_err-check_words.ensures.refused in
     rw p.1 (refused_read (g.D.Device.content c.args.dev.now) h len (λ (table : Vec ℕ Global). table.items) words p.0
-    c.in_ok-table.ensures.len c.in_ok-table.ensures.stand c.in_ok-table.ensures.table
+    c.in_ok-table.ensures.len c.in_ok-table.ensures.stands c.in_ok-table.ensures.table
     (refused_by (Vec ℕ Global) p.0 _ (words_refused h len words p.0 place (ap Some p.2 ∙ why))))
 
 pub returns-clause-read : goal.returns-clause-read
@@ -51,7 +51,7 @@ returns-clause-read g c =
     let place = rw c.length-len.ensures at c.in_ok-check_place.ensures.refused in
     let none = rw (c.length-len.ensures, c.cluster_len.ensures, c.as_slice.ensures.value) at c.in_ok-check_words.ensures.refused in
     accepted_read (g.D.Device.content c.args.dev.now) h len (λ (table : Vec ℕ Global). table.items) c.in_ok-table.table
-    c.in_ok-table.ensures.len c.in_ok-table.ensures.stand c.in_ok-table.ensures.table
+    c.in_ok-table.ensures.len c.in_ok-table.ensures.stands c.in_ok-table.ensures.table
     (none_refused h len c.in_ok-table.table.items place none)
 
 pub returns-in_err-check_place-clause-device : goal.returns-in_err-check_place-clause-device

@@ -11,7 +11,7 @@ returns-clause-words g c = λ file told.
     words_read file c.decode_words.new.words c.args.at (length c.args.words.now) (omega arith)
     (λ k below. c.decode_words.ensures k below ∙ ap (λ (read : List ℕ). number_at read (8 * k) 8) bytes)
 
-pub returns-clause-stand : goal.returns-clause-stand
-returns-clause-stand g c =
+pub returns-clause-stands : goal.returns-clause-stands
+returns-clause-stands g c =
     words_stand (g.D.Device.size c.args.dev.now) c.args.at c.read.new.buf c.in_ok-read.ensures.past c.decode_words.new.words
     (λ k below. c.decode_words.ensures k (omega (arith, below)))

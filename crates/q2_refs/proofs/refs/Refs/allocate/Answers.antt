@@ -1,4 +1,4 @@
-use Rattle.std.proofs.Common.{◌≡◌, ◌⊎◌, ℕ, ◌*◌, ◌<◌, ◌≤◌, List, [], ◌∷◌, length, Some, None, refl, sym, ap, subst, ◌∙◌, arith}
+use Rattle.std.proofs.Common.{◌≡◌, ℕ, ◌*◌, ◌<◌, ◌≤◌, List, [], ◌∷◌, length, Some, None, refl, sym, ap, subst, ◌∙◌, arith}
 use Rattle.std.proofs.lemmas.Result.{err_from_is_err_and}
 use Rattle.q2_refs.specs.Allocating.{IsInStep, StopsAllocating, allocation_writes, with_one, with_block_for}
 use Rattle.q2_refs.proofs.Allocated.{left_kept, done_step, done_unused, given_stops, given_keeps, left_step, err_stops}
@@ -238,17 +238,4 @@ returns-in_err-take-clause-keeps g c =
     }) in
     let stop : DevStop = c.in_err-take.field-0.0 in
     let W : KeptRefs → Type 0 = λ k. Writes g.D.Device (allocation_writes k n) (Some stop) c.args.dev.now c.take.new.dev in
-    given_keeps g.D.Device K n c.args.dev.now c.take.new.dev c.requires.step can (Some stop) (subst W c.skip_taken.ensures c.in_err-take.ensures.writes)
-
-pub returns-in_err-take-clause-partly : goal.returns-in_err-take-clause-partly
-returns-in_err-take-clause-partly g c =
-    let S : KeptRefs = c.skip_taken.new.self in
-    let K : KeptRefs = c.args.self.now in
-    let n : ℕ = c.next_free-cluster.result in
-    let stop : DevStop = c.in_err-take.field-0.0 in
-    let p = err_from_is_err_and c.from_residual.result c.from_residual.ensures.1 in
-    let first : n ≡ free_cluster K 0 = c.next_free-cluster.ensures.cluster ∙ ap (λ (k : KeptRefs). free_cluster k 0) c.skip_taken.ensures in
-    let L : KeptRefs → Type 0 = λ k. (c.take.new.self ≡ k) ⊎ (c.take.new.self ≡ with_block_for k n) in
-    let M : ℕ → Type 0 = λ m. (c.take.new.self ≡ K) ⊎ (c.take.new.self ≡ with_block_for K m) in
-    rw p.1 (subst M first (subst L c.skip_taken.ensures
-    (left_kept g.D.Device S n stop c.take.new.self c.args.dev.now c.take.new.dev c.in_err-take.ensures.left)))
+    given_keeps g.D.Device K n c.args.dev.now c.take.new.dev c.requires.step can (Some stop) (subst W c.skip_taken.ensures c.in_err-take.ensures.left.writes)
