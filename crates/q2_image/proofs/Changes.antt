@@ -4,7 +4,7 @@ use Rattle.std.specs.Prelude.{IfErr}
 use Rattle.std.proofs.lemmas.List.{append-nil}
 use Rattle.blk_base.specs.Content.{Write}
 use Rattle.blk_base.specs.Device.{Writes, stop_of}
-use Rattle.blk_base.specs.Writes.{write_of, first_bytes, end_of_writes, IsPart, IsTorn}
+use Rattle.blk_base.specs.Writes.{write_of, first_bytes, end_of_writes, IsCutBy, IsTorn}
 use Rattle.blk_base.specs.declared.device.Device.{Ghosts}
 use Rattle.blk_base.specs.declared.fault.DevStop.{DevStop}
 use Rattle.blk_base.specs.declared.fault.DevStop.TheVariants.{Io, NoSpace}
@@ -54,6 +54,11 @@ count_torn : (kept : refs.KeptRefs) (n : ℕ) → IsTorn (count_write kept n) (f
 unfolding count_write
 count_torn kept n = record { n = 0; short = omega (arith, length-bytes_high_first 2 1); sector = inl refl; first = refl }
 
+-- nothing of a refcount may be made, however its write stops
+count_cut : (stop : DevStop) (kept : refs.KeptRefs) (n : ℕ) → IsCutBy stop (count_write kept n) (first_bytes 0 (count_write kept n))
+count_cut (Io count) kept n = count_torn kept n
+count_cut NoSpace kept n = refl
+
 module _ {D : Type 0} (g : Ghosts D) where
   pub take_made : (image : Known) (n : ℕ) (next : refs.KeptRefs) (a b : D) → n ≡ free_cluster image.refs 0 → Writes g (allocation_writes image.refs n) None a b
       → next ≡ with_one (with_block_for image.refs n) n → MakesSteps g image (take_steps image) None (record image { refs = next }) a b
@@ -64,46 +69,31 @@ module _ {D : Type 0} (g : Ghosts D) where
         known = ap (λ (r : refs.KeptRefs). record image { refs = r }) (kept ∙ ap (λ (k : ℕ). with_one (with_block_for image.refs k) k) first);
       }
 
-  -- where it stopped, there was room
-  pub take_stopped : (image : Known) (stop : DevStop) (next : refs.KeptRefs) (a b : D) → end_of_allocation image.refs (free_cluster image.refs 0) ≤ g.capacity a
-      → Writes g (allocation_writes image.refs (free_cluster image.refs 0)) (Some stop) a b → StopsAllocating g image.refs (free_cluster image.refs 0) stop next a b
+  -- or it stopped
+  pub take_stopped : (image : Known) (stop : DevStop) (next : refs.KeptRefs) (a b : D) → StopsAllocating g image.refs (free_cluster image.refs 0) stop next a b
       → MakesSteps g image (take_steps image) (Some stop) (record image { refs = next }) a b
-  take_stopped image stop next a b fits writes (inl block) =
-      let n : ℕ = free_cluster image.refs 0 in
-      let mid : Known = record image { refs = with_block_for image.refs n } in
-      let left : Known = record image { refs = next } in
-      let count : WriteStep = record { writes = count_write (with_block_for image.refs n) n ∷ []; known = record image { refs = with_one (with_block_for image.refs n) n } } in
-      let r : Result (Unit {0}) DevStop = Err stop in
-      let one = makes_one g image mid left (block_writes_for image.refs n) r a b block.1 tt (ap (λ (k : refs.KeptRefs). record image { refs = k }) block.0) in
-      makes_sooner g image left (record { writes = block_writes_for image.refs n; known = mid } ∷ []) (count ∷ []) stop a b one
-  take_stopped image NoSpace next a b fits writes (inr placed) =
-      let ws : List Write = allocation_writes image.refs (free_cluster image.refs 0) in
-      let beyond = beyond-within g ws writes.made (g.capacity a) writes.cause.0 in absurd (omega (arith, fits, beyond))
-  take_stopped image (Io fault) next a b fits writes (inr placed) =
+  take_stopped image stop next a b stops =
       let n : ℕ = free_cluster image.refs 0 in
       let block : refs.KeptRefs = with_block_for image.refs n in
-      let cut : List Write = first_bytes 0 (count_write block n) ∷ [] in
-      let part : IsPart IsTorn (count_write block n ∷ []) cut = inr (count_torn block n, refl) in
-      let at = stopped_at-later IsTorn (block_writes_for image.refs n) (count_write block n ∷ []) cut part in
-      let end = end_of_writes-append (block_writes_for image.refs n) (count_write block n ∷ []) in
+      let put : WriteStep = record { writes = block_writes_for image.refs n; known = record image { refs = block } } in
+      let count : WriteStep = record { writes = count_write block n ∷ []; known = record image { refs = with_one block n } } in
+      let made : List Write = stops.writes.made in
+      let kept : (k : refs.KeptRefs) → next ≡ k → (record image { refs = next }) ≡ (record image { refs = k }) = λ k is. ap (λ (r : refs.KeptRefs). record image { refs = r }) is in
       record {
-        writes = record {
-          made = all_but_count image.refs n;
-          part = part-later IsTorn (block_writes_for image.refs n) (count_write block n ∷ []) cut part;
-          wrote = placed.1;
-          cause = ((count_write block n, at, omega (arith, fits, end)), writes.cause.1, writes.cause.2);
-          call = placed.2;
-        };
-        known = record {
-          before = record { writes = block_writes_for image.refs n; known = record image { refs = block } } ∷ [];
-          step = record { writes = count_write block n ∷ []; known = record image { refs = with_one block n } };
-          behind = [];
-          steps_are = refl;
-          cut = cut;
-          part = part;
-          made_are = ap (λ (ws : List Write). ws ++ cut) (sym (append-nil (block_writes_for image.refs n)));
-          known = ap (λ (k : refs.KeptRefs). record image { refs = k }) placed.0;
-        };
+        writes = stops.writes;
+        known = elim stops.known [
+          | inl (same, part) ↦ record { before = []; step = put; behind = count ∷ []; steps_are = refl; cut = made; part = part; made_are = refl; known = kept image.refs same }
+          | inr (placed, all) ↦ record {
+            before = put ∷ [];
+            step = count;
+            behind = [];
+            steps_are = refl;
+            cut = first_bytes 0 (count_write block n) ∷ [];
+            part = inr (count_cut stop block n, refl);
+            made_are = all ∙ ap (λ (ws : List Write). ws ++ first_bytes 0 (count_write block n) ∷ []) (sym (append-nil (block_writes_for image.refs n)));
+            known = kept block placed;
+          }
+        ];
       }
 
   -- An entry.

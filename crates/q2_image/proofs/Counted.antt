@@ -64,18 +64,18 @@ offset_tells h len offset table placed some = ap (option_map sound.Offset)
 module _ (h : Header) (len : ℕ) (placed : place_stops h len ≡ None) where
   pub table_answered : (kept : Vec ℕ Global) (words : List ℕ) → refs.AnswersWords h len (λ (table : Vec ℕ Global). table.items) (Ok kept) words → AnswersTable h len (Ok (Read kept)) words
   table_answered kept words answers =
-      record { entries = answers.entries; stands = answers.stand; tells = (accepted_tells h len words placed answers.refused, answers.kept) }
+      record { entries = answers.entries; stands = answers.stands; tells = (accepted_tells h len words placed answers.refused, answers.kept) }
 
   pub reserved_answered : (index : ℕ) (words : List ℕ) → refs.AnswersWords h len (λ (table : Vec ℕ Global). table.items) (Err (Reserved index)) words
       → AnswersTable h len (Ok (tables.Reserved index)) words
-  reserved_answered index words answers = record { entries = answers.entries; stands = answers.stand; tells = (reserved_tells h len index words placed answers.refused, tt) }
+  reserved_answered index words answers = record { entries = answers.entries; stands = answers.stands; tells = (reserved_tells h len index words placed answers.refused, tt) }
 
   pub offset_answered : (offset : ℕ) (words : List ℕ) → refs.AnswersWords h len (λ (table : Vec ℕ Global). table.items) (Err (Offset offset)) words → AnswersTable h len (Err (stops.Offset offset)) words
-  offset_answered offset words answers = record { entries = answers.entries; stands = answers.stand; tells = offset_tells h len offset words placed answers.refused }
+  offset_answered offset words answers = record { entries = answers.entries; stands = answers.stands; tells = offset_tells h len offset words placed answers.refused }
 
 -- an accepted table's words
 pub accepted_words : (h : Header) (len : ℕ) (kept : Vec ℕ Global) (words : List ℕ) → refs.AnswersWords h len (λ (table : Vec ℕ Global). table.items) (Ok kept) words → IsTableRead h len kept.items
-accepted_words h len kept words answers = subst (IsTableRead h len) (sym answers.kept) (record { accepted = answers.refused; entries = answers.entries; stands = answers.stand })
+accepted_words h len kept words answers = subst (IsTableRead h len) (sym answers.kept) (record { accepted = answers.refused; entries = answers.entries; stands = answers.stands })
 
 -- a refcount table in its place has a cluster
 pub some_cluster : (h : Header) (len : ℕ) → bad_refcount_table h len ≡ None → 1 ≤ h.ref_clusters

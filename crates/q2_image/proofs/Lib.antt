@@ -8,6 +8,7 @@ pub mod Merged
 pub mod Order
 pub mod WordsRead
 pub mod Faults
+pub mod NameReads
 pub mod NameRoom
 pub mod HeaderKept
 pub mod HeaderWrites

@@ -14,14 +14,15 @@ use Rattle.q2_format.specs.Created.{IsNewName, IsNewFormat}
 use Rattle.q2_format.specs.Renamed.{next_extension}
 use Rattle.q2_format.proofs.ByPlace.{length-bytes_at}
 use Rattle.q2_refs.proofs.Placing.{told_before}
-use Rattle.q2_image.specs.BackingName.{EndsWithFields, HasSameName, MakesLast, RenamesImage, between_in, early_writes, ending_length, ending_writes, format_writes, last_bytes, last_writes, name_in, rename_end, text_writes, with_format, with_name, StopsWithFields, IsKnownEarly, MakesEarly, MakesFormat, known_at}
+use Rattle.q2_image.specs.BackingName.{EndsWithFields, HasSameName, IsLengthRead, MakesLast, RenamesImage, between_in, early_writes, ending_writes, format_writes, last_bytes, last_writes, name_in, rename_end, text_writes, with_format, with_name, StopsWithFields, IsKnownEarly, MakesEarly, MakesFormat, known_at}
 use Rattle.q2_image.specs.Image.{Known, IsImageOf, IsOpen}
 use Rattle.q2_image.specs.Made.{clear_writes}
 use Rattle.q2_image.specs.Writing.{TellsFault, IsSameDisk, autocleared, count_of}
 use Rattle.q2_image.proofs.HeaderWrites.{KeepsName}
 use Rattle.q2_image.proofs.KnownAt.{at_clear, at_format, at_text, part_length, sooner_made, then_made, with_whole}
 use Rattle.q2_image.proofs.LastWrite.{IsReadyFor, IsRenamed, last_made}
-use Rattle.q2_image.proofs.NameCalls.{early_end, fields_behind, fields_fault, fields_stopped, last_told, what_is_told, writes_fault}
+use Rattle.q2_image.proofs.NameCalls.{early_end, fields_behind, fields_fault, fields_stopped, last_past, last_told, writes_fault}
+use Rattle.q2_image.proofs.NameReads.{between_past, length_told, what_is_told}
 use Rattle.q2_image.proofs.NameSteps.{ending_stops, text_stops}
 use Rattle.q2_image.proofs.NameStops.{StaysAsNamed, before_fields, early_stops, m4_is, open_with_format, ready_for_fields}
 use Rattle.q2_image.proofs.OwnTold.{open_cleared}
@@ -168,7 +169,7 @@ module _ {D : Type 0} (g : Ghosts D) where
         mid_image first new (sym (fields_stopped g next name stop b c open_next (subst P known last)) ∙ told)
 
     -- and where it was made
-    module _ (text : ForSome name IsUtf8) (length_told : (file : List ℕ) → g.content a ≡ Some file → ending_writes image.header name n ≡ ending_writes image.header name (ending_length file image.header))
+    module _ (text : ForSome name IsUtf8) (read : IsLengthRead (g.content a) (g.size a) image.header name n)
         (k : Known) (known : k ≡ next) (first : Writes g early None a b) (last : EndsWithFields g k.header [] name None b c) where
       wrote_first : Wrote g early a b
       wrote_first = subst (λ (ws : List Write). Wrote g ws a b) first.part first.wrote
@@ -196,7 +197,7 @@ module _ {D : Type 0} (g : Ghosts D) where
           let there = is old was in
           let at = m4_is old image name format n there ready new_name new_format in
           let R : List ℕ → Type 0 = λ m. IsReadyFor m image.header name in
-          let ready_there = subst R (sym at) (ready_for_fields old image name format n there ready new_name new_format text (length_told old was)) in
+          let ready_there = subst R (sym at) (ready_for_fields old image name format n there ready new_name new_format text (length_told (g.content a) (g.size a) image.header name n read old was)) in
           let open_next = open_with_format (autocleared image) format (open_cleared image ready) new_format in
           let done = last_made mid next name (mid_image first mid mid_told) open_next new_name (record { text = ready_there.text; ending = ready_there.ending }) in
           let same : with_bytes mid 8 (last_bytes next.header (between_in mid next.header) name) ≡ new =
@@ -239,14 +240,14 @@ module _ {D : Type 0} (g : Ghosts D) where
   -- The same writes for the header with and without another format.
   same_fields : (image : Known) (format name : Option (List ℕ)) (ws : List Write) (stop : Option DevStop) (b c : D)
       → EndsWithFields g (with_format (autocleared image) format).header ws name stop b c → EndsWithFields g image.header ws name stop b c
-  same_fields image format name ws stop b c (inl last) = inl (record { between = last.between; whole = last.whole; told = last.told; writes = last.writes })
+  same_fields image format name ws stop b c (inl last) = inl (record { between = last.between; whole = last.whole; told = last.told; past = last.past; writes = last.writes })
   same_fields image format name ws stop b c (inr fails) =
       inr (record { needed = fails.needed; count = fails.count; is = fails.is; wrote = fails.wrote; cause = fails.cause; call = fails.call })
 
   -- What the call leaves of image and device, by where it stops.
   module _ (image : Known) (name format : Option (List ℕ)) (n : ℕ) (a b c : D) (ready : IsOpen image) (new_name : ForSome name IsNewName)
       (new_format : ForSome format IsNewFormat) (fits : rename_end image name format ≤ g.capacity a)
-      (length_told : (file : List ℕ) → g.content a ≡ Some file → ending_writes image.header name n ≡ ending_writes image.header name (ending_length file image.header)) where
+      (read : IsLengthRead (g.content a) (g.size a) image.header name n) where
     abbrev ws : List Write
     ws = early_writes image n name format
 
@@ -256,24 +257,25 @@ module _ {D : Type 0} (g : Ghosts D) where
     pub early_fault : (stop : DevStop) → Writes g ws (Some stop) a b → TellsFault stop
     early_fault stop writes = writes_fault g ws (Err stop) a b writes end_early
 
-    pub early_changes : (stop : DevStop) (left : Known) → MakesEarly g image n name format (Some stop) left a b → RenamesImage g image name format (stopped_as stop) left a b
-    early_changes (Io count) left makes =
+    pub early_changes : (stop : DevStop) (left : Known) → ((file : List ℕ) → g.content a ≡ Some file → g.size a ≡ length file) → MakesEarly g image n name format (Some stop) left a b → RenamesImage g image name format (stopped_as stop) left a b
+    early_changes (Io count) left sized makes =
         let between : List ℕ = between_in (after_writes (what_is_told (g.content a)) ws) image.header in
         let all = sooner_made g ws (last_writes image.header between name) (Io count) a b makes.writes in
         inr (record {
           n = n;
-          told = length_told;
+          read = read;
           makes = inl (
             record {
               between = between;
               whole = length-bytes_at (after_writes (what_is_told (g.content a)) ws) 20 (next_extension image.header - 20);
               told = λ file was. ap (λ (o : Option (List ℕ)). between_in (after_writes (what_is_told o) ws) image.header) was;
+              past = between_past (g.content a) (g.size a) ws image.header sized;
               writes = all.0;
             },
             makes.known ∙ ap (known_at image name format) (sym all.1),
           );
         })
-    early_changes NoSpace left makes = absurd (early_fault NoSpace makes.writes)
+    early_changes NoSpace left sized makes = absurd (early_fault NoSpace makes.writes)
 
     module _ (k left : Known) (known : k ≡ with_format (autocleared image) format) (first : Writes g ws None a b) where
       fields_of : (stop : Option DevStop) → EndsWithFields g k.header [] name stop b c → EndsWithFields g image.header [] name stop b c
@@ -308,6 +310,7 @@ module _ {D : Type 0} (g : Ghosts D) where
               between = last.between;
               whole = last.whole;
               told = last_told g image.header ws name a b c last.between wrote_early last.told;
+              past = last_past g ws a b last.between wrote_early last.past;
               writes = all.0;
             },
             is ∙ sym (known_last last.writes.made some) ∙ ap (known_at image name format) (sym all.1),
@@ -330,19 +333,19 @@ module _ {D : Type 0} (g : Ghosts D) where
           → RenamesImage g image name format r left a c
       last_changes (Ok done) last ok err =
           let P : Known → Type 0 = λ x. left ≡ with_name x name None in
-          (subst P known ok, record { n = n; told = length_told; makes = ends None last })
+          (subst P known ok, record { n = n; read = read; makes = ends None last })
       last_changes (Err (Io count)) last ok err =
-          inr (record { n = n; told = length_told; makes = stopped_last count left (err ∙ known) (fields_of (Some (Io count)) last) })
+          inr (record { n = n; read = read; makes = stopped_last count left (err ∙ known) (fields_of (Some (Io count)) last) })
       last_changes (Err NoSpace) last ok err =
           absurd (fields_fault g image.header ws name (Err NoSpace) a c (ends (Some NoSpace) last) ready.list end_early (omega (arith, fits)))
 
   -- What it tells then, by its answer.
   module _ (image : Known) (name format : Option (List ℕ)) (n : ℕ) (a b c : D) (is : (file : List ℕ) → g.content a ≡ Some file → IsImageOf file image) (ready : IsOpen image)
       (new_name : ForSome name IsNewName) (new_format : ForSome format IsNewFormat) (text : ForSome name IsUtf8)
-      (length_told : (file : List ℕ) → g.content a ≡ Some file → ending_writes image.header name n ≡ ending_writes image.header name (ending_length file image.header))
+      (read : IsLengthRead (g.content a) (g.size a) image.header name n)
       (k left : Known) (known : k ≡ with_format (autocleared image) format) (first : Writes g (early_writes image n name format) None a b) where
     pub last_named : (r : Result (Unit {0}) DevStop) → EndsWithFields g k.header [] name (stop_of r) b c → OnOk r ((file : List ℕ) → g.content c ≡ Some file → name_in file ≡ name)
-    last_named (Ok done) last = renamed_name image name format n a b c is ready new_name new_format text length_told k known first last
+    last_named (Ok done) last = renamed_name image name format n a b c is ready new_name new_format text read k known first last
     last_named (Err stop) last = tt
 
     pub last_kept : (r : Result (Unit {0}) DevStop) → EndsWithFields g k.header [] name (stop_of r) b c
@@ -353,13 +356,13 @@ module _ {D : Type 0} (g : Ghosts D) where
     pub last_image_is : (r : Result (Unit {0}) DevStop) → EndsWithFields g k.header [] name (stop_of r) b c → OnOk r (left ≡ with_name k name None) → OnErr r (left ≡ k)
         → (file : List ℕ) → g.content c ≡ Some file → IsImageOf file left
     last_image_is (Ok done) last ok err file told =
-        subst (IsImageOf file) (sym ok) (renamed_image image name format n a b c is ready new_name new_format text length_told k known first last file told)
+        subst (IsImageOf file) (sym ok) (renamed_image image name format n a b c is ready new_name new_format text read k known first last file told)
     last_image_is (Err stop) last ok err file told =
         subst (IsImageOf file) (sym (err ∙ known)) (stopped_image image name format n a b c is ready new_name new_format stop k known first last file told)
 
     pub last_disk_is : (r : Result (Unit {0}) DevStop) → EndsWithFields g k.header [] name (stop_of r) b c
         → (old new : List ℕ) → g.content a ≡ Some old → g.content c ≡ Some new → IsSameDisk old new
-    last_disk_is (Ok done) last old new was told = renamed_disk image name format n a b c is ready new_name new_format text length_told k known first last old new was told
+    last_disk_is (Ok done) last old new was told = renamed_disk image name format n a b c is ready new_name new_format text read k known first last old new was told
     last_disk_is (Err stop) last old new was told = (stopped_told image name format n a b c is ready new_name new_format stop k known first last old new was told).disk
 
   -- Why it stops.

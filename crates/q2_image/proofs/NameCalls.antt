@@ -6,14 +6,13 @@ use Rattle.std.proofs.Math.Seq.{take-length}
 use Rattle.std.specs.Option.{ForSome, option_map, option_map_or}
 use Rattle.std.specs.Prelude.{IfErr, IfSome, OnErr}
 use Rattle.q2_format.specs.Header.{LiesWithin}
-use Rattle.byteorder.specs.Endian.{big_from}
 use Rattle.blk_base.specs.Calls.{FailedLast, IsWriteAfterStop}
-use Rattle.blk_base.specs.Content.{Write, after_writes, with_bytes}
+use Rattle.blk_base.specs.Content.{AreZeroPast, Write, after_writes, with_bytes}
 use Rattle.blk_base.specs.Content as content
 use Rattle.blk_base.proofs.Contents.{get_or-bytes_at}
 use Rattle.blk_base.specs.Counts.{IsFailedWrite}
 use Rattle.blk_base.specs.Device.{CountsFault, Reads, StopsBy, Untouched, Wrote, Writes, stop_of}
-use Rattle.blk_base.specs.Writes.{write_of, end_of_writes, IsCutBy, IsPart}
+use Rattle.blk_base.specs.Writes.{write_of, end_of_writes, size_after_writes, IsCutBy, IsPart}
 use Rattle.blk_base.specs.declared.device.Device.{Ghosts}
 use Rattle.blk_base.specs.declared.device.DeviceCall.TheVariants as calls
 use Rattle.blk_base.specs.declared.device.Stop.{Stop}
@@ -27,8 +26,8 @@ use Rattle.q2_format.specs.Created.{IsNewName, IsNewFormat}
 use Rattle.q2_format.specs.Renamed.{ending_place, format_bytes, format_room, name_fields, needs_ending, next_extension, new_name_offset}
 use Rattle.q2_format.specs.declared.header.Header.{Header}
 use Rattle.q2_format.specs.declared.header.Place.{Place}
-use Rattle.q2_format.specs.Bytes.{place_bytes, number_at}
-use Rattle.q2_format.proofs.ByPlace.{big_from-moved, bytes_from_places, length-bytes_at}
+use Rattle.q2_format.specs.Bytes.{place_bytes}
+use Rattle.q2_format.proofs.ByPlace.{bytes_from_places, length-bytes_at}
 use Rattle.q2_format.proofs.NamePlaces.{offset_within}
 use Rattle.q2_refs.proofs.Placing.{told_before}
 use Rattle.q2_image.specs.BackingName.{IsPutBetween, stop_by, with_format_at, EndsWithFields, between_in, early_writes, ending_writes, fields_end, format_writes, last_bytes, last_writes, rename_end, text_writes, with_format, MakesFormat, known_with}
@@ -36,6 +35,7 @@ use Rattle.q2_image.specs.Image.{Known, IsImageOf, IsOpen, cluster_size_in}
 use Rattle.q2_image.specs.Made.{clear_writes}
 use Rattle.q2_image.specs.Writing.{TellsFault, autoclear_end, count_of}
 use Rattle.q2_image.proofs.LastWrite.{length-name_fields}
+use Rattle.q2_image.proofs.NameReads.{between_past, what_is_told}
 use Rattle.q2_image.proofs.NameRoom.{room_in}
 use Rattle.q2_image.proofs.NameSteps.{format_known, format_part, length-format_bytes, open_format, room_at}
 
@@ -60,10 +60,6 @@ fields_in_sector image ready =
     let h : Header = image.header in
     fields_low (needs_ending h) (is_some h.name) h.ended (next_extension h) refl (room_in h ready.room).1
 
-abbrev pub what_is_told : Option (List ℕ) → List ℕ
-what_is_told None = []
-what_is_told (Some file) = file
-
 module _ {D : Type 0} (g : Ghosts D) where
   -- it is made behind others, or that stops
   pub last_told : (h : Header) (early : List Write) (name : Option (List ℕ)) (a b c : D) (between : List ℕ) → Wrote g early a b
@@ -71,6 +67,9 @@ module _ {D : Type 0} (g : Ghosts D) where
       → (file : List ℕ) → g.content a ≡ Some file → between ≡ between_in (after_writes file early) h
   last_told h early name a b c between wrote told file was =
       told (after_writes file early) (wrote.content ∙ ap (option_map (λ bytes. after_writes bytes early)) was)
+
+  pub last_past : (early : List Write) (a b : D) (between : List ℕ) → Wrote g early a b → AreZeroPast (g.size b) 20 between → AreZeroPast (size_after_writes (g.size a) early) 20 between
+  last_past early a b between wrote past = let P : ℕ → Type 0 = λ size. AreZeroPast size 20 between in subst P wrote.size past
 
   pub fields_behind : (h : Header) (early : List Write) (name : Option (List ℕ)) (stop : Option DevStop) (a b c : D) → Writes g early None a b
       → EndsWithFields g h [] name stop b c → EndsWithFields g h early name stop a c
@@ -80,6 +79,7 @@ module _ {D : Type 0} (g : Ghosts D) where
         between = last.between;
         whole = last.whole;
         told = last_told h early name a b c last.between wrote last.told;
+        past = last_past early a b last.between wrote last.past;
         writes = writes_then g early (last_writes h last.between name) stop a b c first last.writes;
       })
   fields_behind h early name stop a b c first (inr fails) =
@@ -316,12 +316,6 @@ format_low image p ready room =
 
 -- What was read.
 
-pub number_told : (file buffer : List ℕ) (at : ℕ) → buffer ≡ content.bytes_at file at 4 → big_from 0 4 buffer ≡ number_at file at 4
-unfolding number_at
-number_told file buffer at is = big_from-moved 4 0 at buffer file (λ k below.
-    let first : 0 + k ≡ k = omega arith in
-    ap (λ (i : ℕ). get_or buffer i 0) first ∙ ap (λ (b : List ℕ). get_or b k 0) is ∙ get_or-bytes_at file at 4 k below)
-
 take-append-add : (xs ys : List ℕ) (n : ℕ) → take (length xs + n) (xs ++ ys) ≡ xs ++ take n ys
 take-append-add [] ys n = let e : 0 + n ≡ n = omega arith in ap (λ (k : ℕ). take k ys) e
 take-append-add (x ∷ xs) ys n =
@@ -347,13 +341,14 @@ eight_of rest enough zeros =
     get_or-take 8 rest i 0 short ∙ zeros i short ∙ sym (get_or-replicate 8 i 0 0 short))
 
 -- the fields, and behind them what was read and zeros
-pub put_between : (fields front between rest mid old : List ℕ) (n : ℕ) (told : Option (List ℕ)) → length fields ≡ 12 → front ≡ fields → length between ≡ n
+pub put_between : (fields front between rest mid old : List ℕ) (n : ℕ) (told : Option (List ℕ)) (size : ℕ) → length fields ≡ 12 → front ≡ fields → length between ≡ n
     → old ≡ replicate 512 0 → mid ≡ drop 12 old → rest ≡ drop n mid → 8 ≤ length rest → n + 20 ≤ 512
-    → ((file : List ℕ) → told ≡ Some file → between ≡ content.bytes_at file 20 n) → IsPutBetween fields n told (front ++ (between ++ rest))
-put_between fields front between rest mid old n told twelve same whole zeros first later enough room read = record {
+    → ((file : List ℕ) → told ≡ Some file → between ≡ content.bytes_at file 20 n) → AreZeroPast size 20 between → IsPutBetween fields n told size (front ++ (between ++ rest))
+put_between fields front between rest mid old n told size twelve same whole zeros first later enough room read past = record {
   between = between;
   whole = whole;
   is = read;
+  past = past;
   put =
       ap (λ (xs : List ℕ). take (n + 20) (xs ++ (between ++ rest))) same
       ∙ ap (λ (k : ℕ). take k (fields ++ (between ++ rest))) (omega arith) ∙ take_front fields (between ++ rest) 12 (n + 8) twelve
@@ -367,8 +362,8 @@ module _ {D : Type 0} (g : Ghosts D) (image : Known) (name : Option (List ℕ)) 
   abbrev lh : Header
   lh = image.header
 
-  pub fields_alone : (stop : Option DevStop) (a b : D) → needs_ending lh ≡ false → Writes g (write_of 8 fields ∷ []) stop a b → EndsWithFields g lh [] name stop a b
-  fields_alone stop a b none writes =
+  pub fields_alone : (stop : Option DevStop) (a b : D) → ((file : List ℕ) → g.content a ≡ Some file → g.size a ≡ length file) → needs_ending lh ≡ false → Writes g (write_of 8 fields ∷ []) stop a b → EndsWithFields g lh [] name stop a b
+  fields_alone stop a b sized none writes =
       let between : List ℕ = between_in (what_is_told (g.content a)) lh in
       let bytes : last_bytes lh between name ≡ fields = ap (λ (t : Bool). name_fields lh name ++ cond t (between ++ replicate 8 0) []) none ∙ append-nil (name_fields lh name) ∙ sym fields_are in
       let W : List ℕ → Type 0 = λ bs. Writes g (write_of 8 bs ∷ []) stop a b in
@@ -376,11 +371,12 @@ module _ {D : Type 0} (g : Ghosts D) (image : Known) (name : Option (List ℕ)) 
         between = between;
         whole = length-bytes_at (what_is_told (g.content a)) 20 (next_extension lh - 20);
         told = λ file was. ap (λ (o : Option (List ℕ)). between_in (what_is_told o) lh) was;
+        past = between_past (g.content a) (g.size a) [] lh sized;
         writes = subst W (sym bytes) writes;
       })
 
   pub fields_read : (stop : Option DevStop) (buffer : List ℕ) (n : ℕ) (a b c : D) → needs_ending lh ≡ true → n ≡ next_extension lh - 20
-      → IsPutBetween fields n (g.content a) buffer → Untouched g a b → Writes g (write_of 8 (take (n + 20) buffer) ∷ []) stop b c → EndsWithFields g lh [] name stop a c
+      → IsPutBetween fields n (g.content a) (g.size a) buffer → Untouched g a b → Writes g (write_of 8 (take (n + 20) buffer) ∷ []) stop b c → EndsWithFields g lh [] name stop a c
   fields_read stop buffer n a b c some is put quiet writes =
       let between : List ℕ = put.between in
       let bytes : take (n + 20) buffer ≡ last_bytes lh between name =
@@ -390,6 +386,7 @@ module _ {D : Type 0} (g : Ghosts D) (image : Known) (name : Option (List ℕ)) 
         between = between;
         whole = put.whole ∙ is;
         told = λ file was. by_place file between n is (put.is file was) put.whole;
+        past = put.past;
         writes = writes_then g [] (last_writes lh between name) stop a b c (untouched-writes g a b quiet) (subst W bytes writes);
       })
     where

@@ -1,12 +1,13 @@
 -- A write in place, as its device tells it.
-use Rattle.std.proofs.Common.{◌≡◌, ℕ, ◌+◌, ◌*◌, ◌/◌, ◌%◌, ◌<◌, ◌≤◌, inl, inr, List, [], length, take, Option, Some, Result, Ok, Err, option_map, refl, sym, ◌∙◌, subst, arith}
+use Rattle.std.proofs.Common.{◌≡◌, ℕ, ◌+◌, ◌*◌, ◌/◌, ◌%◌, ◌<◌, ◌≤◌, inl, inr, List, [], length, Option, Some, Result, Ok, Err, option_map, refl, sym, ◌∙◌, subst, arith}
 use Rattle.std.specs.Prelude.{IfErr}
 use Rattle.std.proofs.lemmas.List.{length-take}
 use Rattle.blk_base.specs.Calls.{FailedLast, IsWriteAfter, IsWriteAfterStop}
 use Rattle.blk_base.specs.Content.{with_bytes}
 use Rattle.blk_base.specs.Counts.{IsFailedWrite, taken}
+use Rattle.blk_base.specs.Device.{Wrote}
 use Rattle.blk_base.specs.Pieces.{Extent}
-use Rattle.blk_base.specs.declared.device.DeviceCall.{DeviceCall}
+use Rattle.blk_base.specs.declared.device.Device.{Ghosts}
 use Rattle.blk_base.specs.declared.device.DeviceCall.TheVariants as calls
 use Rattle.blk_base.specs.declared.device.Stop.{Stop}
 use Rattle.blk_base.specs.declared.device.Stop.TheVariants as why
@@ -14,7 +15,7 @@ use Rattle.blk_base.specs.declared.device.WriteStop.{WriteStop}
 use Rattle.q2_format.specs.declared.entries.L2Entry.TheVariants.{Host}
 use Rattle.q2_refs.proofs.Placing.{told_before}
 use Rattle.q2_image.specs.Image.{Known, IsImageOf, IsOpen, cluster_size_in, entry_in}
-use Rattle.q2_image.specs.Made.{IsOwnCall}
+use Rattle.q2_image.specs.Made.{StoppedOwn, WroteOwn, own_writes, stopped_after}
 use Rattle.q2_image.specs.Writing.{IsDiskWith, IsSameDisk, autocleared, own_place}
 use Rattle.q2_image.proofs.HostUses.{host_entry, size_in}
 use Rattle.q2_image.proofs.OwnWrites.{own_image, own_disk}
@@ -46,24 +47,26 @@ pub part_within : {A : Type 0} (result : Result A WriteStop) (bytes : List ℕ) 
 part_within (Ok a) bytes start h = h
 part_within (Err stop) bytes start h = omega (arith, length-take stop.done bytes, h)
 
--- which call failed last behind the write of a part
-pub own_call : (image : Known) (span : Extent) (place : ℕ) (bytes : List ℕ) (result : Result (Unit {0}) WriteStop) (capacity faults_before faults_now : ℕ) (before mid now : Option DeviceCall)
-    → place ≡ own_place image span → length bytes ≡ span.len → place + length bytes ≤ capacity
-    → IfErr result (λ stop. stop.why ≡ why.NoSpace → (capacity < place + length bytes) × (stop.done ≡ 0) × (faults_now ≡ faults_before))
-    → IfErr result (λ stop. stop.why ≡ why.Failed → (place + length bytes ≤ capacity) × IsFailedWrite place stop.done (length bytes) faults_before faults_now)
-    → mid ≡ before → IsWriteAfter result (calls.Write place (length bytes)) mid now → IsOwnCall image span (length (taken result bytes)) before now
-own_call image span place bytes (Ok done) capacity faults_before faults_now before mid now at whole fits no_space failed first later = inl (whole, later ∙ first)
-own_call image span place bytes (Err stop) capacity faults_before faults_now before mid now at whole fits no_space failed first later = by stop.why refl
+-- what the write of a part leaves behind a cleared autoclear field
+pub own_wrote : {D : Type 0} (g : Ghosts D) (image left : Known) (span : Extent) (place : ℕ) (bytes : List ℕ) (result : Result (Unit {0}) WriteStop) (before mid now : D)
+    → place ≡ own_place image span → length bytes ≡ span.len → place + length bytes ≤ g.capacity mid → left ≡ autocleared image
+    → Wrote g (own_writes image span (taken result bytes)) before now
+    → IfErr result (λ stop. stop.why ≡ why.NoSpace → (g.capacity mid < place + length bytes) × (stop.done ≡ 0) × (g.faults now ≡ g.faults mid))
+    → IfErr result (λ stop. stop.why ≡ why.Failed → (place + length bytes ≤ g.capacity mid) × IsFailedWrite place stop.done (length bytes) (g.faults mid) (g.faults now))
+    → g.failed_call mid ≡ g.failed_call before → IsWriteAfter result (calls.Write place (length bytes)) (g.failed_call mid) (g.failed_call now)
+    → WroteOwn g image left span bytes (stopped_after result) before now
+own_wrote g image left span place bytes (Ok done) before mid now at whole fits known wrote no_space failed first later = (known, wrote, later ∙ first)
+own_wrote g image left span place bytes (Err stop) before mid now at whole fits known wrote no_space failed first later = by stop.why refl
   where
-    by : (reason : Stop) → stop.why ≡ reason → IsOwnCall image span (length (take stop.done bytes)) before now
+    by : (reason : Stop) → stop.why ≡ reason → StoppedOwn g image left span bytes stop.done before now
     by why.NoSpace is = let beyond = (no_space is).0 in absurd (omega (arith, beyond, fits))
     by why.Failed is =
         let few = (failed is).1.part in
-        let cut = length-take stop.done bytes in
-        let call : FailedLast (calls.Write place (length bytes)) now = subst (λ (r : Stop). IsWriteAfterStop r (calls.Write place (length bytes)) mid now) is later in
-        let F : ℕ → Type 0 = λ p. FailedLast (calls.Write p (length bytes)) now in
-        let G : ℕ → Type 0 = λ n. FailedLast (calls.Write (own_place image span) n) now in
-        inr (omega (arith, cut, few, whole), subst G whole (subst F at call))
+        let call : FailedLast (calls.Write place (length bytes)) (g.failed_call now)
+        = subst (λ (r : Stop). IsWriteAfterStop r (calls.Write place (length bytes)) (g.failed_call mid) (g.failed_call now)) is later in
+        let F : ℕ → Type 0 = λ p. FailedLast (calls.Write p (length bytes)) (g.failed_call now) in
+        let G : ℕ → Type 0 = λ n. FailedLast (calls.Write (own_place image span) n) (g.failed_call now) in
+        inl (omega (arith, few, whole), known, wrote, subst G whole (subst F at call))
 
 -- where a mapped part of the disk is
 abbrev pub IsOwnPlace : Known → ℕ → ℕ → Type 0

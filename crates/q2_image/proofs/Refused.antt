@@ -21,7 +21,7 @@ use Rattle.q2_tables.specs.Loading.{IsLoaded}
 use Rattle.q2_tables.specs.declared.stop.TablesStop.{TablesStop}
 use Rattle.q2_tables.specs.declared.stop.TablesStop.TheVariants as tables
 use Rattle.q2_image.specs.Merge.{merged_stop}
-use Rattle.q2_image.specs.Loading.{AnswersWords, CanBeWords, ImageWords, IsTableRead, counts_loaded, table_stops}
+use Rattle.q2_image.specs.Loading.{AnswersTables, CanBeWords, ImageWords, IsTableRead, counts_loaded, table_stops}
 use Rattle.q2_image.specs.Opening.{IsNoHeader, Judges, Names, overlap_stop, place_stops, refusal_of, uses_in}
 use Rattle.q2_image.specs.Placed.{AreKept, kept_stops}
 use Rattle.q2_image.specs.Refusals.{CanBegin, IsBehindHeader, IsRefusalFor}
@@ -119,9 +119,10 @@ zero_at : (n k : ℕ) → get_or (replicate {A = ℕ} n 0) k 0 ≡ 0
 zero_at n k = elim (cases_lt k n) [ inl below ↦ get_or-replicate n k 0 0 below | inr past ↦ get_or_past (replicate n 0) k 0 (omega (arith, length-replicate {A = ℕ} n 0)) ]
 
 -- counts that are 0 are those of a block of zeros
-zero_block : (len offset w n from total : ℕ) → StandsAsBlock len offset w n from (replicate total 0)
+zero_block : (len offset w n from total : ℕ) → StandsAsBlock None len offset w n from (replicate total 0)
 zero_block len offset w n from total = record {
   file = file_with len offset [];
+  is = tt;
   size = length-file_with len offset [];
   are = λ k few below. zero_at total (from + k) ∙ sym (sym (number_stands len offset [] (λ j past. refl) (k * w) w) ∙ number_of_none (k * w) w);
 }
@@ -136,7 +137,7 @@ zeros_kept h len table t read loaded = record {
     reach = length-replicate (counts_loaded h len) 0;
     blocks = blocks_whole h len table read.accepted;
     below = blocks_below h len table read.accepted;
-    stand = λ i below there. zero_block len (block_offset (get_or table i 0)) (refcount_bytes h.refcount_order) _ _ (counts_loaded h len);
+    stands = λ i below there. zero_block len (block_offset (get_or table i 0)) (refcount_bytes h.refcount_order) _ _ (counts_loaded h len);
   };
   absent = λ k below none. zero_at (counts_loaded h len) k;
 }
@@ -160,7 +161,7 @@ last_refused h len r t (Err stop) readable limits places are is =
 
 -- an answer by the words of the tables
 pub words_refused : {A : Type 0} (h : Header) (len : ℕ) (table_of : A → List ℕ) (tables_of : A → kept.KeptTables) (stop : ImageStop) (words : ImageWords) → CanBeRead h len → IsWithinLimits h len
-    → place_stops h len ≡ None → IsNoHeader stop → AnswersWords h len table_of tables_of (Err stop) words → IsRefusalFor stop len
+    → place_stops h len ≡ None → IsNoHeader stop → AnswersTables h len table_of tables_of (Err stop) words → IsRefusalFor stop len
 words_refused h len table_of tables_of stop words readable limits places none answers =
     behind_header h len (table_stops h len words.table words.tree) stop readable limits (of_words h len words places answers.sizes) none answers.judged
 

@@ -1,5 +1,5 @@
 -- An image after a cluster was taken.
-use Rattle.std.proofs.Common.{◌≡◌, ◌≢◌, ℕ, ◌+◌, ◌*◌, ◌/◌, ◌<◌, ◌≤◌, ◌⊎◌, inl, inr, List, ◌∷◌, length, get_or, slice_index, slice_index_or, slice_set, Option, Some, None, is_some, Result, Ok, Err, IfOk, OnErr, refl, sym, ap, subst, ◌∙◌, arith, eq-eqb}
+use Rattle.std.proofs.Common.{◌≡◌, ◌≢◌, ℕ, ◌+◌, ◌*◌, ◌/◌, ◌<◌, ◌≤◌, ◌⊎◌, inl, inr, List, ◌∷◌, length, get_or, slice_index, slice_index_or, slice_set, Option, Some, None, is_some, Result, Ok, Err, refl, sym, ap, subst, ◌∙◌, arith, eq-eqb}
 use Rattle.std.proofs.Math.ListN.{length-set}
 use Rattle.std.proofs.lemmas.Bool.{cases_eq, ne_eqb}
 use Rattle.std.proofs.lemmas.List.{get_or-set_same, get_or-set_other, get_or_past}
@@ -11,15 +11,16 @@ use Rattle.q2_format.specs.Sizes.{cluster_size}
 use Rattle.q2_format.specs.Tables.{Tree, active_tree, refcount_of}
 use Rattle.q2_format.specs.declared.header.Header.{Header}
 use Rattle.blk_base.specs.Device.{Writes}
-use Rattle.blk_base.proofs.DeviceLemmas.{beyond-within}
+use Rattle.blk_base.proofs.DeviceLemmas.{beyond-within, wrote-told}
 use Rattle.blk_base.specs.declared.device.Device.{Ghosts}
 use Rattle.blk_base.specs.declared.fault.DevStop.{DevStop}
 use Rattle.blk_base.specs.declared.fault.DevStop.TheVariants.{Io, NoSpace}
-use Rattle.q2_refs.specs.Allocating.{IsInStep, KeepsCounted, allocation_writes, end_of_allocation, with_one, with_block, with_block_for, place_of_block, refcount_uses}
+use Rattle.q2_refs.specs.Allocating.{Allocates, IsInStep, KeepsCounted, allocation_writes, end_of_allocation, with_one, with_block, with_block_for, place_of_block, refcount_uses}
 use Rattle.q2_refs.specs.Free.{free_cluster, free_clusters}
 use Rattle.q2_refs.specs.Kept.{IsCountsOf, per_block}
 use Rattle.q2_refs.specs.Kept as refs
 use Rattle.q2_refs.specs.declared.allocating.RefStop.{RefStop}
+use Rattle.q2_refs.specs.declared.allocating.RefStop.TheVariants.{Dev, HostLimit}
 use Rattle.q2_refs.proofs.FreeClusters.{first_free_cluster, given_count}
 use Rattle.q2_tables.specs.Kept.{IsTreeOf}
 use Rattle.q2_image.specs.Image.{Known, IsImageOf, IsOpen, cluster_size_in, entry_in}
@@ -114,11 +115,19 @@ open_with_refs image r ready stays =
     }
 
 -- whatever the allocation answers
-pub ready_result : (r next : refs.KeptRefs) (result : Result ℕ RefStop) → IfOk result (λ n. next ≡ with_one (with_block_for r n) n)
-    → OnErr result ((next ≡ r) ⊎ (next ≡ with_block_for r (free_cluster r 0))) → StaysReady r next
-ready_result r next (Ok n) ok err = let P : refs.KeptRefs → Type 0 = StaysReady r in subst P (sym ok) (ready_taken r n)
-ready_result r next (Err stop) ok (inl same) = let P : refs.KeptRefs → Type 0 = StaysReady r in subst P (sym same) (ready_same r)
-ready_result r next (Err stop) ok (inr block) = let P : refs.KeptRefs → Type 0 = StaysReady r in subst P (sym block) (ready_block_for r (free_cluster r 0))
+pub ready_result : {D : Type 0} (g : Ghosts D) (r next : refs.KeptRefs) (result : Result ℕ RefStop) (a b : D) → Allocates g r result next a b → StaysReady r next
+ready_result g r next (Ok n) a b is = let P : refs.KeptRefs → Type 0 = StaysReady r in subst P (sym is.0) (ready_taken r n)
+ready_result g r next (Err (Dev stop)) a b is =
+    let P : refs.KeptRefs → Type 0 = StaysReady r in
+    elim is.known [ inl same ↦ subst P (sym same.0) (ready_same r) | inr placed ↦ subst P (sym placed.0) (ready_block_for r (free_cluster r 0)) ]
+ready_result g r next (Err HostLimit) a b is = let P : refs.KeptRefs → Type 0 = StaysReady r in subst P (sym is.0) (ready_same r)
+
+-- a device tells its bytes behind an allocation where it told them before
+pub allocated_told : {D : Type 0} (g : Ghosts D) (r next : refs.KeptRefs) (result : Result ℕ RefStop) (a b : D) → Allocates g r result next a b
+    → is_some (g.content b) ≡ is_some (g.content a)
+allocated_told g r next (Ok n) a b is = wrote-told g is.1.made a b is.1.wrote
+allocated_told g r next (Err (Dev stop)) a b is = wrote-told g is.writes.made a b is.writes.wrote
+allocated_told g r next (Err HostLimit) a b is = ap (λ (o : Option (List ℕ)). is_some o) is.1.reads.content
 
 -- The file.
 

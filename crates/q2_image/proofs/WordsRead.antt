@@ -11,7 +11,7 @@ use Rattle.q2_tables.specs.Kept.{KeptTables}
 use Rattle.q2_tables.specs.Loading.{AnswersTree, HasRows, TreeStands}
 use Rattle.q2_tables.proofs.Trees.{active_stands, rows_of_active}
 use Rattle.q2_tables.specs.declared.stop.TablesStop.{TablesStop}
-use Rattle.q2_image.specs.Loading.{AnswersTable, AnswersWords, ImageWords, IsTableOf, TableTells, reserved_entry, words_in}
+use Rattle.q2_image.specs.Loading.{AnswersTable, AnswersTables, ImageWords, IsTableOf, TableTells, reserved_entry, words_in}
 use Rattle.q2_image.specs.Merge.{merged_stop}
 use Rattle.q2_image.specs.Opening.{place_stops}
 use Rattle.q2_image.specs.declared.counting.RefTable.{RefTable}
@@ -41,7 +41,7 @@ words_read content h P Q R both table tree = record {
 module _ {A : Type 0} (h : Header) (len : ℕ) (table_of : A → List ℕ) (tables_of : A → KeptTables) (placed : place_stops h len ≡ None) where
   -- nothing is refused
   pub both_answered : (a : A) (read : RefTable) → reserved_entry read ≡ None → ((words : List ℕ) → IsTableOf words read → table_of a ≡ words) → (table : List ℕ) (tree : Tree)
-      → AnswersTable h len (Ok read) table → AnswersTree h len (Ok (tables_of a)) tree → AnswersWords h len table_of tables_of (Ok a) (record { table = table; tree = tree })
+      → AnswersTable h len (Ok read) table → AnswersTree h len (Ok (tables_of a)) tree → AnswersTables h len table_of tables_of (Ok a) (record { table = table; tree = tree })
   both_answered a read none same table tree of_table of_tree = record {
     sizes = record { table = of_table.entries; l1 = of_tree.entries; rows = of_tree.rows; table_stands = of_table.stands; tree_stands = of_tree.stands };
     judged = judged_ok table h len tree placed (subst (TableTells h len table) none of_table.tells.0) of_tree.loads.0;
@@ -51,9 +51,9 @@ module _ {A : Type 0} (h : Header) (len : ℕ) (table_of : A → List ℕ) (tabl
 
   -- a reserved bit of the refcount table
   pub reserved_answered : (t : KeptTables) (read : RefTable) (index : ℕ) (stop : ImageStop) → read ≡ Reserved index → stop ≡ stops.Reserved h.ref_offset index → (table : List ℕ) (tree : Tree)
-      → AnswersTable h len (Ok read) table → AnswersTree h len (Ok t) tree → AnswersWords h len table_of tables_of (Err stop) (record { table = table; tree = tree })
+      → AnswersTable h len (Ok read) table → AnswersTree h len (Ok t) tree → AnswersTables h len table_of tables_of (Err stop) (record { table = table; tree = tree })
   reserved_answered t read index stop is named table tree of_table of_tree =
-      let W : ImageStop → Type 0 = λ s. AnswersWords h len table_of tables_of (Err s) (record { table = table; tree = tree }) in
+      let W : ImageStop → Type 0 = λ s. AnswersTables h len table_of tables_of (Err s) (record { table = table; tree = tree }) in
       subst W (sym named) (record {
         sizes = record { table = of_table.entries; l1 = of_tree.entries; rows = of_tree.rows; table_stands = of_table.stands; tree_stands = of_tree.stands };
         judged = judged_reserved table h len index tree placed (subst (TableTells h len table) (ap reserved_entry is) of_table.tells.0) of_tree.loads.0;
@@ -63,9 +63,9 @@ module _ {A : Type 0} (h : Header) (len : ℕ) (table_of : A → List ℕ) (tabl
 
   -- a refusal of the tree
   pub tree_answered : (read : RefTable) (first : TablesStop) (stop : ImageStop) → stop ≡ merged_stop h (reserved_entry read) first → (table : List ℕ) (tree : Tree)
-      → AnswersTable h len (Ok read) table → AnswersTree h len (Err first) tree → AnswersWords h len table_of tables_of (Err stop) (record { table = table; tree = tree })
+      → AnswersTable h len (Ok read) table → AnswersTree h len (Err first) tree → AnswersTables h len table_of tables_of (Err stop) (record { table = table; tree = tree })
   tree_answered read first stop named table tree of_table of_tree =
-      let W : ImageStop → Type 0 = λ s. AnswersWords h len table_of tables_of (Err s) (record { table = table; tree = tree }) in
+      let W : ImageStop → Type 0 = λ s. AnswersTables h len table_of tables_of (Err s) (record { table = table; tree = tree }) in
       subst W (sym named) (record {
         sizes = record { table = of_table.entries; l1 = of_tree.entries; rows = of_tree.rows; table_stands = of_table.stands; tree_stands = of_tree.stands };
         judged = judged_stop table h len (reserved_entry read) tree first placed of_table.tells.0 of_tree.loads;
@@ -83,9 +83,9 @@ module _ {A : Type 0} (content : Option (List ℕ)) (h : Header) (len : ℕ) (to
   sized : (file : List ℕ) → len ≡ length file → IsSized (active_tree file h)
   sized file size = record { l1 = length_l1 file (cluster_size h.cluster_bits) h.l1_offset h.l1_size; rows = rows_of_active file h; stands = active_stands file h len size }
 
-  pub table_refused : (stop : ImageStop) → WasRead content (λ file. refcount_table file h) (AnswersTable h len (Err stop)) → WasRead content (words_in h) (AnswersWords h len table_of tables_of (Err stop))
+  pub table_refused : (stop : ImageStop) → WasRead content (λ file. refcount_table file h) (AnswersTable h len (Err stop)) → WasRead content (words_in h) (AnswersTables h len table_of tables_of (Err stop))
   table_refused stop read =
-      words_read content h (AnswersTable h len (Err stop)) IsSized (AnswersWords h len table_of tables_of (Err stop))
+      words_read content h (AnswersTable h len (Err stop)) IsSized (AnswersTables h len table_of tables_of (Err stop))
       (λ table tree of_table of_tree. record {
         sizes = record { table = of_table.entries; l1 = of_tree.l1; rows = of_tree.rows; table_stands = of_table.stands; tree_stands = of_tree.stands };
         judged = judged_block table h len tree stop of_table.tells;
@@ -96,7 +96,7 @@ module _ {A : Type 0} (content : Option (List ℕ)) (h : Header) (len : ℕ) (to
 
 -- on a device that tells the same, in a file that is as long
 pub words_at : {A : Type 0} (h : Header) (table_of : A → List ℕ) (tables_of : A → KeptTables) (result : Result A ImageStop) (later content : Option (List ℕ)) (n len : ℕ)
-    → later ≡ content → n ≡ len → WasRead later (words_in h) (AnswersWords h n table_of tables_of result) → WasRead content (words_in h) (AnswersWords h len table_of tables_of result)
+    → later ≡ content → n ≡ len → WasRead later (words_in h) (AnswersTables h n table_of tables_of result) → WasRead content (words_in h) (AnswersTables h len table_of tables_of result)
 words_at h table_of tables_of result later content n len same alike read =
-    let W : Option (List ℕ) → ℕ → Type 0 = λ o k. WasRead o (words_in h) (AnswersWords h k table_of tables_of result) in
+    let W : Option (List ℕ) → ℕ → Type 0 = λ o k. WasRead o (words_in h) (AnswersTables h k table_of tables_of result) in
     subst (W content) alike (subst (λ o. W o n) same read)

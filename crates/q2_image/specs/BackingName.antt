@@ -2,10 +2,11 @@
 use Rattle.std.specs.Prelude.{◌≡◌, ◌⊎◌, ℕ, ◌+◌, ◌-◌, ◌<◌, ◌≤◌, max, Bool, true, is_some, ◌&&◌, nat_lt, if◌then◌else◌, List, [], ◌∷◌, ◌++◌, length, slice_index, take, drop, replicate, Option, Some, None, Result, Ok, Err}
 use Rattle.std.specs.Option.{option_map_or}
 use Rattle.blk_base.specs.Calls.{FailedLast}
-use Rattle.blk_base.specs.Content.{Write, after_writes}
+use Rattle.blk_base.specs.Content.{AreZeroPast, Write, after_writes}
 use Rattle.blk_base.specs.Content as content
 use Rattle.blk_base.specs.Device.{CountsFault, Reads, Untouched, Writes, Wrote}
-use Rattle.blk_base.specs.Writes.{write_of, end_of_writes}
+use Rattle.blk_base.specs.Files.{IfTold}
+use Rattle.blk_base.specs.Writes.{write_of, end_of_writes, size_after_writes}
 use Rattle.blk_base.specs.declared.device.Device.{Ghosts}
 use Rattle.blk_base.specs.declared.device.DeviceCall.TheVariants as calls
 use Rattle.blk_base.specs.declared.device.Stop.{Stop}
@@ -122,12 +123,14 @@ abbrev pub stop_by : Stop → ℕ → DevStop
 stop_by why.Failed count = Io count
 stop_by why.NoSpace count = NoSpace
 
--- these fields, and behind them so many bytes of what a device told, and the 8 of an ending extension, begin a buffer
-pub record IsPutBetween (fields : List ℕ) (n : ℕ) (told : Option (List ℕ)) (buffer : List ℕ) : Type
-    0 where
+-- these fields, and behind them so many bytes that a device of this length read, of what it told, and the 8 of an
+-- ending extension, begin a buffer
+pub record IsPutBetween (fields : List ℕ) (n : ℕ) (told : Option (List ℕ)) (size : ℕ)
+    (buffer : List ℕ) : Type 0 where
   pub between : List ℕ
   pub whole : length between ≡ n
   pub is : (file : List ℕ) → told ≡ Some file → between ≡ content.bytes_at file 20 n
+  pub past : AreZeroPast size 20 between
   pub put : take (n + 20) buffer ≡ fields ++ (between ++ replicate 8 0)
 
 -- what the write of a format leaves of an image and of its device, by the stop that its call tells
@@ -152,13 +155,15 @@ pub record MakesEarly {D : Type 0} (g : Ghosts D) (image : Known) (n : ℕ)
   pub writes : Writes g (early_writes image n name format) stop before now
   pub known : IsKnownEarly stop image name format writes.made left
 
--- The last write is made behind others. What stands in it between fields and ending extension was read before it.
+-- The last write is made behind others. What stands in it between fields and ending extension was read before it, zeros
+-- past the end that the device had then.
 pub record MakesLast {D : Type 0} (g : Ghosts D) (h : Header) (early : List Write)
     (name : Option (List ℕ)) (stop : Option DevStop) (before now : D) : Type 0 where
   pub between : List ℕ
   pub whole : length between ≡ next_extension h - 20
   pub told : (file : List ℕ) → g.content before ≡ Some file
       → between ≡ between_in (after_writes file early) h
+  pub past : AreZeroPast (size_after_writes (g.size before) early) 20 between
   pub writes : Writes g (early ++ last_writes h between name) stop before now
 
 -- or that read failed, of a list that needs an ending extension
@@ -186,22 +191,28 @@ StopsWithFields g image name format early count left before now =
     ⊎ (FailsBefore g image.header early (Some (Io count)) before now
     × (left ≡ with_format (autocleared image) format))
 
+-- What a call takes for the length of the ending extension's own data, of a device that tells this and has this size: the
+-- same is written for it as for the length that a file of that size says, which is the one that is told where one is. So
+-- a length that would stand past the end is 0.
+pub record IsLengthRead (told : Option (List ℕ)) (size : ℕ) (h : Header) (name : Option (List ℕ))
+    (n : ℕ) : Type 0 where
+  pub file : List ℕ
+  pub whole : length file ≡ size
+  pub same : IfTold told (λ bytes. file ≡ bytes)
+  pub is : ending_writes h name n ≡ ending_writes h name (ending_length file h)
+
 -- All the writes. The length of the ending extension was read before them, where it has a say.
 pub record MakesRenaming {D : Type 0} (g : Ghosts D) (image : Known) (name format : Option (List ℕ))
     (stop : Option DevStop) (before now : D) : Type 0 where
   pub n : ℕ
-  pub told : (file : List ℕ) → g.content before ≡ Some file
-      → ending_writes image.header name n
-      ≡ ending_writes image.header name (ending_length file image.header)
+  pub read : IsLengthRead (g.content before) (g.size before) image.header name n
   pub makes : EndsWithFields g image.header (early_writes image n name format) name stop before now
 
 -- and where they stop
 pub record StopsRenaming {D : Type 0} (g : Ghosts D) (image : Known) (name format : Option (List ℕ))
     (count : ℕ) (left : Known) (before now : D) : Type 0 where
   pub n : ℕ
-  pub told : (file : List ℕ) → g.content before ≡ Some file
-      → ending_writes image.header name n
-      ≡ ending_writes image.header name (ending_length file image.header)
+  pub read : IsLengthRead (g.content before) (g.size before) image.header name n
   pub makes : StopsWithFields g image name format (early_writes image n name format) count left
       before now
 

@@ -99,7 +99,7 @@ pub record IsReadFrom (file : List ℕ) (h : Header) (table : List ℕ) (t : tab
   pub tree : IsTreeOf (cluster_size h.cluster_bits) t (active_tree file h)
 
 -- what is answered of these words of a header's tables, which lie in their places
-pub record AnswersWords {A : Type 0} (h : Header) (len : ℕ) (table_of : A → List ℕ)
+pub record AnswersTables {A : Type 0} (h : Header) (len : ℕ) (table_of : A → List ℕ)
     (tables_of : A → tables.KeptTables) (result : Result A ImageStop) (words : ImageWords) : Type 0
   where
     pub sizes : CanBeWords h len words
@@ -115,4 +115,4 @@ pub record HasCounts (h : Header) (len count : ℕ) (refs : KeptRefs) : Type 0 w
   pub reach : length refs.counts ≡ count
   pub blocks : AreWholeClusters (cluster_size h.cluster_bits) refs.table
   pub below : BeginBelow len refs.table
-  pub stand : CountsStand len refs
+  pub stands : CountsStand None len refs

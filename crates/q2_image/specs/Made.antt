@@ -1,12 +1,11 @@
 -- Which writes the calls on an image make, in their order, and what they leave of a device.
-use Rattle.std.specs.Prelude.{◌≡◌, ◌≢◌, ◌⊎◌, ℕ, ◌<◌, ◌==◌, if◌then◌else◌, List, [], ◌∷◌, ◌++◌, length, replicate, take, Option, Some, None, Result, Ok, Err}
+use Rattle.std.specs.Prelude.{◌≡◌, ◌≢◌, ◌⊎◌, ℕ, ◌<◌, ◌==◌, if◌then◌else◌, List, [], ◌∷◌, ◌++◌, replicate, take, Option, Some, None, Result, Ok, Err}
 use Rattle.blk_base.specs.Calls.{FailedLast}
 use Rattle.blk_base.specs.Content.{Write}
 use Rattle.blk_base.specs.Device.{Untouched, Writes, Wrote}
 use Rattle.blk_base.specs.Pieces.{Extent}
 use Rattle.blk_base.specs.Writes.{write_of, IsCutBy, IsPart}
 use Rattle.blk_base.specs.declared.device.Device.{Ghosts}
-use Rattle.blk_base.specs.declared.device.DeviceCall.{DeviceCall}
 use Rattle.blk_base.specs.declared.device.DeviceCall.TheVariants as calls
 use Rattle.blk_base.specs.declared.device.WriteStop.{WriteStop}
 use Rattle.blk_base.specs.declared.device.Stop.TheVariants as why
@@ -30,22 +29,31 @@ clear_writes image = if image.header.autoclear == 0 then [] else write_of 88 (re
 abbrev pub own_writes : Known → Extent → List ℕ → List Write
 own_writes image span bytes = clear_writes image ++ write_of (own_place image span) bytes ∷ []
 
--- Which call failed last, where a write in place wrote so many bytes of a span: the one before it, where they are all, and else
--- the write of them all.
-abbrev pub IsOwnCall : Known → Extent → ℕ → Option DeviceCall → Option DeviceCall → Type 0
-IsOwnCall image span n before now =
-    ((n ≡ span.len) × (now ≡ before))
-    ⊎ ((n < span.len) × FailedLast (calls.Write (own_place image span) span.len) now)
+-- the bytes behind which a write was stopped, if it was
+abbrev pub stopped_after : {A : Type 0} → Result A WriteStop → Option ℕ
+stopped_after (Ok done) = None
+stopped_after (Err stop) = Some stop.done
 
--- What a write in place leaves that wrote these bytes: the autoclear field was cleared before them, and only their own write may
--- have failed; or the field's write failed, of which nothing was made, and none of the bytes.
-abbrev pub WroteOwn : {D : Type 0} → Ghosts D → Known → Known → Extent → List ℕ → D → D → Type 0
-WroteOwn g old new span bytes before now =
-    ((new ≡ autocleared old) × Wrote g (own_writes old span bytes) before now
-    × IsOwnCall old span (length bytes) (g.failed_call before) (g.failed_call now))
-    ⊎ ((old.header.autoclear ≢ 0) × (new ≡ old) × (bytes ≡ [])
+-- What a write in place leaves that a failed call stopped behind so many of these bytes: their own write failed, behind a cleared
+-- autoclear field; or the field's did, of which nothing was made, and none of the bytes.
+abbrev pub StoppedOwn : {D : Type 0} → Ghosts D → Known → Known → Extent → List ℕ → ℕ → D → D
+    → Type 0
+StoppedOwn g old new span bytes n before now =
+    ((n < span.len) × (new ≡ autocleared old)
+    × Wrote g (own_writes old span (take n bytes)) before now
+    × FailedLast (calls.Write (own_place old span) span.len) (g.failed_call now))
+    ⊎ ((n ≡ 0) × (old.header.autoclear ≢ 0) × (new ≡ old)
     × Wrote g (write_of 88 [] ∷ []) before now
     × FailedLast (calls.Write 88 8) (g.failed_call now))
+
+-- What a write in place leaves, by where it was stopped: all of these bytes are written behind a cleared autoclear field, and no
+-- call failed; or one did.
+abbrev pub WroteOwn : {D : Type 0} → Ghosts D → Known → Known → Extent → List ℕ → Option ℕ → D → D
+    → Type 0
+WroteOwn g old new span bytes None before now =
+    (new ≡ autocleared old) × Wrote g (own_writes old span bytes) before now
+    × (g.failed_call now ≡ g.failed_call before)
+WroteOwn g old new span bytes (Some n) before now = StoppedOwn g old new span bytes n before now
 
 -- so it is, unless there was no room
 abbrev pub UnlessFull : {A : Type 0} → Result A WriteStop → Type 0 → Type 0

@@ -28,7 +28,7 @@ pub record IsHeaderRead (h : Header) (len : ℕ) (content : Option (List ℕ)) :
   pub places : place_stops h len ≡ None
   pub told : IfTold content (λ file. (header_stops file len ≡ None) × (header_of file ≡ h))
 
--- the refcount table was read behind it, and names no block outside its place
+-- the refcount table names no block outside its place, where that is told
 abbrev pub AreBlocksPlaced : Header → ℕ → Option (List ℕ) → Type 0
 AreBlocksPlaced h len content =
     IfTold content

@@ -38,7 +38,7 @@ IsBehindHeader h len refusal =
     (place_stops h len ≡ refusal)
     ⊎ ((place_stops h len ≡ None) × (IsOfWords h len refusal ⊎ IsOfNames h len refusal))
 
--- In a file of `len` bytes some first bytes are refused so, or have a header that isn't, behind which the refusal comes.
+-- In a file of `len` bytes some first bytes are refused so, or the refusal comes behind a header that reading can give.
 abbrev pub IsRefusalFor : ImageStop → ℕ → Type 0
 IsRefusalFor (HeaderStops stop) len =
     (bytes : List ℕ) × CanBegin len bytes × (header_refusal bytes len ≡ Some stop)

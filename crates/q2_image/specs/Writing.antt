@@ -44,7 +44,7 @@ IsSameDisk old new = IsDiskWith old new 0 []
 abbrev pub autocleared : Known → Known
 autocleared image = record image { header = record image.header { autoclear = 0 } }
 
--- the autoclear field is 0, or nothing of the file was written
+-- the autoclear field is 0, or no byte that is told has changed
 abbrev pub ClearsFirst : Option (List ℕ) → Option (List ℕ) → Known → Type 0
 ClearsFirst old new image = (image.header.autoclear ≡ 0) ⊎ (new ≡ old)
 

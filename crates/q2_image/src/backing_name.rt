@@ -12,7 +12,7 @@ ghost use Rattle.blk_base.specs.declared.fault.DevStop.TheVariants.{NoSpace};
 ghost use Rattle.q2_format.specs.Bytes.{place_bytes};
 ghost use Rattle.q2_format.specs.Created.{IsNewName, IsNewFormat};
 ghost use Rattle.q2_format.specs.Renamed.{format_room, name_fields, needs_ending, next_extension, new_name_offset};
-ghost use Rattle.q2_image.specs.BackingName.{EndsWithFields, IsPutBetween, MakesEarly, MakesFormat, HasSameName, IsOldOrRenamed, RenamesImage, ending_length, ending_writes, fields_end, format_writes, last_bytes, name_in, reads_length, rename_end, rename_writes, stop_by, text_writes, with_format, with_format_at, with_name};
+ghost use Rattle.q2_image.specs.BackingName.{EndsWithFields, IsLengthRead, IsPutBetween, MakesEarly, MakesFormat, HasSameName, IsOldOrRenamed, RenamesImage, ending_writes, fields_end, format_writes, last_bytes, name_in, reads_length, rename_end, rename_writes, stop_by, text_writes, with_format, with_format_at, with_name};
 ghost use Rattle.q2_image.specs.Image.{IsImageOf, IsOpen};
 ghost use Rattle.q2_image.specs.Writing.{TellsFault, IsSameDisk, autoclear_end, autocleared, count_of};
 
@@ -59,14 +59,16 @@ impl Image {
         text && self.format_fits(format, capacity) && self.fields_end() <= capacity
     }
 
-    /// Gives the image another backing name, or none, and that file's format where it is known. The text comes first,
-    /// beside the present one; then the format takes the present one's place, where the header has one that it fits
-    /// into; and last the fields that say where the name stands are written, all in one sector. A list of extensions
-    /// that ended at the present name gets an ending extension with them, and one whose ending extension has data of
-    /// its own that would end past the new name gets that extension's length as 0 before.
+    /// Gives the image another backing name, or none, and that file's format where it is known. Behind a cleared
+    /// autoclear field the text comes first, beside the present one; then the format takes the present one's place,
+    /// where the header has one that it fits into; and last the fields that say where the name stands are written, all
+    /// in one sector. A list of extensions that ended at the present name gets an ending extension with them, and one
+    /// whose ending extension has data of its own that would end past the new name gets that extension's length as 0
+    /// before.
     ///
     /// `NoSpace` comes exactly where a write would end above the capacity. After each refusal the present name stands,
-    /// with its text. No byte of the disk changes, and no memory is taken.
+    /// with its text; the format beside it is the present one, or the new one once that was written, or a part of either
+    /// where its write stopped between two sectors. No byte of the disk changes, and no memory is taken.
     pub fn set_backing_name<D: Device>(
         &mut self,
         dev: &mut D,
@@ -154,10 +156,8 @@ impl Image {
     /// The length of the ending extension's own data, where a new name would come behind them.
     fn ending_length<D: Device>(&self, dev: &mut D, name: Option<&str>) -> Result<u64, DevStop>
         requires open { IsOpen self.now }
-        ensures length { IfOk result (λ n. (file : List ℕ) → D.content dev.old ≡ Some file
-            → ending_writes self.now.header (option_copied name.entry) n
-            ≡ ending_writes self.now.header (option_copied name.entry)
-            (ending_length file self.now.header)) }
+        ensures length { IfOk result (λ n. IsLengthRead (D.content dev.old) (D.size dev.old)
+            self.now.header (option_copied name.entry) n) }
         ensures small { IfOk result (λ n. n < 4294967296) }
         ensures needed { OnErr result
             (reads_length self.now.header (option_copied name.entry) ≡ true) }
@@ -349,7 +349,8 @@ fn read_between<D: Device>(
     requires zeros { bytes.old ≡ replicate 512 0 }
     requires room { len + 20 ≤ 512 }
     ensures whole { length bytes.new ≡ 512 }
-    ensures put { OnOk result (IsPutBetween fields.now len (D.content dev.old) bytes.new) }
+    ensures put { OnOk result
+        (IsPutBetween fields.now len (D.content dev.old) (D.size dev.old) bytes.new) }
     ensures reads { Reads D.Device (count_of result) dev.old dev.new }
     ensures call { OnErr result
         (FailedLast (DeviceCall.Read 20 len) (D.failed_call dev.new)) }

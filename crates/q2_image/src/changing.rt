@@ -9,8 +9,8 @@ ghost use Rattle.q2_format.specs.declared.entries.L2Entry.TheVariants.{Zero, Hos
 ghost use Rattle.q2_image.specs.BackingName.{KeepsHeader};
 ghost use Rattle.q2_image.specs.Image.{IsImageOf, IsOpen, clusters_in, cluster_size_in, word_in, entry_in};
 ghost use Rattle.q2_image.specs.Reading.{IsHost, IsWithinCluster};
-ghost use Rattle.blk_base.specs.Device.{AtEachStopOf, CountsFault, stop_of};
-ghost use Rattle.q2_image.specs.Made.{ChangesImage, IsOldOrWith, MakesSteps, put_steps, put_writes, zero_steps, zero_writes, own_writes, WroteOwn, UnlessFull, IsOwnPart};
+ghost use Rattle.blk_base.specs.Device.{AtEachStopOf, CountsFault, Untouched, stop_of};
+ghost use Rattle.q2_image.specs.Made.{ChangesImage, IsOldOrWith, MakesSteps, put_steps, put_writes, zero_steps, zero_writes, own_writes, stopped_after, WroteOwn, UnlessFull, IsOwnPart};
 ghost use Rattle.q2_image.specs.Writing.{Flushes, IsDiskWith, IsSameDisk, HasEntriesBut, StaysTaken, IsSpelled, AreClusterZeros, PutFits, ZeroFits, needs_host, TellsFault, count_of, IsOwnStop, IsFailedOwn, own_place, own_end, autoclear_end, autocleared, ClearsFirst, HasHeaderOf};
 
 use crate::image::Image;
@@ -18,7 +18,7 @@ use blk_base::{DevStop, Device, Span, Stop, WriteStop};
 
 impl Image {
     /// Makes a guest cluster Host with these bytes, the whole cluster's. What it takes and writes comes in this order:
-    /// clusters that nothing names, for an L2 table where the guest cluster has none and for the data; the data; and the
+    /// the autoclear field, where that isn't 0; clusters that nothing names, for an L2 table where the guest cluster has none and for the data; the data; and the
     /// entry, which alone makes them visible. Behind an entry that reads as zeros and has a host cluster the data go
     /// there. A cluster that was mapped before gets another host cluster, and the old one is left, counted and unused.
     /// Bit 63 of the entry is set exactly where the refcount of its host cluster is one, as that of a taken one is.
@@ -42,7 +42,7 @@ impl Image {
         ensures stops { PutFits self.old cluster (D.capacity dev.old)
             → AtEachStopOf D.Device (IsOldOrWith (cluster * cluster_size_in self.old) bytes.now)
             (put_writes self.old cluster bytes.now) dev.old }
-        ensures named { PutFits self.old cluster (D.capacity dev.old)
+        ensures header_kept { PutFits self.old cluster (D.capacity dev.old)
             → AtEachStopOf D.Device KeepsHeader (put_writes self.old cluster bytes.now) dev.old }
         ensures mapped { OnOk result (IsHost (entry_in self.new cluster)) }
         ensures spelled { OnOk result (IsSpelled self.new cluster) }
@@ -64,10 +64,6 @@ impl Image {
         // why each answer comes
         ensures no_space { (result ≡ Err NoSpace) ↔
             (PutFits self.old cluster (D.capacity dev.old) → ⊥) }
-        ensures untouched { result ≡ Err NoSpace → (self.new ≡ self.old)
-            × (D.content dev.new ≡ D.content dev.old) × (D.log dev.new ≡ D.log dev.old)
-            × (D.is_flushed dev.new ≡ D.is_flushed dev.old) × (D.size dev.new ≡ D.size dev.old)
-            × (D.faults dev.new ≡ D.faults dev.old) }
         ensures cause { CountsFault (count_of result) (D.faults dev.old) (D.faults dev.new) }
 
         // the device
@@ -81,8 +77,8 @@ impl Image {
         self.put_cleared(dev, cluster, bytes)
     }
 
-    /// Makes a guest cluster Zero, with the host cluster that it had: one L2 entry is written, in a new L2 table where
-    /// there is none. Answers as `put_cluster` does.
+    /// Makes a guest cluster Zero, with the host cluster that it had: behind a cleared autoclear field one L2 entry is
+    /// written, in a new L2 table where there is none. Answers as `put_cluster` does.
     pub fn zero_cluster<D: Device>(&mut self, dev: &mut D, cluster: u64) -> Result<(), DevStop>
         requires cluster { cluster < clusters_in self.old }
         requires image { (file : List ℕ) → D.content dev.old ≡ Some file → IsImageOf file self.old }
@@ -94,7 +90,7 @@ impl Image {
             → AreClusterZeros (cluster_size_in self.old) zeros
             → AtEachStopOf D.Device (IsOldOrWith (cluster * cluster_size_in self.old) zeros)
             (zero_writes self.old cluster) dev.old }
-        ensures named { ZeroFits self.old cluster (D.capacity dev.old)
+        ensures header_kept { ZeroFits self.old cluster (D.capacity dev.old)
             → AtEachStopOf D.Device KeepsHeader (zero_writes self.old cluster) dev.old }
         ensures mapped { OnOk result
             (entry_in self.new cluster ≡ Zero (host_of (entry_in self.old cluster))) }
@@ -116,10 +112,6 @@ impl Image {
         // why each answer comes
         ensures no_space { (result ≡ Err NoSpace) ↔
             (ZeroFits self.old cluster (D.capacity dev.old) → ⊥) }
-        ensures untouched { result ≡ Err NoSpace → (self.new ≡ self.old)
-            × (D.content dev.new ≡ D.content dev.old) × (D.log dev.new ≡ D.log dev.old)
-            × (D.is_flushed dev.new ≡ D.is_flushed dev.old) × (D.size dev.new ≡ D.size dev.old)
-            × (D.faults dev.new ≡ D.faults dev.old) }
         ensures cause { CountsFault (count_of result) (D.faults dev.old) (D.faults dev.new) }
 
         // the device
@@ -133,7 +125,8 @@ impl Image {
         self.zero_cleared(dev, cluster)
     }
 
-    /// Writes a part of one mapped cluster in place. After a failed write its first `done` bytes are written.
+    /// Writes a part of one mapped cluster in place, behind a cleared autoclear field. After a failed write its first
+    /// `done` bytes are written.
     pub fn write_own<D: Device>(
         &mut self,
         dev: &mut D,
@@ -148,7 +141,6 @@ impl Image {
 
         // the image
         ensures known { (self.new ≡ self.old) ⊎ (self.new ≡ autocleared self.old) }
-        ensures done { OnOk result (self.new ≡ autocleared self.old) }
         ensures taken { StaysTaken self.old self.new }
         ensures cleared { ClearsFirst (D.content dev.old) (D.content dev.new) self.new }
         ensures image { (file : List ℕ) → D.content dev.new ≡ Some file → IsImageOf file self.new }
@@ -157,7 +149,7 @@ impl Image {
             → IsDiskWith old new span.start (taken result bytes.now) }
         ensures stops { AtEachStopOf D.Device (IsOwnPart span.start bytes.now)
             (own_writes self.old span bytes.now) dev.old }
-        ensures named { AtEachStopOf D.Device KeepsHeader (own_writes self.old span bytes.now)
+        ensures header_kept { AtEachStopOf D.Device KeepsHeader (own_writes self.old span bytes.now)
             dev.old }
 
         // why each answer comes
@@ -168,15 +160,12 @@ impl Image {
         ensures quiet { OnOk result (D.faults dev.new ≡ D.faults dev.old) }
         ensures untouched { IfErr result
             (λ stop. stop.why ≡ why.NoSpace → (self.new ≡ self.old)
-            × (D.content dev.new ≡ D.content dev.old)
-            × (D.log dev.new ≡ D.log dev.old) × (D.is_flushed dev.new ≡ D.is_flushed dev.old)
-            × (D.size dev.new ≡ D.size dev.old)
-            × (D.faults dev.new ≡ D.faults dev.old)
-            × (D.failed_call dev.new ≡ D.failed_call dev.old)) }
+            × Untouched D.Device dev.old dev.new) }
 
         // the device
         ensures wrote { UnlessFull result
-            (WroteOwn D.Device self.old self.new span (taken result bytes.now) dev.old dev.new) }
+            (WroteOwn D.Device self.old self.new span bytes.now (stopped_after result) dev.old
+            dev.new) }
         ensures told { is_some (D.content dev.new) ≡ is_some (D.content dev.old) }
         ensures faults { D.faults dev.old ≤ D.faults dev.new }
         ensures capacity { D.capacity dev.new ≡ D.capacity dev.old }
@@ -299,14 +288,13 @@ impl Image {
         requires whole { length bytes.now ≡ span.len }
         requires image { (file : List ℕ) → D.content dev.old ≡ Some file → IsImageOf file self.old }
         ensures known { (self.new ≡ self.old) ⊎ (self.new ≡ autocleared self.old) }
-        ensures done { OnOk result (self.new ≡ autocleared self.old) }
         ensures cleared { ClearsFirst (D.content dev.old) (D.content dev.new) self.new }
         ensures image { (file : List ℕ) → D.content dev.new ≡ Some file → IsImageOf file self.new }
         ensures disk { (old new : List ℕ) → D.content dev.old ≡ Some old
             → D.content dev.new ≡ Some new
             → IsDiskWith old new span.start (taken result bytes.now) }
-        ensures wrote { WroteOwn D.Device self.old self.new span (taken result bytes.now) dev.old
-            dev.new }
+        ensures wrote { WroteOwn D.Device self.old self.new span bytes.now (stopped_after result)
+            dev.old dev.new }
         ensures stop { IfErr result
             (IsFailedOwn place (length bytes.now) (D.faults dev.old) (D.faults dev.new)) }
         ensures quiet { OnOk result (D.faults dev.new ≡ D.faults dev.old) }

@@ -312,9 +312,6 @@ pub fn create_image<D: Device>(
     ensures unfinished { OnErr result ((D.content dev.new ≡ D.content dev.old)
         ⊎ ((file : List ℕ) → D.content dev.new ≡ Some file
         → image_refusal file ≡ Some (InHeader Magic))) }
-    ensures unwritten { OnFalse (wrote result)
-        ((D.content dev.new ≡ D.content dev.old) × (D.log dev.new ≡ D.log dev.old)
-        × (D.size dev.new ≡ D.size dev.old) × (D.faults dev.new ≡ D.faults dev.old)) }
     ensures flushed { D.is_flushed dev.new
         ≡ (if wrote result then option_map (λ _. false) (D.is_flushed dev.old)
         else D.is_flushed dev.old) }

@@ -38,7 +38,7 @@ impl Image {
     ghost use Rattle.q2_image.specs.Guest.{file_entry, guest_bytes};
     ghost use Rattle.q2_image.specs.Reading.{IsHost, IsWithinCluster};
     ghost use Rattle.blk_base.specs.Calls.{FailedLast};
-    ghost use Rattle.blk_base.specs.Content.{AreZeroPast};
+    ghost use Rattle.blk_base.specs.Content.{AreZeroPast, bytes_at};
     ghost use Rattle.blk_base.specs.Device.{Reads};
     ghost use Rattle.blk_base.specs.declared.device.DeviceCall.{DeviceCall};
     ghost use Rattle.q2_image.specs.Writing.{TellsFault, count_of, own_place};
@@ -101,10 +101,13 @@ impl Image {
         requires disk { span.start / cluster_size_in self.now < clusters_in self.now }
         requires mapped { IsHost (entry_in self.now (span.start / cluster_size_in self.now)) }
         requires whole { length buf.old ≡ span.len }
-        ensures read { OnOk result
+        ensures read { OnOk result ((file : List ℕ) → D.content dev.old ≡ Some file
+            → buf.new ≡ bytes_at file (own_place self.now span) span.len) }
+        ensures guest { OnOk result
             ((file backing : List ℕ) → D.content dev.old ≡ Some file → IsImageOf file self.now
             → buf.new ≡ guest_bytes file backing span.start span.len) }
-        ensures past { OnOk result (AreZeroPast (D.size dev.old) (own_place self.now span) buf.new) }
+        ensures past { OnOk result
+            (AreZeroPast (D.size dev.old) (own_place self.now span) buf.new) }
         ensures cause { IfErr result TellsFault }
         ensures device { Reads D.Device (count_of result) dev.old dev.new }
         ensures call { OnErr result (FailedLast

@@ -10,7 +10,7 @@ ghost use Rattle.q2_refs.specs.Loading.{table_call};
 ghost use Rattle.q2_tables.specs.Loading.{IsLoaded, IsTablesCall};
 ghost use Rattle.q2_image.specs.OpeningCalls.{AreBlocksPlaced};
 ghost use Rattle.q2_image.specs.Opening.{IsNoHeader, fault_of_image, place_stops};
-ghost use Rattle.q2_image.specs.Loading.{reserved_entry, AnswersTable, AnswersWords, IsTableRead, IsTableAnswer, words_in};
+ghost use Rattle.q2_image.specs.Loading.{reserved_entry, AnswersTable, AnswersTables, IsTableRead, IsTableAnswer, words_in};
 ghost use Rattle.q2_image.specs.Merge.{behind_reserved, merged_stop};
 
 use crate::counting::{RefTable, load_ref_table};
@@ -93,7 +93,7 @@ fn load_behind<D: Device>(
         (AnswersTable header.now (D.size dev.old) (Ok table)) }
     requires read { IsTableAnswer header.now (D.size dev.old) table }
     ensures words { WasRead (D.content dev.old) (words_in header.now)
-        (AnswersWords header.now (D.size dev.old) (λ both. both.0.items) (λ both. both.1) result) }
+        (AnswersTables header.now (D.size dev.old) (λ both. both.0.items) (λ both. both.1) result) }
     ensures has_table { IfOk result (λ both. IsTableRead header.now (D.size dev.old) both.0.items) }
     ensures has_tables { IfOk result (λ both. IsLoaded header.now (D.size dev.old) both.1) }
     ensures no_header { IfErr result IsNoHeader }
@@ -120,7 +120,7 @@ pub(crate) fn load<D: Device>(
     requires readable { CanBeRead header.now (D.size dev.old) }
     requires placed { place_stops header.now (D.size dev.old) ≡ None }
     ensures words { WasRead (D.content dev.old) (words_in header.now)
-        (AnswersWords header.now (D.size dev.old) (λ both. both.0.items) (λ both. both.1) result) }
+        (AnswersTables header.now (D.size dev.old) (λ both. both.0.items) (λ both. both.1) result) }
     ensures has_table { IfOk result (λ both. IsTableRead header.now (D.size dev.old) both.0.items) }
     ensures has_tables { IfOk result (λ both. IsLoaded header.now (D.size dev.old) both.1) }
     ensures no_header { IfErr result IsNoHeader }

@@ -168,7 +168,7 @@ fn open_tables<D: Device>(
 /// the order of the refusals. So the refcount table is read behind the header, then the L1 table, then all L2 tables,
 /// and all refcount blocks last, once nothing is named twice. The L2 tables are judged once all of them are read, and
 /// so are the refcount blocks: a failed read of one also hides what another that was read has told. `NoMemory` may
-/// always come.
+/// come wherever the file is as long as a header.
 pub fn open_image<D: Device>(alloc: Global, dev: &mut D) -> Result<Image, ImageStop>
     // the first refusal of the file, or an image of it
     ensures judged { (file : List ℕ) → D.content dev.old ≡ Some file

@@ -25,7 +25,7 @@ pub enum ImageStop {
     Refcount(u64),
     /// The header has no room for another backing name.
     HeaderFull,
-    /// A call of the device failed; its count of faults afterwards.
+    /// A read of the device failed; its count of faults afterwards.
     Io { count: u64 },
     /// Memory was asked for and not had.
     NoMemory,

@@ -4,7 +4,7 @@ use Rattle.blk_base.specs.Device.{Reads}
 use Rattle.blk_base.specs.declared.device.DeviceCall.{DeviceCall}
 use Rattle.q2_tables.specs.Kept.{KeptTables}
 use Rattle.q2_tables.specs.Loading.{AnswersTree, fault_in_tables, IsTablesCall}
-use Rattle.q2_image.specs.Loading.{AnswersTable, AnswersWords, IsTableAnswer, IsTableOf, reserved_entry}
+use Rattle.q2_image.specs.Loading.{AnswersTable, AnswersTables, IsTableAnswer, IsTableOf, reserved_entry}
 use Rattle.q2_image.specs.Opening.{IsNoHeader, fault_in_image}
 use Rattle.q2_image.specs.Merge.{merged_stop}
 use Rattle.q2_image.specs.declared.counting.RefTable.{RefTable}
@@ -27,7 +27,7 @@ returns-in-Ok-words_of-clause-words g c =
     let read = c.args.table in
     let is = c.in-Ok-words_of.ensures.read in
     let S : RefTable → Type 0 = λ table. (words : List ℕ) → IsTableOf words table → c.in-Ok-words_of.words.items ≡ words in
-    words_read (g.D.Device.content c.args.dev.now) h (AnswersTable h len (Ok read)) (AnswersTree h len (Ok c.in-Ok.tables)) (AnswersWords h len table_of tables_of (Ok a))
+    words_read (g.D.Device.content c.args.dev.now) h (AnswersTable h len (Ok read)) (AnswersTree h len (Ok c.in-Ok.tables)) (AnswersTables h len table_of tables_of (Ok a))
     (both_answered h len table_of tables_of c.requires.placed a read (ap reserved_entry is) (subst S (sym is) (λ words same. same))) c.requires.words c.in-Ok.ensures.read
 
 pub returns-in-Ok-words_of-clause-has_table : goal.returns-in-Ok-words_of-clause-has_table
@@ -44,7 +44,7 @@ returns-in-Err-words_of-clause-words g c =
     let read = c.args.table in
     let stop = c.in-Err-words_of.stop in
     let found = c.in-Err-words_of.ensures.reserved in
-    words_read (g.D.Device.content c.args.dev.now) h (AnswersTable h len (Ok read)) (AnswersTree h len (Ok c.in-Ok.tables)) (AnswersWords h len table_of tables_of (Err stop))
+    words_read (g.D.Device.content c.args.dev.now) h (AnswersTable h len (Ok read)) (AnswersTree h len (Ok c.in-Ok.tables)) (AnswersTables h len table_of tables_of (Err stop))
     (reserved_answered h len table_of tables_of c.requires.placed c.in-Ok.tables read found.0 stop found.1 found.2) c.requires.words c.in-Ok.ensures.read
 
 pub returns-in-Err-clause-words : goal.returns-in-Err-clause-words
@@ -55,7 +55,7 @@ returns-in-Err-clause-words g c =
     let tables_of : Both → KeptTables = λ both. both.1 in
     let read = c.args.table in
     let merged : c.merge.result ≡ merged_stop h (reserved_entry read) c.in-Err.stop = c.merge.ensures ∙ ap (λ (reserved : Option ℕ). merged_stop h reserved c.in-Err.stop) c.reserved_in.ensures in
-    words_read (g.D.Device.content c.args.dev.now) h (AnswersTable h len (Ok read)) (AnswersTree h len (Err c.in-Err.stop)) (AnswersWords h len table_of tables_of (Err c.merge.result))
+    words_read (g.D.Device.content c.args.dev.now) h (AnswersTable h len (Ok read)) (AnswersTree h len (Err c.in-Err.stop)) (AnswersTables h len table_of tables_of (Err c.merge.result))
     (tree_answered h len table_of tables_of c.requires.placed read c.in-Err.stop c.merge.result merged) c.requires.words c.in-Err.ensures.read
 
 pub returns-in-Err-clause-device : goal.returns-in-Err-clause-device

@@ -2,7 +2,7 @@ use Rattle.std.proofs.Common.{◌≡◌, ℕ, length, None, Some, Ok, Err, Vec, 
 use Rattle.std.proofs.lemmas.Result.{err_from_is_err_and}
 use Rattle.blk_base.proofs.Readings.{read_of}
 use Rattle.q2_tables.specs.Kept.{KeptTables}
-use Rattle.q2_image.specs.Loading.{AnswersWords, words_in}
+use Rattle.q2_image.specs.Loading.{AnswersTables, words_in}
 use Rattle.q2_image.specs.Opening.{Names, header_stops, place_stops}
 use Rattle.q2_image.specs.OpeningCalls.{IsOpeningCall}
 use Rattle.q2_format.specs.declared.header.HeaderStop.TheVariants.{Short}
@@ -44,7 +44,7 @@ open_tables-requires-clause-read g c = λ file told.
     let first : g.D.Device.content c.args.dev.now ≡ Some file = sym c.in_ok-header.ensures.device.reads.content ∙ loaded in
     let h = c.in_ok-header.header in
     let len : ℕ = g.D.Device.size c.open_header.new.dev in
-    let answers = read_of (g.D.Device.content c.open_header.new.dev) (words_in h) (AnswersWords h len (λ (both : Both). both.0.items) (λ both. both.1) (Ok (c.in-Ok.table, c.in-Ok.tables)))
+    let answers = read_of (g.D.Device.content c.open_header.new.dev) (words_in h) (AnswersTables h len (λ (both : Both). both.0.items) (λ both. both.1) (Ok (c.in-Ok.table, c.in-Ok.tables)))
     c.in-Ok.ensures.words file loaded in
     read_from file h (g.D.Device.size c.args.dev.now) len c.in-Ok.table.items c.in-Ok.tables
     c.in_ok-header.ensures.device.reads.size (g.met.D.Device.told_size c.args.dev.now file first) (c.in_ok-header.ensures.header file first) (c.in_ok-header.ensures.judged file first)
@@ -68,7 +68,7 @@ returns-in-Err-clause-judged g c = λ file told.
     word_named file c.in_ok-header.header (g.D.Device.size c.open_header.new.dev) c.in-Err.stop size (c.in_ok-header.ensures.header file told)
     (subst H (sym same) (c.in_ok-header.ensures.judged file told)) (subst P c.length-len.ensures c.in_ok-check_places.ensures.judged)
     (read_of (g.D.Device.content c.open_header.new.dev) (words_in c.in_ok-header.header)
-    (AnswersWords c.in_ok-header.header (g.D.Device.size c.open_header.new.dev) (λ (both : Both). both.0.items) (λ both. both.1) (Err c.in-Err.stop)) c.in-Err.ensures.words file
+    (AnswersTables c.in_ok-header.header (g.D.Device.size c.open_header.new.dev) (λ (both : Both). both.0.items) (λ both. both.1) (Err c.in-Err.stop)) c.in-Err.ensures.words file
     (c.in_ok-header.ensures.device.reads.content ∙ told)).judged
 
 pub returns-in_err-header-clause-short : goal.returns-in_err-header-clause-short
@@ -139,7 +139,7 @@ returns-in-Err-clause-refusal g c =
     let read = c.in-Err.ensures.words in
     let same : g.D.Device.size c.open_header.new.dev ≡ g.D.Device.size c.args.dev.now = c.in_ok-header.ensures.device.reads.size in
     let P : ℕ → Type 0 = λ n. place_stops h n ≡ None in
-    let A : ℕ → Type 0 = λ n. AnswersWords h n (λ (both : Both). both.0.items) (λ both. both.1) (Err c.in-Err.stop) read.value in
+    let A : ℕ → Type 0 = λ n. AnswersTables h n (λ (both : Both). both.0.items) (λ both. both.1) (Err c.in-Err.stop) read.value in
     words_refused h (g.D.Device.size c.args.dev.now) (λ (both : Both). both.0.items) (λ both. both.1) c.in-Err.stop read.value c.in_ok-header.ensures.readable c.in_ok-header.ensures.limits
     (subst P (c.length-len.ensures ∙ same) c.in_ok-check_places.ensures.judged) c.in-Err.ensures.no_header (subst A same read.holds)
 

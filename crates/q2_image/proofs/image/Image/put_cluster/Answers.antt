@@ -21,13 +21,13 @@ returns-clause-stops g c = λ fits file told.
     put_stops file c.args.self.now c.args.cluster c.args.bytes.now (g.D.Device.capacity c.args.dev.now) (c.requires.image file told) c.if-not-put_fits.ensures.open
     c.if-not-put_fits.ensures.below c.requires.whole fits
 
-pub returns-then-not-put_fits-clause-named : goal.returns-then-not-put_fits-clause-named
-returns-then-not-put_fits-clause-named g c = λ fits file told.
+pub returns-then-not-put_fits-clause-header_kept : goal.returns-then-not-put_fits-clause-header_kept
+returns-then-not-put_fits-clause-header_kept g c = λ fits file told.
     put_header file c.args.self.now c.args.cluster c.args.bytes.now (g.D.Device.capacity c.args.dev.now) (c.requires.image file told) c.if-not-put_fits.ensures.open
     c.if-not-put_fits.ensures.below c.requires.whole fits
 
-pub returns-clause-named : goal.returns-clause-named
-returns-clause-named g c = λ fits file told.
+pub returns-clause-header_kept : goal.returns-clause-header_kept
+returns-clause-header_kept g c = λ fits file told.
     put_header file c.args.self.now c.args.cluster c.args.bytes.now (g.D.Device.capacity c.args.dev.now) (c.requires.image file told) c.if-not-put_fits.ensures.open
     c.if-not-put_fits.ensures.below c.requires.whole fits
 

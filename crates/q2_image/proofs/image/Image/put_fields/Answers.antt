@@ -15,7 +15,7 @@ use Rattle.q2_image.proofs.image.Image.put_fields.Goals as goal
 pub returns-then-not-needs_ending : goal.returns-then-not-needs_ending
 returns-then-not-needs_ending g c = λ name is.
     let none : needs_ending c.args.self.now.header ≡ false = ap (λ (k : Known). needs_ending k.header) (sym c.self.view_is) ∙ sym c.needs_ending.ensures ∙ c.if-not-needs_ending.true in
-    fields_alone g.D.Device c.args.self.now name c.args.fields.now is (stop_of c.write.result) c.args.dev.now c.write.new.dev none c.write.ensures
+    fields_alone g.D.Device c.args.self.now name c.args.fields.now is (stop_of c.write.result) c.args.dev.now c.write.new.dev (g.met.D.Device.told_size c.args.dev.now) none c.write.ensures
 
 pub returns-in_err-read_between : goal.returns-in_err-read_between
 returns-in_err-read_between g c = λ name is.

@@ -12,8 +12,8 @@ overflow_add-host g c =
     let size = c.cluster_size-cluster_size.ensures.number in
     omega arith
 
-pub returns-in-Ok-clause-read : goal.returns-in-Ok-clause-read
-returns-in-Ok-clause-read g c = λ file backing told is.
+pub returns-in-Ok-clause-guest : goal.returns-in-Ok-clause-guest
+returns-in-Ok-clause-guest g c = λ file backing told is.
     let image : Known = c.args.self.now in
     let start : ℕ = c.args.span.start in
     let n : ℕ = c.args.span.len in

@@ -42,7 +42,7 @@ returns-in_err-write_before_fields-clause-changes g c =
     let new_format = copied_fits IsNewFormat c.args.format c.requires.format in
     let Q : DevStop → Type 0 = λ x. RenamesImage g.D.Device c.args.self.now name format (stopped_as x) c.write_before_fields.new.self c.args.dev.now c.write_before_fields.new.dev in
     rw p.1 (subst Q (sym p.2) (early_changes g.D.Device c.args.self.now name format n c.args.dev.now c.write_before_fields.new.dev c.write_before_fields.new.dev c.name_fits.ensures.open new_name new_format fits c.in_ok-length.ensures.length
-    stop c.write_before_fields.new.self first))
+    stop c.write_before_fields.new.self (g.met.D.Device.told_size c.args.dev.now) first))
 
 pub returns-in_err-write_before_fields-clause-cause : goal.returns-in_err-write_before_fields-clause-cause
 returns-in_err-write_before_fields-clause-cause g c =

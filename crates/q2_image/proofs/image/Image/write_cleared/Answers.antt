@@ -1,4 +1,4 @@
-use Rattle.std.proofs.Common.{ℕ, ◌+◌, ◌/◌, ◌%◌, ◌<◌, ◌≤◌, List, [], ◌∷◌, ◌++◌, inl, inr, length, refl, sym, subst, arith}
+use Rattle.std.proofs.Common.{ℕ, ◌+◌, ◌/◌, ◌%◌, ◌<◌, ◌≤◌, List, [], ◌∷◌, ◌++◌, inr, length, refl, sym, subst, arith}
 use Rattle.blk_base.specs.Content.{Write, with_bytes}
 use Rattle.blk_base.specs.Counts.{taken}
 use Rattle.blk_base.specs.Device.{Wrote}
@@ -7,7 +7,7 @@ use Rattle.blk_base.proofs.DeviceLemmas.{wrote-then}
 use Rattle.q2_image.specs.Image.{Known, IsOpen}
 use Rattle.q2_image.specs.Made.{clear_writes}
 use Rattle.q2_image.proofs.ClearWrites.{clear_call, clear_stopped}
-use Rattle.q2_image.proofs.OwnTold.{IsOwnPlace, open_cleared, own_call, part_within, own_told_image, own_told_disk, same_at}
+use Rattle.q2_image.proofs.OwnTold.{IsOwnPlace, open_cleared, own_wrote, part_within, own_told_image, own_told_disk, same_at}
 use Rattle.q2_image.proofs.OwnWrites.{disk_then}
 use Rattle.q2_refs.proofs.Placing.{told_before}
 use Rattle.q2_image.proofs.image.Image.write_cleared.Goals as goal
@@ -66,12 +66,10 @@ returns-in-Ok-clause-wrote g c =
       faults = c.write_at.ensures.faults;
     } in
     let P : ℕ → Type 0 = λ place. Wrote g.D.Device (clear_writes image ++ write_of place bytes ∷ []) c.args.dev.now c.write_at.new.self in
-    let call = own_call image c.args.span c.args.place c.args.bytes.now c.write_at.result (g.D.Device.capacity c.clear_autoclear.new.dev)
-    (g.D.Device.faults c.clear_autoclear.new.dev) (g.D.Device.faults c.write_at.new.self) (g.D.Device.failed_call c.args.dev.now)
-    (g.D.Device.failed_call c.clear_autoclear.new.dev) (g.D.Device.failed_call c.write_at.new.self) c.requires.place c.requires.whole
-    (let fits = c.requires.fits in let same = c.clear_autoclear.ensures.capacity in omega (arith, fits, same))
-    c.write_at.ensures.no_space c.write_at.ensures.failed cleared.call c.write_at.ensures.call in
-    inl (c.in-Ok.ensures.cleared, subst P c.requires.place (wrote-then g.D.Device (clear_writes image) (write_of c.args.place bytes ∷ []) _ _ _ first later), call)
+    own_wrote g.D.Device image c.clear_autoclear.new.self c.args.span c.args.place c.args.bytes.now c.write_at.result c.args.dev.now c.clear_autoclear.new.dev c.write_at.new.self
+    c.requires.place c.requires.whole (let fits = c.requires.fits in let same = c.clear_autoclear.ensures.capacity in omega (arith, fits, same)) c.in-Ok.ensures.cleared
+    (subst P c.requires.place (wrote-then g.D.Device (clear_writes image) (write_of c.args.place bytes ∷ []) _ _ _ first later))
+    c.write_at.ensures.no_space c.write_at.ensures.failed cleared.call c.write_at.ensures.call
 
 pub returns-in-Err-clause-wrote : goal.returns-in-Err-clause-wrote
 returns-in-Err-clause-wrote g c =
@@ -79,9 +77,9 @@ returns-in-Err-clause-wrote g c =
     let at = clear_stopped c.args.self.now c.in-Err.field-0 cleared.made cleared.part in
     let W : List Write → Type 0 = λ ws. Wrote g.D.Device ws c.args.dev.now c.clear_autoclear.new.dev in
     inr (
+      refl,
       at.0,
       c.in-Err.ensures.kept,
-      refl,
       subst W at.1 cleared.wrote,
       clear_call c.args.self.now c.in-Err.field-0 cleared.made _ _ c.in-Err.ensures.cause cleared.part cleared.call,
     )

@@ -23,13 +23,13 @@ returns-clause-stops g c = λ fits zeros are file told.
     zero_stops file c.args.self.now c.args.cluster zeros (g.D.Device.capacity c.args.dev.now) (c.requires.image file told) c.if-not-zero_fits.ensures.open
     c.if-not-zero_fits.ensures.below are fits
 
-pub returns-then-not-zero_fits-clause-named : goal.returns-then-not-zero_fits-clause-named
-returns-then-not-zero_fits-clause-named g c = λ fits file told.
+pub returns-then-not-zero_fits-clause-header_kept : goal.returns-then-not-zero_fits-clause-header_kept
+returns-then-not-zero_fits-clause-header_kept g c = λ fits file told.
     zero_header file c.args.self.now c.args.cluster (replicate (cluster_size_in c.args.self.now) 0) (g.D.Device.capacity c.args.dev.now) (c.requires.image file told)
     c.if-not-zero_fits.ensures.open c.if-not-zero_fits.ensures.below (cluster_zeros (cluster_size_in c.args.self.now)) fits
 
-pub returns-clause-named : goal.returns-clause-named
-returns-clause-named g c = λ fits file told.
+pub returns-clause-header_kept : goal.returns-clause-header_kept
+returns-clause-header_kept g c = λ fits file told.
     zero_header file c.args.self.now c.args.cluster (replicate (cluster_size_in c.args.self.now) 0) (g.D.Device.capacity c.args.dev.now) (c.requires.image file told)
     c.if-not-zero_fits.ensures.open c.if-not-zero_fits.ensures.below (cluster_zeros (cluster_size_in c.args.self.now)) fits
 
