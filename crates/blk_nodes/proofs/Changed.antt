@@ -201,14 +201,15 @@ module _ (IsDisk : List ℕ → Type 0) (image now : Known) (part : Extent) (byt
   around_entries (Io dev count) (inr is) = by_tables image now (ap (λ (k : Known). k.tables) is.0)
   around_entries (NoSpace dev) is = by_tables image now (ap (λ (k : Known). k.tables) is.0)
 
-  wrote_entries : (taken : List ℕ) → WroteOwn seen image now part taken before after → (n : ℕ) → word_in now n ≡ word_in image n
-  wrote_entries taken (inl is) = by_tables image now (ap (λ (k : Known). k.tables) is.0)
-  wrote_entries taken (inr is) = by_tables image now (ap (λ (k : Known). k.tables) is.1)
+  wrote_entries : (stop : Option ℕ) → WroteOwn seen image now part bytes stop before after → (n : ℕ) → word_in now n ≡ word_in image n
+  wrote_entries None is = by_tables image now (ap (λ (k : Known). k.tables) is.0)
+  wrote_entries (Some n) (inl is) = by_tables image now (ap (λ (k : Known). k.tables) is.1)
+  wrote_entries (Some n) (inr is) = by_tables image now (ap (λ (k : Known). k.tables) is.2)
 
   own_entries : (o : Outcome) → ChangesInPlace part bytes image now before after o → (n : ℕ) → word_in now n ≡ word_in image n
-  own_entries Good is = wrote_entries bytes is.wrote
-  own_entries (Torn done dev count) is = wrote_entries _ is.wrote
-  own_entries (Io dev count) is = wrote_entries [] is.wrote
+  own_entries Good is = wrote_entries None is.wrote
+  own_entries (Torn done dev count) is = wrote_entries (Some done) is.wrote
+  own_entries (Io dev count) is = wrote_entries (Some 0) is.wrote
   own_entries (NoSpace dev) is = by_tables image now (ap (λ (k : Known). k.tables) is.0)
 
   part_entries : (e : L2Entry) (o : Outcome) → ChangesPart IsDisk e part bytes image now before after o → LeavesEntries image now (cluster_of image part) o

@@ -9,12 +9,14 @@ use Rattle.std.proofs.lemmas.Bool.{eqb-true, ne_eqb}
 use Rattle.std.proofs.lemmas.Bool.Decides.{nat_tests}
 use Rattle.blk_graph.proofs.Members.{find-Some}
 use Rattle.blk_base.specs.Calls.{FailsReading}
+use Rattle.blk_base.specs.Content.{AreZeroPast}
 use Rattle.blk_base.specs.Device.{CountsFault}
 use Rattle.blk_base.specs.declared.device.DeviceCall.{DeviceCall}
 use Rattle.blk_base.specs.declared.fault.DevNo.{DevNo}
 use Rattle.blk_base.specs.declared.fault.Outcome.{Outcome}
 use Rattle.blk_base.specs.declared.fault.Outcome.TheVariants.{Good, Torn, Io, NoSpace}
 use Rattle.blk_nodes.specs.Contents.{told, bytes_by}
+use Rattle.blk_nodes.specs.Found.{IsZeroPastFile}
 use Rattle.blk_nodes.specs.Nodes.{DeviceSeen, AreTold, IsFileTold, is_device_of, device_in}
 use Rattle.blk_nodes.specs.Changing.{ImageChange}
 use Rattle.blk_nodes.specs.Writing.{IsDeviceAfter, IsWriteOf, IsWriteAt, IsImageCall, IsImageCallAt, HasImageCause, HasRoomBy, HasRoomAt}
@@ -213,6 +215,11 @@ read_over file call devices at d y (Io dev count) place risen is =
       is.1,
     )
 read_over file call devices at d y (NoSpace dev) place risen is = is
+
+-- what was read of the device at a place is 0 past its end
+pub past_over : (file : ℕ) (devices : List DeviceSeen) (at : ℕ) (d : DeviceSeen) (start : ℕ) (bytes : List ℕ) → position (is_device_of file) devices ≡ Some at
+    → AreZeroPast (get_or devices at d).size start bytes → IsZeroPastFile devices file start bytes
+past_over file devices at d start bytes place past = rw (at_place file devices at d place) past
 
 -- a write of one of the devices
 pub written_over : (file : ℕ) (devices : List DeviceSeen) (at : ℕ) (d y : DeviceSeen) (start : ℕ) (bytes : List ℕ) (outcome : Outcome) → position (is_device_of file) devices ≡ Some at

@@ -23,6 +23,7 @@ use Rattle.q2_format.specs.declared.entries.L2Entry.{L2Entry}
 use Rattle.q2_format.specs.declared.entries.L2Entry.TheVariants.{Unallocated, Zero, Host, Compressed, Reserved}
 use Rattle.q2_image.specs.Image.{Known, clusters_in, word_in, entry_in}
 use Rattle.q2_image.specs.Reading.{IsHost}
+use Rattle.q2_image.specs.BackingName.{KeepsHeader}
 use Rattle.q2_image.specs.Made.{WriteStep, MakesSteps, WroteOwn, ChangesImage, IsOldOrWith, IsOwnPart, own_writes, writes_of_steps}
 use Rattle.q2_image.specs.Writing.{IsDiskWith, IsSameDisk, HasHeaderOf, HasEntriesBut, CanTake, AreClusterZeros, ClearsFirst, ZeroFits, IsOwnStop, autocleared, autoclear_end, table_for}
 use Rattle.q2_tables.specs.Linking.{link_end}
@@ -230,43 +231,46 @@ module _ {D : Type 0} (g : Ghosts D) (node : ℕ) (number : DevNo) (before now :
   pub cluster_change : (image left : Known) (steps : List WriteStep) (place : ℕ) (bytes : List ℕ) (IsMade : Known → Type 0) (r : Result (Unit {0}) DevStop)
       → ChangesImage g image steps r left before now → ClearsFirst (g.content before) (g.content now) left
       → (r ≢ Err stops.NoSpace → AtEachStopOf g (IsOldOrWith place bytes) (writes_of_steps steps) before)
+      → (r ≢ Err stops.NoSpace → AtEachStopOf g KeepsHeader (writes_of_steps steps) before)
       → OnOk r (IsMade left) → ChangesBySteps steps place bytes IsMade image left first_state last_state (cluster_outcome last_state r)
-  cluster_change image left steps place bytes IsMade (Ok done) is cleared at_stops ok =
-      (record { made = steps_seen image left steps None is; cleared = cleared; stops = at_stops (λ bad. absurd (cc bad)) }, ok)
-  cluster_change image left steps place bytes IsMade (Err (stops.Io count)) is cleared at_stops ok =
-      record { made = steps_seen image left steps (Some (stops.Io count)) is; cleared = cleared; stops = at_stops (λ bad. absurd (cc bad)) }
-  cluster_change image left steps place bytes IsMade (Err stops.NoSpace) is cleared at_stops ok = (is.0, untouched_seen is.1)
+  cluster_change image left steps place bytes IsMade (Ok done) is cleared at_stops header ok =
+      (record { made = steps_seen image left steps None is; cleared = cleared; stops = at_stops (λ bad. absurd (cc bad)); header = header (λ bad. absurd (cc bad)) }, ok)
+  cluster_change image left steps place bytes IsMade (Err (stops.Io count)) is cleared at_stops header ok =
+      record { made = steps_seen image left steps (Some (stops.Io count)) is; cleared = cleared; stops = at_stops (λ bad. absurd (cc bad)); header = header (λ bad. absurd (cc bad)) }
+  cluster_change image left steps place bytes IsMade (Err stops.NoSpace) is cleared at_stops header ok = (is.0, untouched_seen is.1)
 
-  own_seen : (image left : Known) (span : Extent) (bytes : List ℕ) → WroteOwn g image left span bytes before now
-      → WroteOwn seen image left span bytes first_state last_state
-  own_seen image left span bytes (inl is) = inl (is.0, wrote_seen (own_writes image span bytes) is.1, is.2)
-  own_seen image left span bytes (inr is) = inr (is.0, is.1, is.2, wrote_seen (write_of 88 [] ∷ []) is.3, is.4)
+  own_seen : (image left : Known) (span : Extent) (bytes : List ℕ) (stop : Option ℕ) → WroteOwn g image left span bytes stop before now
+      → WroteOwn seen image left span bytes stop first_state last_state
+  own_seen image left span bytes None is = (is.0, wrote_seen (own_writes image span bytes) is.1, is.2)
+  own_seen image left span bytes (Some n) (inl is) = inl (is.0, is.1, wrote_seen (own_writes image span (take n bytes)) is.2, is.3)
+  own_seen image left span bytes (Some n) (inr is) = inr (is.0, is.1, is.2, wrote_seen (write_of 88 [] ∷ []) is.3, is.4)
 
   -- and one in place, that was made
-  pub own_made : (image left : Known) (span : Extent) (bytes : List ℕ) → WroteOwn g image left span bytes before now
+  pub own_made : (image left : Known) (span : Extent) (bytes : List ℕ) → WroteOwn g image left span bytes None before now
       → ClearsFirst (g.content before) (g.content now) left → AtEachStopOf g (IsOwnPart span.start bytes) (own_writes image span bytes) before
-      → ChangesInPlace span bytes image left first_state last_state Good
-  own_made image left span bytes is cleared at_stops = record { wrote = own_seen image left span bytes is; cleared = cleared; stops = at_stops }
+      → AtEachStopOf g KeepsHeader (own_writes image span bytes) before → ChangesInPlace span bytes image left first_state last_state Good
+  own_made image left span bytes is cleared at_stops header = record { wrote = own_seen image left span bytes None is; cleared = cleared; stops = at_stops; header = header }
 
   -- or that stopped
   pub own_stopped : (image left : Known) (span : Extent) (bytes : List ℕ) (stop : WriteStop)
-      → (stop.why ≡ why.Failed → WroteOwn g image left span (take stop.done bytes) before now) → ClearsFirst (g.content before) (g.content now) left
+      → (stop.why ≡ why.Failed → WroteOwn g image left span bytes (Some stop.done) before now) → ClearsFirst (g.content before) (g.content now) left
       → AtEachStopOf g (IsOwnPart span.start bytes) (own_writes image span bytes) before
+      → AtEachStopOf g KeepsHeader (own_writes image span bytes) before
       → (stop.why ≡ why.NoSpace → (last_state ≡ first_state) × (left ≡ image))
       → ChangesInPlace span bytes image left first_state last_state (write_outcome last_state stop)
-  own_stopped image left span bytes stop wrote cleared at_stops full = by stop.why refl
+  own_stopped image left span bytes stop wrote cleared at_stops header full = by stop.why refl
     where
       by : (w : Stop) → stop.why ≡ w → ChangesInPlace span bytes image left first_state last_state (write_outcome last_state stop)
       by why.NoSpace w = let all = full w in rw w (all.1, all.0)
       by why.Failed w =
-          let done : WroteOwn seen image left span (take stop.done bytes) first_state last_state = own_seen image left span (take stop.done bytes) (wrote w) in
+          let done : WroteOwn seen image left span bytes (Some stop.done) first_state last_state = own_seen image left span bytes (Some stop.done) (wrote w) in
           elim (cases_eq stop.done 0) [
             | inl zero ↦
                 let test = eq-eqb stop.done 0 zero in
-                let none : WroteOwn seen image left span [] first_state last_state =
-                subst (λ (n : ℕ). WroteOwn seen image left span (take n bytes) first_state last_state) zero done in
-                rw (w, test) (record { wrote = none; cleared = cleared; stops = at_stops })
-            | inr some ↦ let test = ne_eqb stop.done 0 some in rw (w, test) (record { wrote = done; cleared = cleared; stops = at_stops })
+                let none : WroteOwn seen image left span bytes (Some 0) first_state last_state =
+                subst (λ (n : ℕ). WroteOwn seen image left span bytes (Some n) first_state last_state) zero done in
+                rw (w, test) (record { wrote = none; cleared = cleared; stops = at_stops; header = header })
+            | inr some ↦ let test = ne_eqb stop.done 0 some in rw (w, test) (record { wrote = done; cleared = cleared; stops = at_stops; header = header })
           ]
 
 zeros_at : (n i : ℕ) → ◌≡◌ {A = ℕ} (get_or (replicate n 0) i 0) 0

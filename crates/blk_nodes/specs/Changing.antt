@@ -15,6 +15,7 @@ use Rattle.q2_format.specs.declared.entries.L2Entry.TheVariants as entries
 use Rattle.q2_image.specs.Image.{Known, cluster_size_in, entry_in}
 use Rattle.q2_image.specs.Made.{WriteStep, MakesSteps, WroteOwn, IsOldOrWith, IsOwnPart, own_writes, put_steps, writes_of_steps, zero_steps}
 use Rattle.q2_image.specs.Reading.{IsHost}
+use Rattle.q2_image.specs.BackingName.{KeepsHeader}
 use Rattle.q2_image.specs.Writing.{ClearsFirst}
 use Rattle.q2_image.specs.Room.{cluster_of, entry_for, is_whole}
 use Rattle.blk_nodes.specs.Nodes.{Nodes, DeviceSeen, row_at, device_in, file_of}
@@ -45,12 +46,13 @@ IsUnchanged image now before after = (now ≡ image) × (after ≡ before)
 -- By steps.
 
 -- The steps are made, or a part of them, and the autoclear field is cleared before anything else. Wherever they stop, the file is
--- sound, and its disk is the old one or the one with these bytes at a place.
+-- sound, its disk is the old one or the one with these bytes at a place, and of the header's cluster that field alone has changed.
 pub record MakesChange (steps : List WriteStep) (place : ℕ) (bytes : List ℕ)
     (stop : Option DevStop) (image now : Known) (before after : DeviceSeen) : Type 0 where
   pub made : MakesSteps seen image steps stop now before after
   pub cleared : ClearsFirst before.content after.content now
   pub stops : AtEachStopOf seen (IsOldOrWith place bytes) (writes_of_steps steps) before
+  pub header : AtEachStopOf seen KeepsHeader (writes_of_steps steps) before
 
 -- by how it went, and what is so of the image behind all of them
 abbrev pub ChangesBySteps : List WriteStep → ℕ → List ℕ → (Known → Type 0) → ImageChange
@@ -77,21 +79,23 @@ ClearsCluster cluster image =
 
 -- Of a part of a cluster.
 
--- The first of these bytes are written in place, behind a cleared autoclear field. Wherever that stops, the file is sound, and its
--- disk is the old one with some of the first bytes of the part.
-pub record WritesInPlace (part : Extent) (bytes written : List ℕ) (image now : Known)
+-- These bytes are written in place, behind a cleared autoclear field, or a failed call stopped that behind so many of them.
+-- Wherever it stops, the file is sound, its disk is the old one with some of the first bytes of the part, and of the header's
+-- cluster the autoclear field alone has changed.
+pub record WritesInPlace (part : Extent) (bytes : List ℕ) (stop : Option ℕ) (image now : Known)
     (before after : DeviceSeen) : Type 0 where
-  pub wrote : WroteOwn seen image now part written before after
+  pub wrote : WroteOwn seen image now part bytes stop before after
   pub cleared : ClearsFirst before.content after.content now
   pub stops : AtEachStopOf seen (IsOwnPart part.start bytes) (own_writes image part bytes) before
+  pub header : AtEachStopOf seen KeepsHeader (own_writes image part bytes) before
 
 abbrev pub ChangesInPlace : Extent → List ℕ → ImageChange
 ChangesInPlace part bytes image now before after Good =
-    WritesInPlace part bytes bytes image now before after
+    WritesInPlace part bytes None image now before after
 ChangesInPlace part bytes image now before after (Torn done dev count) =
-    WritesInPlace part bytes (take done bytes) image now before after
+    WritesInPlace part bytes (Some done) image now before after
 ChangesInPlace part bytes image now before after (Io dev count) =
-    WritesInPlace part bytes [] image now before after
+    WritesInPlace part bytes (Some 0) image now before after
 ChangesInPlace part bytes image now before after (NoSpace dev) =
     IsUnchanged image now before after
 

@@ -149,8 +149,8 @@ pub record StopsUnread (old new : Nodes) (node : ℕ) (span : Extent) (outcome :
   pub kept : new ≡ record old { devices = new.devices }
   pub devices : HaveRisen old.devices new.devices
 
--- there was room, and all was read or the read was stopped; behind a good one the bytes are those that stand there, where they
--- are told
+-- there was room, and all was read or the read was stopped; behind a good one the bytes can stand there, and do where that is
+-- told
 pub record ReadsAndMaps (images : List ℕ) (old new : Nodes) (node : ℕ) (span : Extent)
     (bytes : List ℕ) (outcome : Outcome) : Type 0 where
   pub room : AtEach (HasRoomIn old span) images

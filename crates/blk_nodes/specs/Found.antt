@@ -1,6 +1,6 @@
 -- What is read where a walk down a chain ended.
-use Rattle.std.specs.Prelude.{◌≡◌, ℕ, List, [], replicate, slice_index_or, Option, Some, None}
-use Rattle.blk_base.specs.Content.{bytes_at}
+use Rattle.std.specs.Prelude.{◌≡◌, ℕ, List, [], length, replicate, slice_index_or, Option, Some, None, IfSome}
+use Rattle.blk_base.specs.Content.{AreZeroPast, bytes_at}
 use Rattle.blk_base.specs.Pieces.{Extent}
 use Rattle.blk_base.specs.declared.device.DeviceCall.TheVariants.{Read}
 use Rattle.blk_base.specs.declared.fault.Outcome.{Outcome}
@@ -30,12 +30,33 @@ found_bytes devices (File file start) place n = bytes_at (bytes_by (device_in de
 found_bytes devices (Image node file) place n =
     guest_bytes (bytes_by (device_in devices file)) [] place n
 
--- these are the bytes of a span of a node's disk, where what stands there is told
-abbrev pub FindsBytes : Nodes → ℕ → Extent → List ℕ → Type 0
-FindsBytes nodes node span bytes =
-    let source = source_at nodes node span.start in
-    IsSourceTold nodes.devices source
-    → bytes ≡ found_bytes nodes.devices source span.start span.len
+-- of bytes that begin at a place of a file, all past its end are 0
+abbrev pub IsZeroPastFile : List DeviceSeen → ℕ → ℕ → List ℕ → Type 0
+IsZeroPastFile devices file start bytes =
+    IfSome (device_in devices file) (λ device. AreZeroPast device.size start bytes)
+
+-- the same of bytes in a cluster of an image's own, which begin where the image has the span
+pub record IsZeroPastImage (rows : List (Option Row)) (devices : List DeviceSeen)
+    (node file : ℕ) (span : Extent) (bytes : List ℕ) : Type 0 where
+  pub row : Row
+  pub image : Known
+  pub there : slice_index_or rows node None ≡ Some row
+  pub driver : row.driver ≡ Qcow2 image
+  pub past : IsZeroPastFile devices file (own_place image span) bytes
+
+-- these bytes can stand there, told or not: zeros, or such as a file of that size can have
+abbrev pub CanBeFound : List (Option Row) → List DeviceSeen → Source → Extent → List ℕ → Type 0
+CanBeFound rows devices Zeros span bytes = bytes ≡ replicate span.len 0
+CanBeFound rows devices (File file start) span bytes = IsZeroPastFile devices file start bytes
+CanBeFound rows devices (Image node file) span bytes =
+    IsZeroPastImage rows devices node file span bytes
+
+-- as many bytes as a span of a node's disk has, which can stand there, and do where that is told
+pub record FindsBytes (nodes : Nodes) (node : ℕ) (span : Extent) (bytes : List ℕ) : Type 0 where
+  pub whole : length bytes ≡ span.len
+  pub can : CanBeFound nodes.rows nodes.devices (source_at nodes node span.start) span bytes
+  pub told : IsSourceTold nodes.devices (source_at nodes node span.start)
+      → bytes ≡ found_bytes nodes.devices (source_at nodes node span.start) span.start span.len
 
 -- how the read of a span in a cluster of an image's own went: it is one call, at the span's place in the file
 pub record IsReadOfImage (rows : List (Option Row)) (node file : ℕ) (span : Extent)

@@ -10,7 +10,7 @@ use crate::devices::Devices;
 use crate::found::read_found;
 use crate::part::Part;
 use crate::row::Row;
-use blk_base::{Device, NoMemory, Outcome};
+use blk_base::{Device, NoMemory, Outcome, PIECE};
 use std::alloc::Global;
 use std::marker::Model;
 
@@ -35,7 +35,7 @@ impl Model for Cluster {
 fn block(alloc: Global) -> Result<Vec<u8>, NoMemory>
     ensures { IfOk result (λ bytes. vec_len bytes ≡ block_size) }
 {
-    Ok(vec![in alloc; 0u8; 65_536]?)
+    Ok(vec![in alloc; 0u8; PIECE as usize]?)
 }
 
 impl Cluster {
@@ -137,7 +137,7 @@ impl Cluster {
         if !outcome.is_good() {
             return outcome;
         }
-        self.lay(span.start % 65_536, bytes);
+        self.lay(span.start % PIECE, bytes);
         outcome
     }
 }

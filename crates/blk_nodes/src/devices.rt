@@ -2,7 +2,7 @@
 ghost use Rattle.std.specs.Prelude.{◌≡◌, ◌<◌, ◌/◌, ℕ, ◌≤◌, List, [], length, AllPairs, MatchOption, None, Some, IsSome, IfSome, IfOk, IfErr, OnOk};
 ghost use Rattle.std.specs.List.{position};
 ghost use Rattle.std.specs.Option.{ForSome, option_copied};
-ghost use Rattle.blk_base.specs.Content.{bytes_at};
+ghost use Rattle.blk_base.specs.Content.{AreZeroPast, bytes_at};
 ghost use Rattle.blk_base.specs.declared.device.DeviceCall.TheVariants as calls;
 ghost use Rattle.q2_format.specs.Created.{creation_of, IsNewName, IsNewFormat};
 ghost use Rattle.q2_format.specs.declared.header.TheConstants.{MAX_DISK_SIZE};
@@ -12,6 +12,7 @@ ghost use Rattle.q2_image.specs.Reading.{IsHost, IsWithinCluster};
 ghost use Rattle.q2_image.specs.Writing.{own_place};
 ghost use Rattle.blk_nodes.specs.Contents.{bytes_by};
 ghost use Rattle.blk_nodes.specs.Dropping.{other_devices};
+ghost use Rattle.blk_nodes.specs.Found.{IsZeroPastFile};
 ghost use Rattle.blk_nodes.specs.Joined.{DifferInNode};
 ghost use Rattle.blk_nodes.specs.Nodes.{DeviceSeen, IsFileTold, is_device_of, device_in};
 ghost use Rattle.blk_nodes.specs.Overlays.{IsOpened, IsOpenedOn, IsUnopened, IsUnopenedOn};
@@ -82,6 +83,7 @@ impl<D: Device> Held<D> {
     fn read(&mut self, place: u64, buffer: &mut [u8]) -> Outcome
         ensures read { (bytes : List ℕ) → self.old.content ≡ Some bytes → result ≡ Outcome.Good
             → buffer.new ≡ bytes_at bytes place (length buffer.old) }
+        ensures past { result ≡ Outcome.Good → AreZeroPast self.old.size place buffer.new }
         ensures outcome { IsReadOf (calls.Read place (length buffer.old)) self.old self.new
             result }
         ensures kept { HasRisen self.old self.new }
@@ -102,6 +104,8 @@ impl<D: Device> Held<D> {
         ensures read { (bytes : List ℕ) → self.old.content ≡ Some bytes → IsImageOf bytes image.now
             → result ≡ Outcome.Good
             → buffer.new ≡ guest_bytes bytes [] span.start span.len }
+        ensures past { result ≡ Outcome.Good
+            → AreZeroPast self.old.size (own_place image.now span) buffer.new }
         ensures outcome { IsReadOf (calls.Read (own_place image.now span) span.len) self.old
             self.new result }
         ensures kept { HasRisen self.old self.new }
@@ -248,6 +252,8 @@ impl<D: Device> Devices<D> {
         requires { IsSome (device_in self.old file) }
         ensures read { IsFileTold self.old file → result ≡ Outcome.Good
             → buffer.new ≡ bytes_at (bytes_by (device_in self.old file)) start (length buffer.old) }
+        ensures past { result ≡ Outcome.Good
+            → IsZeroPastFile self.old file start buffer.new }
         ensures outcome { IsReadAt file (calls.Read start (length buffer.old)) self.old
             self.new result }
         ensures devices { HaveRisen self.old self.new }
@@ -280,6 +286,8 @@ impl<D: Device> Devices<D> {
             → IsImageOf bytes image.now }
         ensures read { IsFileTold self.old file → result ≡ Outcome.Good
             → buffer.new ≡ guest_bytes (bytes_by (device_in self.old file)) [] span.start span.len }
+        ensures past { result ≡ Outcome.Good
+            → IsZeroPastFile self.old file (own_place image.now span) buffer.new }
         ensures outcome { IsReadAt file (calls.Read (own_place image.now span) span.len)
             self.old self.new result }
         ensures devices { HaveRisen self.old self.new }

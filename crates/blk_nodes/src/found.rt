@@ -4,7 +4,7 @@ ghost use Rattle.blk_base.specs.Pieces.{block_size};
 ghost use Rattle.q2_image.specs.Guest.{guest_bytes};
 ghost use Rattle.q2_image.specs.Reading.{IsWithinCluster};
 ghost use Rattle.blk_nodes.specs.Contents.{bytes_by};
-ghost use Rattle.blk_nodes.specs.Found.{found_bytes, IsReadOfImage, IsReadOfSource, IsSourceTold};
+ghost use Rattle.blk_nodes.specs.Found.{found_bytes, CanBeFound, IsReadOfImage, IsReadOfSource, IsSourceTold, IsZeroPastImage};
 ghost use Rattle.blk_nodes.specs.Nodes.{AreTold, device_in, IsFileTold};
 ghost use Rattle.blk_nodes.specs.Reading.{HaveRisen};
 ghost use Rattle.blk_nodes.specs.Walk.{CanSourceBeRead, IsPlaceMapped};
@@ -37,6 +37,8 @@ fn read_mapped<D: Device>(
     requires whole { length buffer.old ≡ span.len }
     ensures read { IsFileTold devices.old file → result ≡ Outcome.Good
         → buffer.new ≡ guest_bytes (bytes_by (device_in devices.old file)) [] span.start span.len }
+    ensures can { result ≡ Outcome.Good
+        → IsZeroPastImage rows.now devices.old node file span buffer.new }
     ensures outcome { IsReadOfImage rows.now node file span devices.old devices.new result }
     ensures devices { HaveRisen devices.old devices.new }
 {
@@ -67,6 +69,8 @@ pub(crate) fn read_found<D: Device>(
         → buffer.new ≡ found_bytes devices.old source span.start span.len }
     ensures read { AreTold devices.old → result ≡ Outcome.Good
         → buffer.new ≡ found_bytes devices.old source span.start span.len }
+    ensures can { result ≡ Outcome.Good
+        → CanBeFound rows.now devices.old source span buffer.new }
     ensures outcome { IsReadOfSource rows.now source span devices.old devices.new result }
     ensures devices { HaveRisen devices.old devices.new }
 {

@@ -3,7 +3,7 @@ ghost use Rattle.std.specs.Prelude.{◌≡◌, ◌≤◌};
 ghost use Rattle.blk_nodes.specs.Changing.{block_around};
 
 use crate::source::Source;
-use blk_base::Span;
+use blk_base::{PIECE, Span};
 use blk_graph::NodeId;
 
 /// A piece of a qcow2 node, its cluster up to the disk's end, the `file` node that the image is in, and where the cluster's
@@ -23,12 +23,12 @@ pub(crate) fn block_around(size: u64, span: Span) -> Span
     requires small { size ≤ 9223372036854775808 }
     ensures { result ≡ block_around size span }
 {
-    let start = span.start - span.start % 65_536;
-    if size - start < 65_536 {
+    let start = span.start - span.start % PIECE;
+    if size - start < PIECE {
         return Span {
             start,
             len: size - start,
         };
     }
-    Span { start, len: 65_536 }
+    Span { start, len: PIECE }
 }

@@ -15,7 +15,7 @@ use crate::cluster::Cluster;
 use crate::devices::Devices;
 use crate::part::Part;
 use crate::row::{Driver, Row};
-use blk_base::{Device, Outcome, Span};
+use blk_base::{Device, Outcome, PIECE, Span};
 use blk_graph::NodeId;
 use q2_tables::Mapping;
 
@@ -179,7 +179,7 @@ fn put_part<D: Device>(
 {
     let span = part.span;
     let at = part.node.index();
-    let number = span.start / 65_536;
+    let number = span.start / PIECE;
     let room = room_of(&rows[at], devices, part.file, number);
     if !room.is_good() {
         return room;
@@ -223,7 +223,7 @@ fn clear_part<D: Device>(rows: &mut [Option<Row>], devices: &mut Devices<D>, par
 {
     let span = part.span;
     let at = part.node.index();
-    zero_row(&mut rows[at], devices, part.file, span.start / 65_536)
+    zero_row(&mut rows[at], devices, part.file, span.start / PIECE)
 }
 
 /// Writes a piece of a qcow2 node.
@@ -243,7 +243,7 @@ pub(crate) fn write_part<D: Device>(
         rows.old rows.new devices.old devices.new part.now bytes.now result }
 {
     let span = part.span;
-    match mapping_of(&rows[part.node.index()], span.start / 65_536) {
+    match mapping_of(&rows[part.node.index()], span.start / PIECE) {
         Mapping::Host { .. } => own_part(rows, devices, part, bytes),
         _ => put_part(rows, devices, cluster, part, bytes),
     }
@@ -271,7 +271,7 @@ pub(crate) fn zero_part<D: Device>(
     if span.len == whole.len {
         return clear_part(rows, devices, part);
     }
-    match mapping_of(&rows[part.node.index()], span.start / 65_536) {
+    match mapping_of(&rows[part.node.index()], span.start / PIECE) {
         Mapping::Zero { .. } => Outcome::Good,
         _ => write_part(rows, devices, cluster, part, zeros),
     }

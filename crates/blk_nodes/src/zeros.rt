@@ -2,7 +2,7 @@
 ghost use Rattle.std.specs.Prelude.{◌≡◌, ℕ, ◌≤◌, slice_index, vec_len, replicate, IfOk};
 ghost use Rattle.blk_base.specs.Pieces.{block_size};
 
-use blk_base::NoMemory;
+use blk_base::{NoMemory, PIECE};
 use std::alloc::Global;
 
 /// The bytes of a block that reads as zeros.
@@ -17,7 +17,7 @@ pub(crate) struct Zeros {
 fn block(alloc: Global) -> Result<Vec<u8>, NoMemory>
     ensures { IfOk result (λ bytes. vec_len bytes ≡ block_size) }
 {
-    Ok(vec![in alloc; 0u8; 65_536]?)
+    Ok(vec![in alloc; 0u8; PIECE as usize]?)
 }
 
 impl Zeros {

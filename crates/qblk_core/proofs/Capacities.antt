@@ -1,5 +1,5 @@
 -- A piece leaves its device's capacity.
-use Rattle.std.proofs.Common.{◌≡◌, ℕ, ◌*◌, Bool, true, false, List, replicate, Option, Some, inl, inr, ap}
+use Rattle.std.proofs.Common.{◌≡◌, ℕ, ◌*◌, Bool, true, false, List, replicate, Option, Some, None, inl, inr, ap}
 use Rattle.blk_base.specs.Pieces.{Extent}
 use Rattle.blk_base.specs.declared.fault.DevStop.{DevStop}
 use Rattle.blk_base.specs.declared.fault.Outcome.{Outcome}
@@ -20,9 +20,10 @@ module _ (IsDisk : List ℕ → Type 0) (image now : Known) (before after : Devi
   unchanged : IsUnchanged image now before after → HasCapacity
   unchanged is = ap (λ (d : DeviceSeen). d.capacity) is.1
 
-  own : (part : Extent) (bytes : List ℕ) → WroteOwn seen image now part bytes before after → HasCapacity
-  own part bytes (inl is) = is.1.capacity
-  own part bytes (inr is) = is.3.capacity
+  own : (part : Extent) (bytes : List ℕ) (stop : Option ℕ) → WroteOwn seen image now part bytes stop before after → HasCapacity
+  own part bytes None is = is.1.capacity
+  own part bytes (Some n) (inl is) = is.2.capacity
+  own part bytes (Some n) (inr is) = is.3.capacity
 
   by-steps : (steps : List WriteStep) (place : ℕ) (bytes : List ℕ) (made : Known → Type 0) (o : Outcome) → ChangesBySteps steps place bytes made image now before after o → HasCapacity
   by-steps steps place bytes made Good is = is.0.made.writes.wrote.capacity
@@ -31,9 +32,9 @@ module _ (IsDisk : List ℕ → Type 0) (image now : Known) (before after : Devi
   by-steps steps place bytes made (NoSpace dev) is = unchanged is
 
   in-place : (part : Extent) (bytes : List ℕ) (o : Outcome) → ChangesInPlace part bytes image now before after o → HasCapacity
-  in-place part bytes Good is = own part _ is.wrote
-  in-place part bytes (Torn done dev count) is = own part _ is.wrote
-  in-place part bytes (Io dev count) is = own part _ is.wrote
+  in-place part bytes Good is = own part bytes None is.wrote
+  in-place part bytes (Torn done dev count) is = own part bytes (Some done) is.wrote
+  in-place part bytes (Io dev count) is = own part bytes (Some 0) is.wrote
   in-place part bytes (NoSpace dev) is = unchanged is
 
   put-around : (part : Extent) (bytes : List ℕ) (stop : Option DevStop) → PutsAround IsDisk part bytes stop image now before after → HasCapacity

@@ -14,7 +14,7 @@ use crate::copying::puts_below;
 use crate::nodes::Nodes;
 use crate::parts::room_of;
 use crate::source::Step;
-use blk_base::{Device, Outcome, Span};
+use blk_base::{Device, Outcome, PIECE, Span};
 use blk_graph::{NodeId, Parent, Role};
 
 impl<D: Device> Nodes<D> {
@@ -46,7 +46,7 @@ impl<D: Device> Nodes<D> {
             &self.rows[child.index()],
             &self.devices,
             file,
-            span.start / 65_536,
+            span.start / PIECE,
         )
     }
 

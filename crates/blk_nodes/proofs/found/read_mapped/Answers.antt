@@ -25,3 +25,15 @@ returns-clause-outcome g c =
       driver = c.in-Qcow2.is;
       read = c.read_image.ensures.outcome;
     }
+
+pub returns-clause-can : goal.returns-clause-can
+returns-clause-can g c =
+    let count = c.requires.rows in
+    let small = c.index.ensures.small in
+    λ good. record {
+      row = c.in-Some.row;
+      image = c.in-Qcow2.image;
+      there = row_found c.args.rows.now c.index.result c.args.node c.index-rows-index.result c.index.ensures.value (omega (arith, count, small)) c.index-rows-index.is ∙ c.in-Some.is;
+      driver = c.in-Qcow2.is;
+      past = c.read_image.ensures.past good;
+    }

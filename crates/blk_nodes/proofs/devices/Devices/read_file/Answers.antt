@@ -1,9 +1,10 @@
 use Rattle.std.proofs.Common.{List, length, sym, ◌∙◌, ap, subst}
+use Rattle.blk_base.specs.Content.{AreZeroPast}
 use Rattle.blk_base.specs.declared.device.DeviceCall.{DeviceCall}
 use Rattle.blk_base.specs.declared.device.DeviceCall.TheVariants as calls
 use Rattle.blk_nodes.specs.Nodes.{DeviceSeen}
 use Rattle.blk_nodes.specs.Reading.{HasRisen, IsReadOf}
-use Rattle.blk_nodes.proofs.HeldDevices.{is_placed, HaveRisen-set, read_over, told_at}
+use Rattle.blk_nodes.proofs.HeldDevices.{is_placed, HaveRisen-set, past_over, read_over, told_at}
 use Rattle.blk_nodes.proofs.devices.Devices.read_file.Goals as goal
 
 pub unreachable-requires : goal.unreachable-requires
@@ -17,6 +18,16 @@ returns-clause-read g c =
     let content = ap (λ (d : DeviceSeen). d.content) c.index_mut-held.ensures.value in
     rw (sym c.self.view_is)
     (λ all good. c.read.ensures.read _ (content ∙ told_at c.args.file items c.in-Some.at x place all) good)
+
+pub returns-clause-past : goal.returns-clause-past
+returns-clause-past g c =
+    let items : List DeviceSeen = c.self.inside.list.items in
+    let x : DeviceSeen = c.index_mut-held.result.now in
+    let place = rw (sym c.self.view_is) at (sym c.in-Some.ensures.place) in
+    rw (sym c.self.view_is)
+    (λ good.
+    past_over c.args.file items c.in-Some.at x c.args.start c.read.new.buffer place
+    (subst (λ (d : DeviceSeen). AreZeroPast d.size c.args.start c.read.new.buffer) c.index_mut-held.ensures.value (c.read.ensures.past good)))
 
 pub returns-clause-outcome : goal.returns-clause-outcome
 returns-clause-outcome g c =

@@ -1,10 +1,11 @@
 use Rattle.std.proofs.Common.{List, sym, ◌∙◌, ap, subst, get_or}
+use Rattle.blk_base.specs.Content.{AreZeroPast}
 use Rattle.blk_base.specs.declared.device.DeviceCall.{DeviceCall}
 use Rattle.blk_base.specs.declared.device.DeviceCall.TheVariants as calls
 use Rattle.q2_image.specs.Writing.{own_place}
 use Rattle.blk_nodes.specs.Nodes.{DeviceSeen}
 use Rattle.blk_nodes.specs.Reading.{HasRisen, IsReadOf}
-use Rattle.blk_nodes.proofs.HeldDevices.{is_placed, at_place, HaveRisen-set, read_over, told_at}
+use Rattle.blk_nodes.proofs.HeldDevices.{is_placed, at_place, HaveRisen-set, past_over, read_over, told_at}
 use Rattle.blk_nodes.proofs.devices.Devices.read_image.Goals as goal
 
 pub unreachable-requires : goal.unreachable-requires
@@ -21,6 +22,16 @@ returns-clause-read g c =
     (λ all good.
     let told = told_at c.args.file items c.in-Some.at x place all in
     c.read_image.ensures.read _ (content ∙ told) (known (get_or items c.in-Some.at x) _ (at_place c.args.file items c.in-Some.at x place) told) good)
+
+pub returns-clause-past : goal.returns-clause-past
+returns-clause-past g c =
+    let items : List DeviceSeen = c.self.inside.list.items in
+    let x : DeviceSeen = c.index_mut-held.result.now in
+    let place = rw (sym c.self.view_is) at (sym c.in-Some.ensures.place) in
+    rw (sym c.self.view_is)
+    (λ good.
+    past_over c.args.file items c.in-Some.at x (own_place c.args.image.now c.args.span) c.read_image.new.buffer place
+    (subst (λ (d : DeviceSeen). AreZeroPast d.size (own_place c.args.image.now c.args.span) c.read_image.new.buffer) c.index_mut-held.ensures.value (c.read_image.ensures.past good)))
 
 pub returns-clause-outcome : goal.returns-clause-outcome
 returns-clause-outcome g c =

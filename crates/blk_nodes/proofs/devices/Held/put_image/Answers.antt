@@ -67,5 +67,5 @@ returns g c =
           (λ other. fits) (λ is. absurd (e.no_space.0 is fits)));
       changed = subst (PutsCluster c.args.cluster bytes image left old new) (sym c.cluster_outcome.ensures)
           (cluster_change g.D.Device c.self.inside.node c.self.inside.number c.self.inside.device c.put_cluster-written.new.dev image left
-          (put_steps image c.args.cluster bytes) place bytes (λ now. IsHost (entry_in now c.args.cluster)) written e.changes e.cleared (λ other. e.stops fits) e.mapped);
+          (put_steps image c.args.cluster bytes) place bytes (λ now. IsHost (entry_in now c.args.cluster)) written e.changes e.cleared (λ other. e.stops fits) (λ other. e.header_kept fits) e.mapped);
     })

@@ -5,7 +5,7 @@ use Rattle.q2_image.specs.Writing.{IsDiskWith, own_end, own_place}
 use Rattle.blk_nodes.specs.Nodes.{DeviceSeen}
 use Rattle.blk_nodes.specs.Writing.{HasImageCause, taken_by}
 use Rattle.blk_nodes.specs.Changing.{ChangesInPlace}
-use Rattle.blk_nodes.proofs.ImageCalls.{own_cause, own_header, own_made, own_mapped, own_stopped, own_taken, same_state}
+use Rattle.blk_nodes.proofs.ImageCalls.{own_cause, own_header, own_made, own_mapped, own_stopped, own_taken, untouched_seen}
 use Rattle.blk_nodes.proofs.devices.Held.write_image.Goals as goal
 
 pub write_own-requires-clause-image : goal.write_own-requires-clause-image
@@ -25,7 +25,7 @@ returns-in-Ok g c =
       };
       cause = (e.fits, e.quiet);
       changed = own_made g.D.Device c.self.inside.node c.self.inside.number c.self.inside.device c.write_own.new.dev c.args.image.now c.write_own.new.self
-          c.args.span c.args.bytes.now e.wrote e.cleared e.stops;
+          c.args.span c.args.bytes.now e.wrote e.cleared e.stops e.header_kept;
     })
 
 pub returns-in-Err : goal.returns-in-Err
@@ -75,9 +75,9 @@ returns-in-Err g c =
       cause = subst (HasImageCause (own_end c.args.image.now c.args.span ≤ old.capacity) (Some (own_place c.args.image.now c.args.span)) (length bytes) old new c.args.image.now c.write_own.new.self)
           (sym c.stopped.ensures)
           (own_cause old new c.args.image.now c.write_own.new.self (own_place c.args.image.now c.args.span) (length bytes) (own_end c.args.image.now c.args.span) stop refl e.stop
-          (λ none. let all = e.untouched none in (same_state old new refl refl all.1 all.3 all.2 all.4 e.capacity all.5 all.6, all.0)));
+          (λ none. let all = e.untouched none in (untouched_seen g.D.Device c.self.inside.node c.self.inside.number c.self.inside.device c.write_own.new.dev all.1, all.0)));
       changed = subst (ChangesInPlace c.args.span bytes c.args.image.now c.write_own.new.self old new) (sym c.stopped.ensures)
           (own_stopped g.D.Device c.self.inside.node c.self.inside.number c.self.inside.device c.write_own.new.dev c.args.image.now c.write_own.new.self c.args.span bytes
-          stop e.wrote e.cleared e.stops
-          (λ none. let all = e.untouched none in (same_state old new refl refl all.1 all.3 all.2 all.4 e.capacity all.5 all.6, all.0)));
+          stop e.wrote e.cleared e.stops e.header_kept
+          (λ none. let all = e.untouched none in (untouched_seen g.D.Device c.self.inside.node c.self.inside.number c.self.inside.device c.write_own.new.dev all.1, all.0)));
     })

@@ -77,5 +77,6 @@ returns g c =
           (λ now. entry_in now c.args.cluster ≡ Zero (host_of (entry_in image c.args.cluster))) written e.changes e.cleared
           (λ other.
           let fits = stable_zero c.args.image.now c.args.cluster old.capacity (λ none. other (e.no_space.1 none)) in
-          e.stops fits bytes (cluster_zeros size)) e.mapped);
+          e.stops fits bytes (cluster_zeros size))
+          (λ other. e.header_kept (stable_zero c.args.image.now c.args.cluster old.capacity (λ none. other (e.no_space.1 none)))) e.mapped);
     })

@@ -2,7 +2,7 @@ use Rattle.std.proofs.Common.{◌≡◌, List, Option, sym, ◌∙◌, ap, subst
 use Rattle.blk_base.specs.Pieces.{Extent}
 use Rattle.blk_base.proofs.Contents.{bytes_at-by_place}
 use Rattle.blk_nodes.specs.Contents.{disk_of}
-use Rattle.blk_nodes.specs.Found.{found_bytes, IsReadOfSource, IsSourceTold}
+use Rattle.blk_nodes.specs.Found.{found_bytes, CanBeFound, IsReadOfSource, IsSourceTold}
 use Rattle.blk_nodes.specs.Nodes.{Nodes}
 use Rattle.blk_nodes.specs.declared.row.Row.{Row}
 use Rattle.blk_nodes.specs.declared.source.Source.{Source}
@@ -52,8 +52,14 @@ returns-clause-found g c =
     let nodes : Nodes = record { graph = c.self.inside.graph; rows = c.self.inside.rows.items; devices = c.self.inside.devices } in
     let start : c.span.inside.start ≡ c.args.span.start = ap (λ (s : Extent). s.start) c.span.view_is in
     let source = rw (sym c.self.view_is) at (rw start at (sym c.source-source.ensures.source)) in
+    let can : Source → Type 0 = λ s. CanBeFound nodes.rows nodes.devices s c.args.span c.read_found.new.buffer in
     let finds : Source → Type 0 = λ s. IsSourceTold nodes.devices s → c.read_found.new.buffer ≡ found_bytes nodes.devices s c.args.span.start c.args.span.len in
-    rw (sym c.self.view_is) (λ some good. subst finds (sym source) (λ told. c.read_found.ensures.found told good))
+    let rows = subst (λ (rows : List (Option Row)). CanBeFound rows nodes.devices c.source-source.result c.args.span c.read_found.new.buffer) c.deref.ensures.value in
+    rw (sym c.self.view_is) (λ some good. record {
+      whole = c.read_found.auto.buffer ∙ c.requires.whole;
+      can = subst can (sym source) (rows (c.read_found.ensures.can good));
+      told = subst finds (sym source) (λ told. c.read_found.ensures.found told good);
+    })
 
 pub returns-clause-outcome : goal.returns-clause-outcome
 returns-clause-outcome g c =
