@@ -21,12 +21,12 @@ use Rattle.flat_machine.proofs.ImagesChanged.{all_images_keep}
 use Rattle.flat_machine.proofs.ImagesKept.{sound_same}
 use Rattle.world_parts.specs.Progress.{Progress, ended_in}
 use Rattle.world_parts.specs.Face.{WorldSeen, first_counts, counts_now, contents_of, dirty_of, held}
-use Rattle.world_commands.specs.Comes.{Comes, ShowsState}
-use Rattle.world_commands.specs.Tabling.{IsTableAfter}
-use Rattle.world_commands.specs.Carrying.{IsPutBack, IsPutBackBy, IsPutBackIn}
-use Rattle.blk_world.proofs.AddQuiet.{quiet-called}
-use Rattle.world_commands.proofs.CountLemmas.{between-on}
-use Rattle.world_commands.proofs.Placed.{put_back, put_back_by, put_back_in}
+use Rattle.world_parts.specs.Comes.{Comes, ShowsState}
+use Rattle.world_parts.specs.Tabling.{IsTableAfter}
+use Rattle.world_parts.specs.Carrying.{IsPutBack, IsPutBackBy, IsPutBackIn}
+use Rattle.world_additions.proofs.AddQuiet.{quiet-called}
+use Rattle.world_parts.proofs.CountLemmas.{between-on}
+use Rattle.world_parts.proofs.Placed.{put_back, put_back_by, put_back_in}
 
 module _ (w v : WorldSeen) (is : IsPutBack w v) (o : Opening) (comes : Comes o w) where
   still-shows : is_some w.files ≡ true → (s : State) → ShowsState o s w → ShowsState o s v

@@ -2,10 +2,6 @@
 //! of all that happened. Each call is one event.
 #![tactic(auto)]
 
-mod buffer;
-mod closing;
-mod recording;
-mod transfer;
 mod turned;
 mod world;
 

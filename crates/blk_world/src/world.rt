@@ -16,7 +16,6 @@ mod execute;
 mod making;
 mod piece;
 
-use crate::buffer::Buffer;
 use crate::turned::Turned;
 use blk_base::{Device, Names1, NoMemory, Room, Store};
 use blk_bitmaps::Bitmaps;
@@ -27,6 +26,7 @@ use std::alloc::Global;
 use std::marker::Model;
 use trace_codec::{Await, Op};
 use world_parts::{Admission, Drained, Progress, RunStore, is_held, refusal_of, seat_of};
+use world_pieces::Buffer;
 
 /// A store and all that stands on it: nodes over its files, the table of names, the guests and the history.
 pub struct World<S: Store> {
@@ -102,7 +102,7 @@ impl<S: Store> World<S> {
     ghost use Rattle.flat_machine.specs.declared.opening.Opening.{Opening};
     ghost use Rattle.flat_machine.specs.Imaging.{ImagesAreSound};
     ghost use Rattle.world_parts.specs.Face.{held, seen_state};
-    ghost use Rattle.world_commands.specs.Comes.{Comes};
+    ghost use Rattle.world_parts.specs.Comes.{Comes};
     ghost use Rattle.world_parts.specs.Progress.{IsFree, HasRoomFor, flight_at, answered_in, with_retirement};
     ghost use Rattle.world_parts.specs.Steps.{new_world, seen_store, IsOpeningOf, with_history, after_admission, IsAnswered, after_wait, after_actor_end, IsActorIdle};
 

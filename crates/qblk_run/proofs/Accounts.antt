@@ -25,12 +25,12 @@ use Rattle.blk_history.specs.declared.event.Event.{Event}
 use Rattle.blk_history.specs.declared.event.Event.TheVariants.{Piece, End}
 use Rattle.flat_machine.specs.Licence.{Counts, AreLicensed}
 use Rattle.flat_machine.specs.declared.opening.Opening.{Opening}
-use Rattle.world_commands.specs.Closing.{IsBackAfterFlush, IsToldBack, count_back, store_in}
-use Rattle.world_commands.specs.Comes.{Comes}
+use Rattle.world_files.specs.Closing.{IsBackAfterFlush, IsToldBack, count_back, store_in}
+use Rattle.world_parts.specs.Comes.{Comes}
 use Rattle.world_parts.specs.Face.{WorldSeen, seen_state, first_counts, counts_now}
 use Rattle.world_parts.specs.Progress.{ended_in}
 use Rattle.world_parts.specs.Steps.{StoreSeen, IsOpeningOf, new_world}
-use Rattle.world_commands.specs.Tabling.{IsTableAfter}
+use Rattle.world_parts.specs.Tabling.{IsTableAfter}
 use Rattle.qblk_inputs.specs.Inputs.{Work}
 use Rattle.qblk_inputs.specs.Words.{Cast, guests_of}
 use Rattle.qblk_run.specs.Run.{Account, HasOpened, IsRun, HaveNotSunk, IsFlushedAs, LeavesFiles, EndsDone, EndsStuck, HasRunStopped, FailsToFlush, counts_at_first, counts_at_last, course_in, history_room, seen_waits}

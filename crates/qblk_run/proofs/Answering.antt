@@ -21,7 +21,7 @@ use Rattle.flat_machine.specs.Comes.{jobs_from, transcript_of}
 use Rattle.flat_machine.specs.Courses.{Course, course_of, course_after}
 use Rattle.flat_machine.specs.Licence.{fault_at}
 use Rattle.flat_machine.specs.declared.opening.Opening.{Opening}
-use Rattle.world_commands.specs.Comes.{Comes}
+use Rattle.world_parts.specs.Comes.{Comes}
 use Rattle.world_parts.specs.Face.{WorldSeen}
 use Rattle.world_parts.specs.Steps.{IsOpeningOf, new_world}
 use Rattle.qblk_core.specs.Output.{SendsFront}

@@ -20,8 +20,8 @@ use Rattle.flat_machine.specs.Final.{bytes_named, IsDiskIn, IsLeftIn, AreDisks}
 use Rattle.flat_machine.specs.Licence.{Counts, IsBetweenCounts, AreLicensed, faults_of, source_count}
 use Rattle.flat_machine.specs.declared.opening.Opening.{Opening}
 use Rattle.flat_machine.proofs.ImagesKept.{sound_same}
-use Rattle.world_commands.specs.Comes.{Comes}
-use Rattle.world_commands.specs.Counting.{HaveNotFallen}
+use Rattle.world_parts.specs.Comes.{Comes}
+use Rattle.world_parts.specs.Counting.{HaveNotFallen}
 use Rattle.world_parts.specs.Face.{WorldSeen, held, told_bytes, contents_of}
 use Rattle.world_parts.specs.Steps.{StoreSeen}
 use Rattle.qblk_run.specs.Run.{HaveStood, LeavesFiles, Account}

@@ -17,7 +17,7 @@ use Rattle.qmp_rules.specs.declared.change.Change.{Change}
 use Rattle.qmp_rules.specs.declared.change.Change.TheVariants as change
 use Rattle.qmp_rules.specs.declared.refusal.Refusal.{Refusal}
 use Rattle.qmp_rules.specs.declared.refusal.Refusal.TheVariants as refusal
-use Rattle.qmp_rules.specs.Refusals.{refusal_class, refusal_text}
+use Rattle.qmp_rules.specs.Refusals.{refusal_class, refusal_text, or_else}
 use Rattle.qmp_rules.specs.declared.rows.DeviceRow.{DeviceRow}
 use Rattle.qmp_rules.specs.declared.rows.NodeRecord.{NodeRecord}
 use Rattle.qmp_rules.specs.declared.told.Told.{Told}
@@ -28,7 +28,6 @@ use Rattle.qmp_rules.specs.Table.{RunTable, device_by_number, device_named, node
 use Rattle.qmp_asks.specs.CommandAsks.{asks_of, negotiates}
 use Rattle.flat_machine.proofs.Asked.{NoneHolds, none-both, none-holds, found-named, not-refused}
 use Rattle.blk_graph.proofs.Members.{find-Some}
-use Rattle.qmp_rules.specs.Refusals.{or_else}
 use Rattle.qmp_rules.specs.Asks.{first_unmet_ask, holds}
 use Rattle.flat_machine.specs.Wiring.{AreNumbered, IsNumberBy}
 use Rattle.blk_history.specs.Fold.{run}
@@ -42,9 +41,9 @@ use Rattle.qmp_rules.specs.Chains.{disk_node, written_under}
 use Rattle.flat_machine.specs.Courses.{Course, onward}
 use Rattle.flat_machine.specs.declared.opening.Opening.{Opening}
 use Rattle.std.proofs.lemmas.List.{append_assoc}
-use Rattle.world_commands.specs.Comes.{Comes}
+use Rattle.world_parts.specs.Comes.{Comes}
 use Rattle.world_parts.specs.Face.{WorldSeen}
-use Rattle.world_commands.specs.Piecing.{table_after}
+use Rattle.world_parts.specs.Piecing.{table_after}
 use Rattle.world_parts.specs.Steps.{StoreSeen, new_world}
 use Rattle.qblk_run.specs.Worlds.{GoesThrough, IsEventOf, IsPieceEvent}
 use Rattle.qblk_run.proofs.Worlds.{uneventful-table}

@@ -15,13 +15,13 @@ use Rattle.blk_graph.proofs.RoleLemmas.{head_pairs}
 use Rattle.blk_history.specs.Fold.{With}
 use Rattle.blk_nodes.specs.Nodes.{DeviceSeen}
 use Rattle.qmp_rules.specs.Table.{RunTable}
-use Rattle.world_commands.specs.Closing.{AreBack, HasFlushFault, IsBack, count_back, earlier_fault}
+use Rattle.world_files.specs.Closing.{AreBack, HasFlushFault, IsBack, count_back, earlier_fault}
 use Rattle.world_parts.specs.Coherent.{AreHeld, IsOut}
 use Rattle.world_parts.specs.Face.{count_of_opening, counts_from}
 use Rattle.world_parts.specs.Steps.{StoreSeen}
-use Rattle.world_commands.proofs.CloseCounts.{same-back}
-use Rattle.world_commands.proofs.CloseLemmas.{held-back, now, set-other, set-same}
-use Rattle.world_commands.proofs.CountLemmas.{with-of}
+use Rattle.world_files.proofs.CloseCounts.{same-back}
+use Rattle.world_files.proofs.CloseLemmas.{held-back, now, set-other, set-same}
+use Rattle.world_parts.proofs.CountLemmas.{with-of}
 
 -- ---- counts by place
 

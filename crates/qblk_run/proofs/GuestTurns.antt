@@ -28,7 +28,8 @@ use Rattle.flat_machine.specs.Blocked.{TraceWaits}
 use Rattle.flat_machine.specs.Marks.{is_guest_held}
 use Rattle.world_parts.specs.declared.admission.Admission.TheVariants.{Admitted, Refused as NotAdmitted, Away}
 use Rattle.world_parts.specs.Face.{WorldSeen, seen_state}
-use Rattle.world_commands.specs.Piecing.{IsPieceMade, HasPieceLicence, shown_in_flight}
+use Rattle.world_pieces.specs.Pieces.{IsPieceMade, HasPieceLicence}
+use Rattle.world_parts.specs.Piecing.{shown_in_flight}
 use Rattle.world_parts.specs.Progress.{Progress, ended_in, answered_in, requests_done, flight_at, with_piece_entry, with_retirement, IsFree, HasNext, CanShow, HasRoomFor}
 use Rattle.world_parts.specs.Steps.{with_history, after_admission, after_actor_end, IsAnswered, IsActorIdle}
 use Rattle.qblk_inputs.specs.Room.{entries_for, bytes_for, HaveNumbers}

@@ -7,7 +7,7 @@ use Rattle.blk_history.specs.declared.event.Event.TheVariants.{Admit, Refuse, Pi
 use Rattle.blk_history.proofs.Folds.{run-push}
 use Rattle.flat_machine.specs.Courses.{Course, course_after, onward, past_waits, behind}
 use Rattle.world_parts.specs.Progress.{answered_in, ended_in}
-use Rattle.world_commands.proofs.Coherence.{length-change}
+use Rattle.world_parts.proofs.Coherence.{length-change}
 
 pub course-answered : (c : Course) (h : List Event) → (course_after c h).answered ≡ c.answered ++ answered_in h
 course-answered c [] = sym (append-nil c.answered)

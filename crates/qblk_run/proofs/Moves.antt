@@ -11,7 +11,7 @@ use Rattle.flat_machine.specs.Comes.{guest_step}
 use Rattle.flat_machine.specs.Machine.{admitted, finished, past_piece}
 use Rattle.world_parts.specs.Progress.{Progress, ended_in, answered_in, actor_done}
 use Rattle.world_parts.proofs.InStep.{ended-push}
-use Rattle.world_commands.proofs.Coherence.{length-change}
+use Rattle.world_parts.proofs.Coherence.{length-change}
 use Rattle.qblk_run.specs.Tasks.{Task, ScriptTask, IsTaskIn, IsScriptIn, CanGoOn, AreTasksIn}
 use Rattle.qblk_run.specs.Turns.{IsOwnMove, IsMove}
 use Rattle.qblk_run.proofs.Lists.{same_or_not, get-set, get-set-other, get-change-other, has-stays, has-own}

@@ -1,7 +1,6 @@
 -- A run from its inputs on.
-use Rattle.std.proofs.Common.{◌≡◌, ℕ, ◌+◌, ◌≤◌, false, List, [], ◌∷◌, length, map, refl, sym, ◌∙◌, ap, subst, arith, Option, Some, None, inl, inr}
+use Rattle.std.proofs.Common.{◌≡◌, ℕ, ◌+◌, ◌≤◌, false, List, [], ◌∷◌, length, map, refl, sym, ◌∙◌, ap, subst, arith, Option, Some, None, inl, inr, Vec, Global}
 use Rattle.std.specs.Prelude.{vec_len, IfSome}
-use Rattle.std.proofs.Common.{Vec, Global}
 use Rattle.std.proofs.lemmas.List.{length-map}
 use Rattle.blk_base.specs.Files.{IfTold}
 use Rattle.blk_base.specs.Written.{Written}
@@ -16,7 +15,7 @@ use Rattle.trace_codec.specs.Script.{Order}
 use Rattle.blk_history.specs.Recorded.{Recorded}
 use Rattle.flat_machine.specs.Courses.{KeepsOrder, course_of, course_after}
 use Rattle.flat_machine.specs.declared.opening.Opening.{Opening}
-use Rattle.world_commands.specs.Comes.{Comes}
+use Rattle.world_parts.specs.Comes.{Comes}
 use Rattle.world_parts.specs.Face.{WorldSeen}
 use Rattle.world_parts.specs.Progress.{Progress, no_progress}
 use Rattle.world_parts.specs.Steps.{StoreSeen, IsOpeningOf, new_world}

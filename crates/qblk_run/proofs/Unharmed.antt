@@ -15,14 +15,14 @@ use Rattle.flat_machine.specs.EventLicence.{IsCommandsFull, ReachesDevice, full_
 use Rattle.flat_machine.specs.Replies.{command_read}
 use Rattle.flat_machine.specs.State.{drive_of}
 use Rattle.flat_machine.specs.declared.opening.Opening.{Opening}
-use Rattle.world_commands.specs.Carrying.{would_pass}
-use Rattle.world_commands.specs.Counting.{seen_sources}
+use Rattle.world_parts.specs.Carrying.{would_pass}
+use Rattle.world_parts.specs.Counting.{seen_sources}
 use Rattle.world_parts.specs.Face.{WorldSeen, counts_now}
 use Rattle.qblk_core.specs.declared.status.Status.{Status}
 use Rattle.qblk_core.specs.declared.status.Status.TheVariants.{Done, Usage, Input, Fault, Stuck, NoMemory}
 use Rattle.qblk_inputs.specs.Words.{Cast}
 use Rattle.qblk_core.specs.Completeness.{HasStood}
-use Rattle.world_commands.specs.Closing.{IsBackAfterFlush}
+use Rattle.world_files.specs.Closing.{IsBackAfterFlush}
 use Rattle.qblk_run.specs.Completeness.{HasSpaceFor, HaveSpace, NamesNoFault, NoneHasRisen, full_in}
 use Rattle.qblk_run.specs.Run.{Setting, Answers, IsFaulty}
 use Rattle.qblk_run.specs.Worlds.{GoesThrough, IsEventOf}

@@ -21,11 +21,11 @@ use Rattle.blk_history.specs.Legal.{IsFlightOver}
 use Rattle.world_parts.specs.declared.admission.Admission.TheVariants.{Admitted, Refused as NotAdmitted}
 use Rattle.world_parts.specs.declared.executed.Executed.{Executed}
 use Rattle.world_parts.specs.declared.executed.Executed.TheVariants.{Replied, Later}
-use Rattle.world_commands.specs.Carrying.{IsExecuted, IsReplied, IsPutBack, IsPutBackIn, IsPutOff, held_for, reply_entry}
-use Rattle.world_commands.specs.Comes.{Comes}
-use Rattle.world_commands.specs.Counting.{RunsOn}
+use Rattle.world_parts.specs.Carrying.{IsExecuted, IsReplied, IsPutBack, IsPutBackIn, IsPutOff, held_for, reply_entry}
+use Rattle.world_parts.specs.Comes.{Comes}
+use Rattle.world_parts.specs.Counting.{RunsOn}
 use Rattle.world_parts.specs.Face.{WorldSeen, seen_state}
-use Rattle.world_commands.specs.Piecing.{IsPieceMade, HasPieceLicence, piece_entry}
+use Rattle.world_pieces.specs.Pieces.{IsPieceMade, HasPieceLicence, piece_entry}
 use Rattle.world_parts.specs.Progress.{Progress, HasNext, flight_at, requests_done, with_retirement}
 use Rattle.world_parts.specs.Saying.{Given, given_line}
 use Rattle.world_parts.specs.Steps.{with_history, after_admission, IsAnswered, IsActorIdle, after_wait, after_actor_end}

@@ -22,10 +22,11 @@ use Rattle.flat_machine.specs.Licence.{faults_of}
 use Rattle.flat_machine.specs.Replies.{command_read}
 use Rattle.flat_machine.specs.State.{drive_of}
 use Rattle.flat_machine.specs.declared.opening.Opening.{Opening}
-use Rattle.world_commands.specs.Carrying.{FitsAll}
-use Rattle.world_commands.specs.Counting.{seen_sources}
+use Rattle.world_parts.specs.Carrying.{FitsAll}
+use Rattle.world_parts.specs.Counting.{seen_sources}
 use Rattle.world_parts.specs.Face.{WorldSeen}
-use Rattle.world_commands.specs.Piecing.{piece_passes, part_of}
+use Rattle.world_pieces.specs.Pieces.{piece_passes}
+use Rattle.world_parts.specs.Piecing.{part_of}
 use Rattle.world_parts.specs.Progress.{flight_at}
 use Rattle.qblk_core.specs.Completeness.{HasStood}
 use Rattle.qblk_core.specs.declared.status.Status.{Status}

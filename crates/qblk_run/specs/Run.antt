@@ -27,12 +27,12 @@ use Rattle.flat_machine.specs.Final.{AreLeftBy, bytes_named}
 use Rattle.blk_history.specs.Small.{IsSmall}
 use Rattle.flat_machine.specs.Imaging.{ImagesAreSound}
 use Rattle.flat_machine.specs.declared.opening.Opening.{Opening}
-use Rattle.world_commands.specs.Closing.{EndsWorld, IsBackAfterFlush, IsFlushedIn, count_back}
-use Rattle.world_commands.specs.Comes.{Comes}
-use Rattle.world_commands.specs.Counting.{HaveNotFallen}
+use Rattle.world_files.specs.Closing.{EndsWorld, IsBackAfterFlush, IsFlushedIn, count_back}
+use Rattle.world_parts.specs.Comes.{Comes}
+use Rattle.world_parts.specs.Counting.{HaveNotFallen}
 use Rattle.world_parts.specs.Face.{WorldSeen, counts_now}
 use Rattle.world_parts.specs.Steps.{StoreSeen, IsOpeningOf, new_world, seen_store}
-use Rattle.world_commands.specs.Tabling.{IsTableAfter}
+use Rattle.world_parts.specs.Tabling.{IsTableAfter}
 use Rattle.qblk_inputs.specs.Inputs.{Work, HasWork, IsWork, IsRefusedInput, SpeaksOfCast}
 use Rattle.qblk_inputs.specs.Reading.{FailsOn, OnInputs, input_read}
 use Rattle.qblk_inputs.specs.Room.{bytes_for_all, entries_for_all}

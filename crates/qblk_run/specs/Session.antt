@@ -9,7 +9,7 @@ use Rattle.blk_history.specs.Recorded.{Recorded}
 use Rattle.flat_machine.specs.Agreement.{ReadAsDisks}
 use Rattle.flat_machine.specs.Final.{AreDisks}
 use Rattle.flat_machine.specs.State.{State}
-use Rattle.world_commands.specs.Closing.{EndsWorld, AreNodesFlushed}
+use Rattle.world_files.specs.Closing.{EndsWorld, AreNodesFlushed}
 use Rattle.world_parts.specs.Face.{WorldSeen, held, told_bytes, contents_of}
 use Rattle.world_parts.specs.Steps.{StoreSeen}
 use Rattle.qblk_run.specs.Run.{seen_waits}

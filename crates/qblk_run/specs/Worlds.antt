@@ -14,10 +14,10 @@ use Rattle.flat_machine.specs.Courses.{Course, course_after, onward}
 use Rattle.flat_machine.specs.Legal.{IsMet, IsNotDone}
 use Rattle.flat_machine.specs.declared.opening.Opening.{Opening}
 use Rattle.world_parts.specs.declared.admission.Admission.TheVariants.{Admitted, Refused as NotAdmitted}
-use Rattle.world_commands.specs.Carrying.{IsReplied, IsPutOff, IsPutBackIn}
-use Rattle.world_commands.specs.Comes.{Comes}
+use Rattle.world_parts.specs.Carrying.{IsReplied, IsPutOff, IsPutBackIn}
+use Rattle.world_parts.specs.Comes.{Comes}
 use Rattle.world_parts.specs.Face.{WorldSeen, seen_state}
-use Rattle.world_commands.specs.Piecing.{IsPieceMade, HasPieceLicence}
+use Rattle.world_pieces.specs.Pieces.{IsPieceMade, HasPieceLicence}
 use Rattle.world_parts.specs.Progress.{flight_at, with_retirement, HasNext}
 use Rattle.world_parts.specs.Saying.{given_line}
 use Rattle.world_parts.specs.Steps.{with_history, after_admission, IsAnswered, after_wait, after_actor_end, IsActorIdle}

@@ -1,20 +1,16 @@
--- What the creation of a file, and of an image in one, leaves of a world.
-use Rattle.std.specs.Prelude.{◌≡◌, ◌≢◌, ℕ, ◌≤◌, replicate, true, IsTrue, List, Some, None, option_map, Result, Ok, Err}
-use Rattle.std.specs.Option.{ForSome}
+-- What a creation makes of the store and the nodes, or a call of it that failed.
+use Rattle.std.specs.Prelude.{◌≡◌, ◌≢◌, ℕ, replicate, true, List, Some, option_map, Result, Ok, Err}
 use Rattle.blk_base.specs.Counts.{Rose}
-use Rattle.blk_base.specs.Files.{put_file, is_out, IfTold}
+use Rattle.blk_base.specs.Files.{put_file, IfTold}
 use Rattle.blk_base.specs.Stored.{LeavesOthers}
 use Rattle.blk_base.specs.declared.fault.FaultFrom.TheVariants.{Store, Dev}
 use Rattle.blk_base.specs.declared.store.StoreCall.TheVariants as calls
-use Rattle.blk_graph.specs.Judged.{first_parent}
-use Rattle.q2_format.specs.Created.{Creation, creation_of, IsNewName}
-use Rattle.q2_format.specs.declared.header.TheConstants.{MAX_DISK_SIZE}
-use Rattle.qmp_codec.specs.declared.nodes.CreateFile.{CreateFile}
+use Rattle.q2_format.specs.Created.{Creation, creation_of}
 use Rattle.qmp_codec.specs.declared.nodes.CreateQcow2.{CreateQcow2}
 use Rattle.qmp_codec.specs.declared.nodes.Created.{Created}
 use Rattle.qmp_codec.specs.declared.nodes.Created.TheVariants as created
 use Rattle.qmp_rules.specs.Asks.{id_or}
-use Rattle.qmp_rules.specs.Table.{RunTable, id_named}
+use Rattle.qmp_rules.specs.Table.{RunTable}
 use Rattle.qmp_asks.specs.Values.{amount_or}
 use Rattle.qmp_rules.specs.declared.judge.PrepareStop.{PrepareStop}
 use Rattle.qmp_rules.specs.declared.judge.PrepareStop.TheVariants.{Refused, NoMemory}
@@ -23,8 +19,6 @@ use Rattle.qmp_rules.specs.declared.refusal.Refusal.TheVariants as refusal
 use Rattle.flat_machine.specs.Changed.{format_name}
 use Rattle.blk_nodes.specs.Contents.{disk_of}
 use Rattle.blk_nodes.specs.Formatting.{IsFormatAt}
-use Rattle.blk_nodes.specs.Joined.{IsFile}
-use Rattle.blk_nodes.specs.Nodes.{Nodes}
 use Rattle.blk_nodes.specs.declared.stop.FormatStop.{FormatStop}
 use Rattle.blk_nodes.specs.declared.stop.FormatStop.TheVariants as stop
 use Rattle.world_parts.specs.Deleting.{Ground}
@@ -58,11 +52,6 @@ pub record HasMakingFailed (name : List ℕ) (size : ℕ) (old new : StoreSeen)
     failed_call = new.failed_call;
   }
 
--- why no file was made
-abbrev pub IsUnmade : List ℕ → ℕ → StoreSeen → StoreSeen → PrepareStop → Type 0
-IsUnmade name size old new (Refused cause) = HasMakingFailed name size old new cause
-IsUnmade name size old new NoMemory = new ≡ old
-
 -- ---- images
 
 -- what an image is created from
@@ -77,25 +66,6 @@ unformatted (stop.NoSpace dev) = Refused (refusal.NoSpace dev)
 unformatted stop.NoMemory = NoMemory
 
 -- ---- creations
-
--- when one can be carried out: no device of the file is out, and the store has room for it; or the node is a `file` node that
--- no edge leads to
-pub record CanMake (c : CreateFile (List ℕ)) (x : Ground) : Type 0 where
-  pub closed : IsTrue (is_out c.filename x.store.opened) → ⊥
-  pub room : amount_or 0 (Some c.size) ≤ x.store.room
-
-pub record CanFormat (t : RunTable) (c : CreateQcow2 (List ℕ)) (nodes : Nodes) : Type 0 where
-  pub node : ℕ
-  pub found : id_named t c.file ≡ Some node
-  pub is_file : IsFile nodes node
-  pub lone : first_parent node nodes.graph.edges ≡ None
-  pub small : amount_or 0 (Some c.size) ≤ MAX_DISK_SIZE
-  pub named : ForSome c.backing_file IsNewName
-
-abbrev pub CanCreate : RunTable → Created (List ℕ) → Ground → Type 0
-CanCreate t (created.File c) x = CanMake c x
-CanCreate t (created.Qcow2 c) x = CanFormat t c x.nodes
-CanCreate t created.Unknown x = ⊥
 
 -- what creating an image in a node's file leaves, which went so
 pub record HasFormatted (node : ℕ) (old now : Ground) (image : Creation)
@@ -128,8 +98,3 @@ IsFailed t (created.File c) old now cause =
 IsFailed t (created.Qcow2 c) old now cause =
     HasFormatFailed (id_or 0 t (Some c.file)) old now (creation_for c) cause
 IsFailed t created.Unknown old now cause = ⊥
-
--- why it was not carried out
-abbrev pub IsUncreated : RunTable → Created (List ℕ) → Ground → Ground → PrepareStop → Type 0
-IsUncreated t options old now (Refused cause) = IsFailed t options old now cause
-IsUncreated t options old now NoMemory = now ≡ old

@@ -1,26 +1,19 @@
 -- What is left of a world in which a node goes.
-use Rattle.std.specs.Prelude.{◌≡◌, ℕ, true, List, [], ◌∷◌, IsTrue, Contains, find, Option, Some, None, is_some, option_map, unwrap_or}
-use Rattle.blk_base.specs.Files.{given_back, is_out}
+use Rattle.std.specs.Prelude.{◌≡◌, ℕ, true, List, [], ◌∷◌, find, Option, Some, None, is_some, option_map, unwrap_or}
+use Rattle.blk_base.specs.Files.{given_back}
 use Rattle.blk_base.specs.Stored.{files_with_returned}
 use Rattle.blk_base.specs.declared.file.CallOnFile.{CallOnFile}
 use Rattle.blk_base.specs.declared.file.File.{File}
 use Rattle.blk_base.specs.declared.file.Opened.{Opened}
-use Rattle.blk_graph.specs.declared.edge.Edge.{Edge}
-use Rattle.blk_graph.specs.declared.edge.Parent.TheVariants.{Node}
 use Rattle.blk_graph.specs.Graph.{HasNode}
-use Rattle.blk_graph.specs.Judged.{first_parent}
 use Rattle.blk_nodes.specs.Contents.{disk_of, Unfolds}
 use Rattle.blk_nodes.specs.Dropping.{nodes_without}
 use Rattle.blk_nodes.specs.Joined.{IsJoined}
 use Rattle.blk_nodes.specs.Nodes.{Nodes, DeviceSeen, device_in}
-use Rattle.qmp_rules.specs.Changes.{changed}
 use Rattle.qmp_rules.specs.Edits.{goes_with_node}
-use Rattle.qmp_rules.specs.Table.{RunTable, node_named, node_by_id, first_into}
+use Rattle.qmp_rules.specs.Table.{RunTable, node_named}
 use Rattle.qmp_rules.specs.declared.rows.NodeRecord.{NodeRecord}
-use Rattle.qmp_rules.specs.declared.change.Change.TheVariants.{RemoveNode}
-use Rattle.flat_machine.specs.Wiring.{HaveDistinctIds}
 use Rattle.flat_machine.specs.State.{filename_of}
-use Rattle.world_parts.specs.Coherent.{AreNodesOf, AreOut}
 use Rattle.world_parts.specs.Face.{WorldSeen}
 use Rattle.world_parts.specs.Steps.{StoreSeen, seen_store, seen_in_run}
 use Rattle.world_parts.specs.Stores.{StoreInRun}
@@ -64,13 +57,6 @@ left t node x = record {
   nodes = nodes_without node x.nodes;
 }
 
--- no edge leads to the node, and its device is out under its file's name
-pub record CanLeave (t : RunTable) (x : Ground) (node : ℕ) : Type 0 where
-  pub there : HasNode x.nodes.graph node
-  pub lone : first_parent node x.nodes.graph.edges ≡ None
-  pub out : (device : DeviceSeen) → device_in x.nodes.devices node ≡ Some device
-      → IsTrue (is_out (name_under t node) x.store.opened)
-
 -- what is known once it has gone
 pub record HasLeft (x : Ground) (node : ℕ) : Type 0 where
   pub flush : TellsFlush (device_in x.nodes.devices node)
@@ -93,15 +79,6 @@ HaveLeft t x (node ∷ nodes) = HasLeft x node × HaveLeft t (left t node x) nod
 abbrev pub ground_of : WorldSeen → Ground
 ground_of w = ground w.files w.opened w.room w.faults w.failed_call w.nodes
 
--- a node goes, from the table too
-abbrev pub after_deletion : ℕ → WorldSeen → WorldSeen
-after_deletion node w = record w {
-  files = (left w.table node (ground_of w)).store.files;
-  opened = (left w.table node (ground_of w)).store.opened;
-  nodes = nodes_without node w.nodes;
-  table = changed w.table (RemoveNode node);
-}
-
 -- the file node that goes with a node, where it was made with it
 abbrev pub made_with : RunTable → ℕ → Option ℕ
 made_with t id = option_map (λ row. row.id) (find (goes_with_node id) t.nodes)
@@ -115,34 +92,6 @@ abbrev pub going : RunTable → ℕ → List ℕ
 going t node = with_node_below node (made_with t node)
 
 -- ---- deletions
-
--- a `file` node that was made with another one is under that alone
-pub record IsOnlyUnder (t : RunTable) (row : NodeRecord) (over : ℕ) : Type 0 where
-  pub edge : Edge
-  pub there : Contains t.edges edge
-  pub child : edge.child ≡ row.id
-  pub sole : (other : Edge) → Contains t.edges other → other.child ≡ row.id
-      → other.parent ≡ Node over
-
--- how the table, the nodes and the openings belong together
-pub record Belong (t : RunTable) (x : Ground) : Type 0 where
-  pub alike : AreNodesOf t x.nodes
-  pub apart : HaveDistinctIds t
-  pub inline : (row : NodeRecord) (over : ℕ) → Contains t.nodes row → row.made_with ≡ Some over
-      → IsOnlyUnder t row over
-  pub out : AreOut t x.nodes x.store.opened
-
--- the node of that name is there, and no edge leads to it
-pub record Deletes (t : RunTable) (name : List ℕ) : Type 0 where
-  pub row : NodeRecord
-  pub found : node_named t name ≡ Some row
-  pub lone : first_into row.id t.edges ≡ None
-
--- a node of the table that no edge leads to
-pub record IsLoneNode (t : RunTable) (node : ℕ) : Type 0 where
-  pub row : NodeRecord
-  pub there : node_by_id t node ≡ Some row
-  pub lone : first_into node t.edges ≡ None
 
 -- the node of that name has gone with the file node that was made with it
 pub record IsDeleted (t : RunTable) (name : List ℕ) (old now : Ground) : Type 0 where

@@ -1,5 +1,5 @@
 -- What is left of table, store and nodes by a command that opens and makes no file, with the text that answers it.
-use Rattle.std.specs.Prelude.{◌≡◌, ◌<◌, ℕ, Bool, true, false, List, [], ◌∷◌, Option, Some, None, Err}
+use Rattle.std.specs.Prelude.{◌≡◌, ℕ, List, [], ◌∷◌, Option, Some, None, Err}
 use Rattle.blk_bitmaps.specs.declared.row.Bitmap.{Bitmap}
 use Rattle.blk_bitmaps.specs.Calls.{rows_after_call, RemoveAll}
 use Rattle.qmp_codec.specs.Commands.{Cmd}
@@ -12,12 +12,10 @@ use Rattle.qmp_rules.specs.declared.judge.PrepareStop.{PrepareStop}
 use Rattle.qmp_rules.specs.declared.judge.PrepareStop.TheVariants.{Refused, NoMemory}
 use Rattle.qmp_rules.specs.declared.refusal.Refusal.{Refusal}
 use Rattle.qmp_rules.specs.declared.rows.DeviceRow.{DeviceRow}
-use Rattle.blk_graph.specs.Graph.{HasNode, ids}
-use Rattle.blk_graph.specs.Rule.{first_conflict}
-use Rattle.blk_nodes.specs.Adding.{guest_edge, with_below}
+use Rattle.blk_nodes.specs.Adding.{guest_edge, with_below, without_guest}
 use Rattle.blk_nodes.specs.Contents.{disk_of}
 use Rattle.blk_nodes.specs.Nodes.{Nodes}
-use Rattle.world_parts.specs.Deleting.{Ground, IsDeleted, going}
+use Rattle.world_parts.specs.Deleting.{going}
 use Rattle.world_parts.specs.Saying.{IsSaid}
 
 -- accepted, this was done; refused, that holds
@@ -44,16 +42,6 @@ abbrev pub SaysRefusal : List ℕ → PrepareStop → List ℕ → Type 0
 SaysRefusal given (Refused cause) text = IsSaid given (Err cause) text
 SaysRefusal given NoMemory text = ⊥
 
--- ---- deletions
-
-abbrev pub is_deletion : Cmd → Bool
-is_deletion (command.BlockdevDel name) = true
-is_deletion c = false
-
-abbrev pub IsDeletedBy : RunTable → Cmd → Ground → Ground → Type 0
-IsDeletedBy t (command.BlockdevDel name) old now = IsDeleted t name old now
-IsDeletedBy t c old now = ⊥
-
 -- ---- guests' devices
 
 -- the bitmaps of nodes that go
@@ -70,26 +58,6 @@ abbrev pub bitmaps_deleted : RunTable → Cmd → List Bitmap → List Bitmap
 bitmaps_deleted t (command.BlockdevDel name) bitmaps = bitmaps_named t (id_named t name) bitmaps
 bitmaps_deleted t c bitmaps = bitmaps
 
--- accepted, these are left; refused, all
-abbrev pub bitmaps_left : Option Refusal → RunTable → Cmd → List Bitmap → List Bitmap
-bitmaps_left None t c bitmaps = bitmaps_deleted t c bitmaps
-bitmaps_left (Some cause) t c bitmaps = bitmaps
-
-abbrev pub is_attachment : Cmd → Bool
-is_attachment (command.DeviceAdd c) = true
-is_attachment c = false
-
--- The table has the new device, and the node of its drive. That its edge is drawn to the node breaks no rule.
-pub record CanAttach (u : RunTable) (c : DeviceAdd (List ℕ)) (nodes : Nodes) : Type 0 where
-  pub device : DeviceRow
-  pub named : device_named u c.id ≡ Some device
-  pub node : ℕ
-  pub found : id_named u c.drive ≡ Some node
-  pub there : HasNode nodes.graph node
-  pub small : device.number < 80
-  pub keeps : first_conflict (ids nodes.graph)
-      (with_below nodes (guest_edge nodes device.number node device.share_rw)).graph.edges ≡ None
-
 -- the edge is drawn
 pub record IsAttached (u : RunTable) (c : DeviceAdd (List ℕ)) (nodes now : Nodes) : Type 0 where
   pub device : DeviceRow
@@ -99,10 +67,9 @@ pub record IsAttached (u : RunTable) (c : DeviceAdd (List ℕ)) (nodes now : Nod
   pub drawn : now ≡ with_below nodes (guest_edge nodes device.number node device.share_rw)
   pub disks : (other : ℕ) → disk_of now other ≡ disk_of nodes other
 
-abbrev pub CanAttachBy : RunTable → Cmd → Nodes → Type 0
-CanAttachBy u (command.DeviceAdd c) nodes = CanAttach u c nodes
-CanAttachBy u c nodes = ⊥
-
-abbrev pub IsAttachedBy : RunTable → Cmd → Nodes → Nodes → Type 0
-IsAttachedBy u (command.DeviceAdd c) nodes now = IsAttached u c nodes now
-IsAttachedBy u c nodes now = ⊥
+-- its guest is on no node any more
+pub record IsDetached (t : RunTable) (id : List ℕ) (nodes now : Nodes) : Type 0 where
+  pub device : DeviceRow
+  pub named : device_named t id ≡ Some device
+  pub gone : now ≡ without_guest device.number nodes
+  pub disks : (other : ℕ) → disk_of now other ≡ disk_of nodes other

@@ -1,17 +1,15 @@
--- The nodes that an addition makes, and when they can be made.
-use Rattle.std.specs.Prelude.{◌≡◌, ℕ, ◌≤◌, Bool, List, Option, Some, None, IfSome}
-use Rattle.blk_base.specs.Pieces.{Extent, end_of}
-use Rattle.blk_graph.specs.Edits.{with_edge}
+-- The nodes that an addition makes.
+use Rattle.std.specs.Prelude.{◌≡◌, ℕ, Bool, List, Option, Some, None}
+use Rattle.blk_base.specs.Pieces.{Extent}
 use Rattle.blk_graph.specs.Graph.{HasNode, ids}
 use Rattle.blk_graph.specs.Ids.{IsLowestFree}
-use Rattle.blk_graph.specs.declared.kind.Kind.TheVariants as kinds
 use Rattle.q2_format.specs.Contents.{file_disk, raw_disk, image_disk}
 use Rattle.q2_image.specs.Image.{Known}
-use Rattle.blk_nodes.specs.Adding.{IsAllowed, file_edge, kind_with, raw_row}
+use Rattle.blk_nodes.specs.Adding.{raw_row}
 use Rattle.blk_nodes.specs.Contents.{disk_under, bytes_of, disk_of, told}
-use Rattle.blk_nodes.specs.Joined.{IsFile, IsJoined}
+use Rattle.blk_nodes.specs.Joined.{IsJoined}
 use Rattle.blk_nodes.specs.Nodes.{Nodes, node_size}
-use Rattle.blk_nodes.specs.Overlays.{Asked, HasRoomForNode, IsOpened, backing_node, backing_size, backing_stop, copying_row, edges_for, qcow2_row, with_children}
+use Rattle.blk_nodes.specs.Overlays.{Asked, backing_node, copying_row, qcow2_row, with_children}
 use Rattle.blk_nodes.specs.declared.backing.Backing.{Backing}
 use Rattle.blk_nodes.specs.declared.backing.Backing.TheVariants.{Unsaid, Null, Node}
 use Rattle.blk_nodes.specs.declared.row.Row.{Row}
@@ -71,32 +69,6 @@ HasFilter name read_only child old new id =
     HasOver name (copying_row (node_size old child) read_only) child None (disk_of old child)
     old new id
 
--- ---- when it can be added
-
-pub record CanPutPart (nodes : Nodes) (name : List ℕ) (read_only : Bool) (file : ℕ)
-    (part : Extent) : Type 0 where
-  pub is_file : IsFile nodes file
-  pub within : end_of part ≤ node_size nodes file
-  pub fits : end_of part ≤ 9223372036854775808
-  pub place : HasRoomForNode nodes name
-  pub allowed : IsAllowed nodes (kind_with kinds.Raw read_only)
-      (λ id. with_edge (file_edge id file))
-
-pub record CanPutImage (nodes : Nodes) (asked : Asked) (image : Known) : Type 0 where
-  pub file : IsFile nodes asked.file
-  pub backed : IfSome (backing_node asked.backing) (HasNode nodes.graph)
-  pub opened : IsOpened nodes.devices asked.file image
-  pub fits : backing_stop image asked.backing (backing_size nodes asked.backing) ≡ None
-  pub place : HasRoomForNode nodes asked.name
-  pub allowed : IsAllowed nodes (kind_with kinds.Qcow2 asked.is_read_only) (edges_for asked)
-
-pub record CanPutFilter (nodes : Nodes) (name : List ℕ) (read_only : Bool) (child : ℕ) : Type 0
-  where
-    pub is_node : HasNode nodes.graph child
-    pub place : HasRoomForNode nodes name
-    pub allowed : IsAllowed nodes (kind_with kinds.CopyOnRead read_only)
-        (λ id. with_edge (file_edge id child))
-
 -- ---- what a command says of it
 
 -- the part of a file of so many bytes
@@ -127,54 +99,6 @@ abbrev pub HasInline : Adding → InlineFile (List ℕ) → Taken → Nodes → 
 HasInline c file device old new id =
     IsFileAdded (inline_name c.node_name file.node_name) (is_read_only file.options) device old new
     id
-
--- ---- when the nodes of a command can be made
-
--- over a device, and then the node over that
-pub record CanJoin (c : Adding) (file : InlineFile (List ℕ)) (device : Taken) (nodes : Nodes)
-    (Next : Nodes → ℕ → Type 0) : Type 0 where
-  pub place : HasRoomForNode nodes (inline_name c.node_name file.node_name)
-  pub next : (between : Nodes) (node : ℕ) → HasInline c file device nodes between node
-      → Next between node
-
--- over the node of a name
-pub record CanJoinAt (t : RunTable) (name : List ℕ) (Can : NodeRecord → Type 0) : Type 0 where
-  pub row : NodeRecord
-  pub found : node_named t name ≡ Some row
-  pub can : Can row
-
-abbrev pub CanAddPart : RunTable → Adding → AddRaw (List ℕ) → FileRef (List ℕ) → Option Taken
-    → Nodes
-    → Type 0
-CanAddPart t c raw (file_ref.Name name) None nodes =
-    CanJoinAt t name
-    (λ row. CanPutPart nodes c.node_name (is_read_only c.options) row.id (part_in raw row.size))
-CanAddPart t c raw (file_ref.Inline file) (Some device) nodes =
-    CanJoin c file device nodes
-    (λ now node.
-    CanPutPart now c.node_name (is_read_only c.options) node (part_in raw device.size))
-CanAddPart t c raw file out nodes = ⊥
-
-abbrev pub CanAddImage : RunTable → Adding → AddQcow2 (List ℕ) → FileRef (List ℕ) → Option Taken
-    → Option Known → Nodes → Type 0
-CanAddImage t c qcow2 (file_ref.Name name) None (Some image) nodes =
-    CanJoinAt t name (λ row. CanPutImage nodes (qcow2_asked t c qcow2 row.id) image)
-CanAddImage t c qcow2 (file_ref.Inline file) (Some device) (Some image) nodes =
-    CanJoin c file device nodes (λ now node. CanPutImage now (qcow2_asked t c qcow2 node) image)
-CanAddImage t c qcow2 file out image nodes = ⊥
-
-abbrev pub CanAddBy : RunTable → Adding → Added (List ℕ) → Option Taken → Option Known → Nodes
-    → Type 0
-CanAddBy t c (added.File filename) (Some device) image nodes = HasRoomForNode nodes c.node_name
-CanAddBy t c (added.Raw raw) out image nodes = CanAddPart t c raw raw.file out nodes
-CanAddBy t c (added.Qcow2 qcow2) out image nodes =
-    CanAddImage t c qcow2 qcow2.file out image nodes
-CanAddBy t c (added.CopyOnRead name) None image nodes =
-    CanJoinAt t name (λ row. CanPutFilter nodes c.node_name (is_read_only c.options) row.id)
-CanAddBy t c driver out image nodes = ⊥
-
-abbrev pub CanAdd : RunTable → Adding → Option Taken → Option Known → Nodes → Type 0
-CanAdd t c out image nodes = CanAddBy t c c.driver out image nodes
 
 -- ---- the nodes that were made
 

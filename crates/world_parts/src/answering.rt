@@ -12,7 +12,7 @@ use serde_json::Value;
 use std::alloc::Global;
 
 /// The text of an answer that gives a value.
-pub(crate) fn given_text(alloc: Global, given: &str, value: Value) -> Result<String, NoMemory>
+pub fn given_text(alloc: Global, given: &str, value: Value) -> Result<String, NoMemory>
     requires { IsPrintable 126 (view value) }
     ensures { IfOk result (λ text. IsSaid given.now (Ok (view value)) (string_bytes text)) }
 {
@@ -38,7 +38,7 @@ pub fn accepted_text(
 }
 
 /// The text of the answer to a line that is refused.
-pub(crate) fn refused_text(alloc: Global, given: &str, cause: &Refusal) -> Result<String, NoMemory>
+pub fn refused_text(alloc: Global, given: &str, cause: &Refusal) -> Result<String, NoMemory>
     ensures { IfOk result (λ text. IsSaid given.now (Err cause.now) (string_bytes text)) }
 {
     let id = read_id(alloc, given)?;

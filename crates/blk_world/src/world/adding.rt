@@ -1,14 +1,14 @@
 //! Nodes that are added to a world.
 ghost use Rattle.std.specs.Prelude.{◌≡◌, true, IfOk, OnErr, string_bytes};
 ghost use Rattle.qmp_codec.specs.Commands.{seen_command};
-ghost use Rattle.world_commands.specs.Carrying.{IsCarriedAs, IsPutBackBy};
-ghost use Rattle.world_parts.specs.Staging.{is_addition};
+ghost use Rattle.world_parts.specs.Carrying.{IsCarriedAs, IsPutBackBy};
+ghost use Rattle.world_additions.specs.Additions.{is_addition};
 
 use crate::world::World;
 use blk_base::{NoMemory, Store};
 use qmp_codec::Command;
 use std::alloc::Global;
-use world_parts::add_by;
+use world_additions::add_by;
 
 impl<S: Store> World<S> {
     /// Carries out `blockdev-add`, or refuses it. Says the text of the reply.

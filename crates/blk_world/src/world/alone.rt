@@ -1,13 +1,13 @@
 //! Commands that need the table alone, over a world.
 ghost use Rattle.std.specs.Prelude.{◌≡◌, true, IfOk, OnErr, string_bytes};
 ghost use Rattle.qmp_codec.specs.Commands.{seen_command};
-ghost use Rattle.world_commands.specs.Carrying.{IsCarriedAs, IsPutBackBy, needs_table_alone};
+ghost use Rattle.world_parts.specs.Carrying.{IsCarriedAs, IsPutBackBy, needs_table_alone};
 
 use crate::world::World;
 use blk_base::{NoMemory, Store};
 use qmp_codec::Command;
 use std::alloc::Global;
-use world_commands::answer_alone;
+use world_changes::answer_alone;
 
 impl<S: Store> World<S> {
     /// Carries out a command that needs the table alone, or refuses it. Gives the text of the answer, which isn't noted yet.

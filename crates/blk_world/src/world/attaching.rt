@@ -1,14 +1,14 @@
 //! Devices of guests in a world.
 ghost use Rattle.std.specs.Prelude.{◌≡◌, true, IfOk, OnErr, string_bytes};
 ghost use Rattle.qmp_codec.specs.Commands.{seen_command};
-ghost use Rattle.world_commands.specs.Carrying.{IsCarriedAs, IsPutBackBy};
-ghost use Rattle.world_parts.specs.Handling.{is_attachment};
+ghost use Rattle.world_parts.specs.Carrying.{IsCarriedAs, IsPutBackBy};
+ghost use Rattle.world_changes.specs.Attaching.{is_attachment};
 
 use crate::world::World;
 use blk_base::{NoMemory, Store};
 use qmp_codec::Command;
 use std::alloc::Global;
-use world_commands::attach;
+use world_changes::attach;
 
 impl<S: Store> World<S> {
     /// Carries out `device_add`, or refuses it. Says the text of the reply.

@@ -1,13 +1,13 @@
 //! Commands on dirty bitmaps, over a world.
 ghost use Rattle.std.specs.Prelude.{◌≡◌, true, IfOk, OnErr, string_bytes};
 ghost use Rattle.qmp_codec.specs.Commands.{seen_command};
-ghost use Rattle.world_commands.specs.Carrying.{IsCarriedAs, IsPutBackBy, is_of_bitmaps, prints_counts};
+ghost use Rattle.world_parts.specs.Carrying.{IsCarriedAs, IsPutBackBy, is_of_bitmaps, prints_counts};
 
 use crate::world::World;
 use blk_base::{NoMemory, Store};
 use qmp_codec::Command;
 use std::alloc::Global;
-use world_commands::{answer_bitmaps, answer_counts};
+use world_changes::{answer_bitmaps, answer_counts};
 
 impl<S: Store> World<S> {
     /// Carries out a command on bitmaps, or refuses it. Gives the text of the answer, which isn't noted yet.

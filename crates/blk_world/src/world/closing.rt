@@ -6,14 +6,14 @@ ghost use Rattle.flat_machine.specs.Agreement.{ReadAsDisks};
 ghost use Rattle.flat_machine.specs.Final.{AreDisks, bytes_named};
 ghost use Rattle.flat_machine.specs.Imaging.{ImagesAreSound};
 ghost use Rattle.flat_machine.specs.State.{State};
-ghost use Rattle.world_commands.specs.Closing.{AreFlushed, AreNodesFlushed, EndsWorld};
+ghost use Rattle.world_files.specs.Closing.{AreFlushed, AreNodesFlushed, EndsWorld};
 ghost use Rattle.world_parts.specs.Face.{held, told_bytes, contents_of};
 ghost use Rattle.world_parts.specs.Steps.{seen_store};
 
-use crate::closing::give_all_back;
 use crate::world::World;
 use blk_base::{FaultAt, Store};
 use blk_history::History;
+use world_files::give_all_back;
 
 impl<S: Store> World<S> {
     /// Ends a world. Each device is flushed and given back under the name of its file, the first first; told are the history and

@@ -1,14 +1,14 @@
 //! Snapshots in a world.
 ghost use Rattle.std.specs.Prelude.{◌≡◌, true, IfOk, OnErr};
 ghost use Rattle.qmp_codec.specs.Commands.{seen_command};
-ghost use Rattle.world_commands.specs.Carrying.{IsCarriedOut, IsPutBackBy};
-ghost use Rattle.world_commands.specs.Snapshots.{is_snapshot};
+ghost use Rattle.world_parts.specs.Carrying.{IsCarriedOut, IsPutBackBy};
+ghost use Rattle.world_changes.specs.Covering.{is_snapshot};
 
 use crate::world::World;
 use blk_base::{NoMemory, Store};
 use qmp_codec::Command;
 use std::alloc::Global;
-use world_commands::cover;
+use world_changes::cover;
 use world_parts::Carried;
 
 impl<S: Store> World<S> {

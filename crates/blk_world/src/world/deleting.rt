@@ -1,14 +1,14 @@
 //! Nodes of a world that go.
 ghost use Rattle.std.specs.Prelude.{◌≡◌, true, IfOk, OnErr, string_bytes};
 ghost use Rattle.qmp_codec.specs.Commands.{seen_command};
-ghost use Rattle.world_commands.specs.Carrying.{IsCarriedAs, IsPutBackBy};
-ghost use Rattle.world_parts.specs.Handling.{is_deletion};
+ghost use Rattle.world_parts.specs.Carrying.{IsCarriedAs, IsPutBackBy};
+ghost use Rattle.world_files.specs.Deletions.{is_deletion};
 
 use crate::world::World;
 use blk_base::{NoMemory, Store};
 use qmp_codec::Command;
 use std::alloc::Global;
-use world_commands::delete;
+use world_files::delete;
 
 impl<S: Store> World<S> {
     /// Carries out `blockdev-del`, or refuses it. Says the text of the reply.

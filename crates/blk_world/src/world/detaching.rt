@@ -1,14 +1,14 @@
 //! Devices of guests in a world that go.
 ghost use Rattle.std.specs.Prelude.{◌≡◌, true, IfOk, OnErr};
 ghost use Rattle.qmp_codec.specs.Commands.{seen_command};
-ghost use Rattle.world_commands.specs.Carrying.{IsCarriedOut, IsPutBackBy};
-ghost use Rattle.world_commands.specs.Detaching.{is_detachment};
+ghost use Rattle.world_parts.specs.Carrying.{IsCarriedOut, IsPutBackBy};
+ghost use Rattle.world_changes.specs.Detaching.{is_detachment};
 
 use crate::world::World;
 use blk_base::{NoMemory, Store};
 use qmp_codec::Command;
 use std::alloc::Global;
-use world_commands::detach;
+use world_changes::detach;
 use world_parts::Carried;
 
 impl<S: Store> World<S> {

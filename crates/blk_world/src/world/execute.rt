@@ -6,18 +6,19 @@ ghost use Rattle.blk_history.specs.declared.event.Event.{Event};
 ghost use Rattle.flat_machine.specs.Legal.{IsNotDone};
 ghost use Rattle.flat_machine.specs.declared.opening.Opening.{Opening};
 ghost use Rattle.world_parts.specs.Face.{seen_state};
-ghost use Rattle.world_commands.specs.Comes.{Comes};
+ghost use Rattle.world_parts.specs.Comes.{Comes};
 ghost use Rattle.world_parts.specs.Draining.{is_drain};
 ghost use Rattle.world_parts.specs.Progress.{with_bare_entry};
 ghost use Rattle.world_parts.specs.Saying.{given_line};
 ghost use Rattle.world_parts.specs.Steps.{lifted, with_history};
-ghost use Rattle.world_commands.specs.Carrying.{IsCarriedAs, IsCarriedOut, IsExecuted, IsPutBack, IsPutBackBy, IsPutBackIn};
+ghost use Rattle.world_parts.specs.Carrying.{IsCarriedAs, IsCarriedOut, IsExecuted, IsPutBack, IsPutBackBy, IsPutBackIn};
 
 use crate::world::World;
 use blk_base::{NoMemory, Store};
 use qmp_codec::{CodecStop, Command};
 use std::alloc::Global;
-use world_parts::{Carried, Executed, LineRead, read_line, stopped_text};
+use world_lines::{LineRead, read_line, stopped_text};
+use world_parts::{Carried, Executed};
 
 /// A copy of the text of a line.
 fn copied(alloc: Global, text: &str) -> Result<String, NoMemory>

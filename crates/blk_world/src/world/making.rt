@@ -1,14 +1,14 @@
 //! Files and images that a world makes.
 ghost use Rattle.std.specs.Prelude.{◌≡◌, true, IfOk, OnErr, string_bytes};
 ghost use Rattle.qmp_codec.specs.Commands.{seen_command};
-ghost use Rattle.world_commands.specs.Carrying.{IsCarriedAs, IsPutBackBy};
-ghost use Rattle.world_commands.specs.Making.{is_creation};
+ghost use Rattle.world_parts.specs.Carrying.{IsCarriedAs, IsPutBackBy};
+ghost use Rattle.world_files.specs.Creations.{is_creation};
 
 use crate::world::World;
 use blk_base::{NoMemory, Store};
 use qmp_codec::Command;
 use std::alloc::Global;
-use world_commands::make;
+use world_files::make;
 
 impl<S: Store> World<S> {
     /// Carries out `blockdev-create`, or refuses it. Says the text of the reply.

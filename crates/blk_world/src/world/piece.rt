@@ -6,16 +6,17 @@ ghost use Rattle.blk_nodes.specs.Contents.{Unfolds};
 ghost use Rattle.blk_nodes.specs.Joined.{IsJoined};
 ghost use Rattle.flat_machine.specs.declared.opening.Opening.{Opening};
 ghost use Rattle.world_parts.specs.Coherent.{IsWholeWorld};
-ghost use Rattle.world_commands.specs.Comes.{Comes};
-ghost use Rattle.world_commands.specs.Piecing.{IsPieceMade, HasPieceLicence, table_after};
+ghost use Rattle.world_parts.specs.Comes.{Comes};
+ghost use Rattle.world_pieces.specs.Pieces.{IsPieceMade, HasPieceLicence};
+ghost use Rattle.world_parts.specs.Piecing.{table_after};
 ghost use Rattle.world_parts.specs.Progress.{HasNext, flight_at};
 
-use crate::recording::{next_written, note_written};
 use crate::world::World;
 use blk_base::{Outcome, Store};
 use blk_graph::NodeId;
 use qmp_rules::Names;
 use trace_codec::Op;
+use world_pieces::{next_written, note_written};
 
 /// A request that changes a node's disk: every other node that reads it as a backing node has no flat disk any more.
 fn note_write(names: &mut Names, node: NodeId, op: &Op)

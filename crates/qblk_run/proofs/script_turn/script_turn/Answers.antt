@@ -5,7 +5,7 @@ use Rattle.trace_codec.specs.Awaits.{seen_await}
 use Rattle.trace_codec.specs.Script.{Order, seen_order}
 use Rattle.trace_codec.specs.declared.order.Order.{Order as OrderOf}
 use Rattle.trace_codec.specs.declared.order.Order.TheVariants.{Give, Watch}
-use Rattle.world_commands.specs.Carrying.{IsExecuted, IsPutOff, IsReplied}
+use Rattle.world_parts.specs.Carrying.{IsExecuted, IsPutOff, IsReplied}
 use Rattle.world_parts.specs.Saying.{given_line}
 use Rattle.world_parts.specs.Steps.{after_wait}
 use Rattle.world_parts.specs.declared.executed.Executed.{Executed}

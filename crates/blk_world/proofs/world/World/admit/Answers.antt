@@ -1,4 +1,4 @@
-use Rattle.world_commands.proofs.Quiet.{admission-comes}
+use Rattle.world_parts.proofs.Quiet.{admission-comes}
 use Rattle.blk_world.proofs.world.World.admit.Goals as goal
 
 pub returns-clause-comes : goal.returns-clause-comes

@@ -2,7 +2,7 @@ use Rattle.std.specs.Prelude.{string_bytes}
 use Rattle.qmp_codec.specs.Commands.{seen_command}
 use Rattle.world_parts.specs.Face.{WorldSeen, face_of}
 use Rattle.world_parts.specs.Looking.{site}
-use Rattle.blk_world.proofs.AddHandled.{addition-back, addition-texts, addition-whole, can-look}
+use Rattle.world_additions.proofs.AddHandled.{addition-back, addition-texts, addition-whole, can-look}
 use Rattle.blk_world.proofs.world.World.carry_addition.Goals as goal
 
 pub add_by-requires-clause-can : goal.add_by-requires-clause-can

@@ -1,7 +1,7 @@
 use Rattle.std.specs.Prelude.{string_bytes}
 use Rattle.qmp_codec.specs.Commands.{seen_command}
 use Rattle.world_parts.specs.Face.{WorldSeen, face_of}
-use Rattle.world_commands.proofs.CarryInTable.{in_table_coherent, in_table_bitmaps, in_table_carried, in_table_back}
+use Rattle.world_changes.proofs.CarryInTable.{in_table_coherent, in_table_bitmaps, in_table_carried, in_table_back}
 use Rattle.blk_world.proofs.world.World.carry_alone.Goals as goal
 
 pub invariant_of-self : goal.invariant_of-self

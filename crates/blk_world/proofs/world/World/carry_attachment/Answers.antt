@@ -1,7 +1,7 @@
 use Rattle.std.specs.Prelude.{string_bytes}
 use Rattle.qmp_codec.specs.Commands.{seen_command}
 use Rattle.world_parts.specs.Face.{WorldSeen}
-use Rattle.world_commands.proofs.HandledDevices.{attachment_texts, attachment_whole, attachment_back}
+use Rattle.world_changes.proofs.HandledDevices.{attachment_texts, attachment_whole, attachment_back}
 use Rattle.blk_world.proofs.world.World.carry_attachment.Goals as goal
 
 pub returns-clause-carried : goal.returns-clause-carried

@@ -1,7 +1,7 @@
 use Rattle.std.specs.Prelude.{string_bytes}
 use Rattle.qmp_codec.specs.Commands.{seen_command}
 use Rattle.world_parts.specs.Face.{WorldSeen, face_of}
-use Rattle.world_commands.proofs.CarryInTable.{bitmaps_back, bitmaps_carried, bitmaps_coherent, bitmaps_listed}
+use Rattle.world_changes.proofs.CarryInTable.{bitmaps_back, bitmaps_carried, bitmaps_coherent, bitmaps_listed}
 use Rattle.blk_world.proofs.world.World.carry_bitmaps.Goals as goal
 
 pub answer_bitmaps-requires-clause-alike : goal.answer_bitmaps-requires-clause-alike

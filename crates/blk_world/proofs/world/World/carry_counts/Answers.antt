@@ -1,7 +1,7 @@
 use Rattle.std.specs.Prelude.{string_bytes}
 use Rattle.qmp_codec.specs.Commands.{seen_command}
 use Rattle.world_parts.specs.Face.{WorldSeen, face_of}
-use Rattle.world_commands.proofs.CarryInTable.{counts_back, counts_bitmaps, counts_carried, counts_coherent}
+use Rattle.world_changes.proofs.CarryInTable.{counts_back, counts_bitmaps, counts_carried, counts_coherent}
 use Rattle.blk_world.proofs.world.World.carry_counts.Goals as goal
 
 pub answer_counts-requires-clause-free : goal.answer_counts-requires-clause-free

@@ -2,9 +2,9 @@ use Rattle.std.specs.Prelude.{string_bytes}
 use Rattle.qmp_codec.specs.Commands.{seen_command}
 use Rattle.world_parts.specs.Deleting.{ground_in}
 use Rattle.world_parts.specs.Face.{WorldSeen}
-use Rattle.world_commands.proofs.Belonging.{belong_of}
-use Rattle.world_commands.proofs.Handled.{untouched_back}
-use Rattle.blk_world.proofs.MadeEnd.{creation_texts, creation_whole}
+use Rattle.world_files.proofs.Belonging.{belong_of}
+use Rattle.world_parts.proofs.Handled.{untouched_back}
+use Rattle.world_files.proofs.MadeEnd.{creation_texts, creation_whole}
 use Rattle.blk_world.proofs.world.World.carry_creation.Goals as goal
 
 pub make-text-requires-clause-belong : goal.make-text-requires-clause-belong

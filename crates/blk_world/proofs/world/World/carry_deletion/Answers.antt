@@ -2,8 +2,8 @@ use Rattle.std.specs.Prelude.{string_bytes}
 use Rattle.qmp_codec.specs.Commands.{seen_command}
 use Rattle.world_parts.specs.Deleting.{ground_in}
 use Rattle.world_parts.specs.Face.{WorldSeen}
-use Rattle.world_commands.proofs.Belonging.{belong_of}
-use Rattle.world_commands.proofs.Handled.{deletion_back, deletion_texts, deletion_whole}
+use Rattle.world_files.proofs.Belonging.{belong_of}
+use Rattle.world_files.proofs.DeletedHandled.{deletion_back, deletion_texts, deletion_whole}
 use Rattle.blk_world.proofs.world.World.carry_deletion.Goals as goal
 
 pub delete-requires-clause-belong : goal.delete-requires-clause-belong

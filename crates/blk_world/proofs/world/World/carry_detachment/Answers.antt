@@ -1,7 +1,7 @@
 use Rattle.qmp_codec.specs.Commands.{seen_command}
-use Rattle.world_commands.specs.Detaching.{scene}
+use Rattle.world_changes.specs.Detaching.{scene}
 use Rattle.world_parts.specs.Face.{WorldSeen, face_of}
-use Rattle.blk_world.proofs.DetachedCarried.{few_drives, detachment_carried, detachment_whole, detachment_back}
+use Rattle.world_changes.proofs.DetachedCarried.{few_drives, detachment_carried, detachment_whole, detachment_back}
 use Rattle.blk_world.proofs.world.World.carry_detachment.Goals as goal
 
 pub detach-carried-requires-clause-few : goal.detach-carried-requires-clause-few

@@ -1,9 +1,9 @@
 use Rattle.qmp_codec.specs.Commands.{seen_command}
-use Rattle.world_commands.specs.Detaching.{scene}
+use Rattle.world_changes.specs.Detaching.{scene}
 use Rattle.world_parts.specs.Face.{WorldSeen}
-use Rattle.blk_world.proofs.CoverHandled.{snapshot_carried, snapshot_whole, snapshot_back}
-use Rattle.blk_world.proofs.CoverTold.{may_be_told}
-use Rattle.blk_world.proofs.DetachedCarried.{few_drives}
+use Rattle.world_changes.proofs.CoverHandled.{snapshot_carried, snapshot_whole, snapshot_back}
+use Rattle.world_changes.proofs.CoverTold.{may_be_told}
+use Rattle.world_changes.proofs.DetachedCarried.{few_drives}
 use Rattle.blk_world.proofs.world.World.carry_snapshot.Goals as goal
 
 pub returns-clause-carried : goal.returns-clause-carried

@@ -2,16 +2,16 @@ use Rattle.std.proofs.Common.{List, sym, ◌∙◌, ap, subst}
 use Rattle.blk_nodes.specs.Contents.{Unfolds}
 use Rattle.blk_nodes.specs.Joined.{IsJoined}
 use Rattle.blk_nodes.specs.Nodes.{DeviceSeen}
-use Rattle.world_commands.specs.Closing.{AreBack, EndsWorld}
+use Rattle.world_files.specs.Closing.{AreBack, EndsWorld}
 use Rattle.world_parts.specs.Coherent.{AreHeld, IsWholeWorld}
 use Rattle.world_parts.specs.Face.{WorldSeen}
 use Rattle.world_parts.specs.Steps.{StoreSeen, seen_store, seen_in_run}
 use Rattle.world_parts.specs.Stores.{StoreInRun}
-use Rattle.world_commands.proofs.CloseLemmas.{closed-by, back-held, none-out, none-behind, flushed-then}
-use Rattle.world_commands.proofs.CloseCounts.{given-back, faults-kept, room-kept}
-use Rattle.blk_world.proofs.CloseFiles.{held-then, told-then, nodes-flushed}
-use Rattle.blk_world.proofs.CloseDisks.{all-disks}
-use Rattle.blk_world.proofs.SoundImages.{all-sound, images-sound}
+use Rattle.world_files.proofs.CloseLemmas.{closed-by, back-held, none-out, none-behind, flushed-then}
+use Rattle.world_files.proofs.CloseCounts.{given-back, faults-kept, room-kept}
+use Rattle.world_files.proofs.CloseFiles.{held-then, told-then, nodes-flushed}
+use Rattle.world_files.proofs.CloseDisks.{all-disks}
+use Rattle.world_parts.proofs.SoundImages.{all-sound, images-sound}
 use Rattle.blk_world.proofs.world.World.close_world.Goals as goal
 
 pub returns-clause-closed : goal.returns-clause-closed

@@ -2,7 +2,7 @@ use Rattle.std.proofs.Common.{subst}
 use Rattle.blk_nodes.specs.Joined.{IsJoined}
 use Rattle.world_parts.specs.Coherent.{IsWholeWorld}
 use Rattle.world_parts.specs.Face.{WorldSeen}
-use Rattle.blk_world.proofs.SoundImages.{images-sound}
+use Rattle.world_parts.proofs.SoundImages.{images-sound}
 use Rattle.blk_world.proofs.world.World.images_are_sound.Goals as goal
 
 pub returns : goal.returns

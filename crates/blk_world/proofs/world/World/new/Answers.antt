@@ -1,9 +1,9 @@
 use Rattle.std.proofs.Common.{◌≡◌}
 use Rattle.flat_machine.specs.declared.opening.Opening.{Opening}
 use Rattle.world_parts.specs.Face.{WorldSeen}
-use Rattle.world_commands.specs.Comes.{Comes}
+use Rattle.world_parts.specs.Comes.{Comes}
 use Rattle.world_parts.specs.Steps.{StoreSeen, new_world, IsOpeningOf}
-use Rattle.world_commands.proofs.Beginning.{comes-start, ok-map}
+use Rattle.world_parts.proofs.Beginning.{comes-start, ok-map}
 use Rattle.blk_world.proofs.world.World.new.Goals as goal
 
 pub returns-clause-comes : goal.returns-clause-comes

@@ -1,4 +1,4 @@
-use Rattle.blk_world.proofs.PieceCalls.{made_comes, made_licence}
+use Rattle.world_pieces.proofs.PieceCalls.{made_comes, made_licence}
 use Rattle.blk_world.proofs.world.World.piece.Goals as goal
 
 pub returns-clause-made : goal.returns-clause-made

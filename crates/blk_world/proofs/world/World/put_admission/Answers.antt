@@ -1,6 +1,6 @@
 use Rattle.std.proofs.Common.{refl}
-use Rattle.world_commands.proofs.Coherence.{coherent-end, coherent-admission}
-use Rattle.world_commands.proofs.Judging.{seat-fits, seat-allows}
+use Rattle.world_parts.proofs.Coherence.{coherent-end, coherent-admission}
+use Rattle.world_parts.proofs.Judging.{seat-fits, seat-allows}
 use Rattle.blk_world.proofs.world.World.put_admission.Goals as goal
 
 pub invariant_of-self : goal.invariant_of-self

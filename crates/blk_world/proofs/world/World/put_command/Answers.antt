@@ -2,7 +2,7 @@ use Rattle.world_parts.specs.Saying.{given_line}
 use Rattle.std.specs.Prelude.{string_bytes}
 use Rattle.qmp_codec.specs.Commands.{seen_command}
 use Rattle.blk_world.proofs.CarryBack.{back_by_on, put_back_comes}
-use Rattle.blk_world.proofs.CarryLines.{answered_replied, answered_comes, late_put_off, late_comes}
+use Rattle.world_lines.proofs.CarryLines.{answered_replied, answered_comes, late_put_off, late_comes}
 use Rattle.blk_world.proofs.world.World.put_command.Goals as goal
 
 pub returns-in_err-copy-clause-back : goal.returns-in_err-copy-clause-back

@@ -2,10 +2,9 @@ use Rattle.std.proofs.Common.{◌≡◌, Some, None, sym, ◌∙◌, ap}
 use Rattle.blk_history.specs.Machine.{Flight}
 use Rattle.flat_machine.specs.State.{drive_of}
 use Rattle.world_parts.specs.Face.{WorldSeen}
-use Rattle.world_commands.specs.Piecing.{IsPieceMade}
-use Rattle.world_commands.specs.Recorded.{noted_after}
+use Rattle.world_pieces.specs.Pieces.{IsPieceMade, noted_after}
 use Rattle.world_parts.specs.Progress.{flight_at}
-use Rattle.blk_world.proofs.PieceCalls.{can_next, drive_there, made_of, made_whole}
+use Rattle.world_pieces.proofs.PieceCalls.{can_next, drive_there, made_of, made_whole}
 use Rattle.world_parts.proofs.InStep.{with-at}
 use Rattle.blk_world.proofs.world.World.put_piece.Goals as goal
 

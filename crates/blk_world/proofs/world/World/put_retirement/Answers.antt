@@ -1,5 +1,5 @@
 use Rattle.std.proofs.Common.{refl}
-use Rattle.world_commands.proofs.Coherence.{coherent-end}
+use Rattle.world_parts.proofs.Coherence.{coherent-end}
 use Rattle.blk_world.proofs.world.World.put_retirement.Goals as goal
 
 pub invariant_of-self : goal.invariant_of-self

@@ -2,7 +2,7 @@ use Rattle.std.specs.Prelude.{string_bytes}
 use Rattle.qmp_codec.specs.Lines.{seen_stop}
 use Rattle.world_parts.specs.Saying.{given_line}
 use Rattle.blk_world.proofs.CarryBack.{unmoved_on}
-use Rattle.blk_world.proofs.CarryLines.{no_command_replied, no_command_comes}
+use Rattle.world_lines.proofs.CarryLines.{no_command_replied, no_command_comes}
 use Rattle.blk_world.proofs.world.World.put_stop.Goals as goal
 
 pub returns-clause-done : goal.returns-clause-done

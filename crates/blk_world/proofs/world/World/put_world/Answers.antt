@@ -1,4 +1,4 @@
-use Rattle.world_commands.proofs.Coherence.{whole-new}
+use Rattle.world_parts.proofs.Coherence.{whole-new}
 use Rattle.blk_world.proofs.world.World.put_world.Goals as goal
 
 pub invariant_of-result : goal.invariant_of-result

@@ -1,6 +1,6 @@
 use Rattle.std.specs.Prelude.{is_none}
 use Rattle.trace_codec.specs.Awaits.{seen_await}
-use Rattle.world_commands.proofs.Quiet.{none-is, wait-comes}
+use Rattle.world_parts.proofs.Quiet.{none-is, wait-comes}
 use Rattle.blk_world.proofs.world.World.reach.Goals as goal
 
 pub returns-clause-comes : goal.returns-clause-comes

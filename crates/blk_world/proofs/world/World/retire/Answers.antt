@@ -1,4 +1,4 @@
-use Rattle.world_commands.proofs.Quiet.{retirement-comes}
+use Rattle.world_parts.proofs.Quiet.{retirement-comes}
 use Rattle.blk_world.proofs.world.World.retire.Goals as goal
 
 pub returns-clause-comes : goal.returns-clause-comes

@@ -1,5 +1,0 @@
-use Rattle.world_commands.proofs.CloseLemmas.{tells-of}
-use Rattle.blk_world.proofs.closing.tells_flushed.Goals as goal
-
-pub returns : goal.returns
-returns g c = tells-of (g.D.Device.content c.args.device.now) (g.D.Device.is_flushed c.args.device.now) (g.met.D.Device.told_flushed c.args.device.now)

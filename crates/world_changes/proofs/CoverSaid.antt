@@ -1,0 +1,118 @@
+-- What a snapshot leaves beside its answer: accepted, refused, or where it has to wait.
+use Rattle.std.proofs.Common.{◌≡◌, ℕ, Bool, true, false, cond, List, [], ◌∷◌, Some, None, Ok, Err, refl, sym, ◌∙◌, ap, subst}
+use Rattle.std.specs.Prelude.{◌↔◌, IfOk, Result}
+use Rattle.std.proofs.lemmas.Bool.{false≢true}
+use Rattle.qmp_codec.specs.Commands.{Cmd}
+use Rattle.qmp_codec.specs.declared.command.Command.TheVariants as command
+use Rattle.qmp_codec.specs.declared.nodes.Snapshot.{Snapshot}
+use Rattle.qmp_rules.specs.declared.judge.PrepareStop.{PrepareStop}
+use Rattle.qmp_rules.specs.declared.judge.PrepareStop.TheVariants.{Refused, NoMemory}
+use Rattle.qmp_rules.specs.declared.refusal.Refusal.{Refusal}
+use Rattle.qmp_rules.specs.declared.told.Told.{Told}
+use Rattle.qmp_rules.specs.Answers.{Answer, command_edits, left_by, refusal_to, returned, told_none}
+use Rattle.qmp_rules.specs.Changes.{all_changed}
+use Rattle.qmp_rules.specs.Prepared.{IsStoppedFor}
+use Rattle.qmp_rules.specs.Table.{RunTable, has_name, id_named}
+use Rattle.flat_machine.specs.Marks.{AreCalm, MustWait, after_later, drained_by}
+use Rattle.flat_machine.specs.State.{State}
+use Rattle.flat_machine.specs.Wiring.{TableStands}
+use Rattle.blk_nodes.specs.Joined.{IsJoined}
+use Rattle.blk_nodes.specs.Nodes.{Nodes}
+use Rattle.blk_nodes.specs.Overlays.{IsFresh}
+use Rattle.flat_machine.proofs.Finds.{bytes_eq-same}
+use Rattle.world_parts.specs.Coherent.{AreNodesOf}
+use Rattle.world_changes.specs.Detaching.{Scene}
+use Rattle.world_parts.specs.Draining.{is_drain}
+use Rattle.world_parts.specs.Handling.{SaysRefusal}
+use Rattle.world_parts.specs.Saying.{IsSaid}
+use Rattle.world_changes.specs.Covering.{CanCoverBy, HasCovered, HasToBeLater, IsCoveredBy, TellsMappedAlone, is_snapshot}
+use Rattle.world_changes.proofs.CoverCarried.{can_cover}
+use Rattle.world_changes.proofs.OverlayBytes.{image_told}
+use Rattle.world_parts.proofs.Placed.{answer-is}
+
+-- what is told of it
+pub told_so : (t : RunTable) (nodes : Nodes) (c : Snapshot (List ℕ)) (names : List (List ℕ)) (fresh : Bool)
+    → names ≡ cond fresh [] (c.overlay ∷ [])
+    → ((node : ℕ) → id_named t c.overlay ≡ Some node → (fresh ≡ true) ↔ IsFresh nodes node) → IsJoined nodes
+    → TellsMappedAlone t nodes (command.BlockdevSnapshot c) (record told_none { mapped = names })
+told_so t nodes c names fresh is each joined = record {
+  maps = λ node named. image_told nodes joined node (has_name c.overlay names) (by_fresh fresh is (each node named));
+  rest = refl;
+}
+  where
+    by_fresh : {P : Type 0} (b : Bool) → names ≡ cond b [] (c.overlay ∷ []) → (b ≡ true) ↔ P → (has_name c.overlay names ≡ false) ↔ P
+    by_fresh true is both = (λ unnamed. both.0 refl, λ p. rw is refl)
+    by_fresh false is both = (
+      λ unnamed.
+          let named : has_name c.overlay names ≡ true = rw (is, bytes_eq-same c.overlay) refl in
+          absurd (false≢true (sym unnamed ∙ named)),
+      λ p. absurd (false≢true (both.1 p)),
+    )
+
+-- where nothing refuses it, its overlay may be put over the node
+pub covering_can : (t : RunTable) (c : Cmd) (told : Told) (nodes : Nodes) → is_snapshot c ≡ true → TableStands t → AreNodesOf t nodes → IsJoined nodes
+    → refusal_to t told c ≡ None → CanCoverBy t c nodes
+covering_can t (command.BlockdevSnapshot c) told nodes is h alike joined none = can_cover t h c told none nodes alike joined
+covering_can t c told nodes is h alike joined none = absurd (let bad : ⊥ = cc is in bad)
+
+-- it drains a disk
+pub snapshot_drains : (c : Cmd) → is_snapshot c ≡ true → is_drain c ≡ true
+snapshot_drains (command.BlockdevSnapshot c) is = refl
+snapshot_drains c is = absurd (let bad : ⊥ = cc is in bad)
+
+leaves_nothing : (t : RunTable) (c : Cmd) (cause : Refusal) → is_snapshot c ≡ true → left_by t c cause ≡ []
+leaves_nothing t (command.BlockdevSnapshot c) cause is = refl
+leaves_nothing t c cause is = absurd (let bad : ⊥ = cc is in bad)
+
+module _ (s : State) (given : List ℕ) (c : Cmd) (is : is_snapshot c ≡ true) (x y : Scene) (told : Told) (tells : TellsMappedAlone x.table x.nodes c told) where
+  pub covered_so : (text : List ℕ) → refusal_to x.table told c ≡ None → y.table ≡ all_changed x.table (command_edits x.table told c)
+      → IsCoveredBy x.table c x.nodes y.nodes → IsSaid given (Ok (returned x.table told c)) text → AreCalm s.table s.guests (drained_by x.table c)
+      → y.drains ≡ x.drains → HasCovered s given c x y text
+  covered_so text none table done said calm drains =
+      let answer_is = answer-is x.table told c None none in
+      record {
+        told = told;
+        tells = tells;
+        refusal = None;
+        judged = none;
+        done_is = done;
+        table = table ∙ sym (ap (λ (a : Answer). all_changed x.table a.changes) answer_is);
+        said = subst (λ (a : Answer). IsSaid given a.reply text) (sym answer_is) said;
+        calm = λ is. calm;
+        drains = drains;
+      }
+
+  pub refused_so : (text : List ℕ) (cause : Refusal) → refusal_to x.table told c ≡ Some cause → y ≡ x → IsSaid given (Err cause) text
+      → HasCovered s given c x y text
+  refused_so text cause some same said =
+      let answer_is = answer-is x.table told c (Some cause) some in
+      record {
+        told = told;
+        tells = tells;
+        refusal = Some cause;
+        judged = some;
+        done_is = ap (λ (z : Scene). z.nodes) same;
+        table =
+            ap (λ (z : Scene). z.table) same
+            ∙ sym (ap (λ (a : Answer). all_changed x.table a.changes) answer_is ∙ ap (all_changed x.table) (leaves_nothing x.table c cause is));
+        said = subst (λ (a : Answer). IsSaid given a.reply text) (sym answer_is) said;
+        calm = λ none. absurd (let bad : ⊥ = cc none in bad);
+        drains = ap (λ (z : Scene). z.drains) same;
+      }
+
+  -- it was not prepared
+  pub stop_so : (text : List ℕ) (stop : PrepareStop) → IsStoppedFor (refusal_to x.table told c) stop → y ≡ x → SaysRefusal given stop text
+      → HasCovered s given c x y text
+  stop_so text (Refused cause) some same said = refused_so text cause some same said
+  stop_so text NoMemory some same said = absurd said
+
+  -- another request is in the way
+  pub later_so : (g r : ℕ) → refusal_to x.table told c ≡ None → MustWait s (drained_by x.table c) g r
+      → y ≡ record x { drains = after_later (drained_by x.table c) x.drains } → HasToBeLater s c x y g r
+  later_so g r none waits left = record { told = told; tells = tells; accepted = none; waits = waits; left = left }
+
+  -- whichever a call of it says
+  pub stop_said : {A E : Type 0} (r : Result A E) (text : A → List ℕ) (stop : PrepareStop) → IsStoppedFor (refusal_to x.table told c) stop → y ≡ x
+      → IfOk r (λ a. SaysRefusal given stop (text a)) → IfOk r (λ a. HasCovered s given c x y (text a))
+  stop_said (Ok a) text stop some same said = stop_so (text a) stop some same said
+  stop_said (Err e) text stop some same said = said

@@ -1,0 +1,16 @@
+pub mod Attached
+pub mod AttachedCarried
+pub mod BitmapsChanged
+pub mod CarryTables
+pub mod CarryInTable
+pub mod CoverReady
+pub mod CoverCoherent
+pub mod CoverCarried
+pub mod Detached
+pub mod HandledDevices
+pub mod DetachedCarried
+pub mod CoverHandled
+pub mod OverlayBytes
+pub mod CoverSaid
+pub mod CoverTold
+pub mod DeviceAsked

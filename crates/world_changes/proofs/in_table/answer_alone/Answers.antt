@@ -1,0 +1,36 @@
+use Rattle.std.proofs.Common.{Ok, sym, ◌∙◌, subst}
+use Rattle.std.specs.Prelude.{IfOk, string_bytes}
+use Rattle.qmp_codec.specs.Commands.{Cmd, seen_command}
+use Rattle.qmp_rules.specs.Table.{RunTable}
+use Rattle.qmp_rules.specs.Answers.{returned, told_none}
+use Rattle.world_parts.specs.Saying.{IsSaid}
+use Rattle.world_changes.proofs.CarryTables.{alone-stays}
+use Rattle.world_changes.proofs.CarryInTable.{accepted_said, accepted_changes, refused_said, refused_unchanged}
+use Rattle.world_changes.proofs.in_table.answer_alone.Goals as goal
+
+pub returns-in-Ok-clause-said : goal.returns-in-Ok-clause-said
+returns-in-Ok-clause-said c =
+    let command : Cmd = seen_command c.args.command.now in
+    let said = subst (λ (t : RunTable). IfOk c.accept_alone.result
+    (λ text. IsSaid c.args.given.now (Ok (returned t told_none command)) (string_bytes text)))
+    c.prepare.ensures.table c.accept_alone.ensures.said in
+    accepted_said c.args.names.now.table command string_bytes c.args.given.now c.accept_alone.result c.in-Ok.ensures.accepted said
+
+pub returns-in-Ok-clause-changed : goal.returns-in-Ok-clause-changed
+returns-in-Ok-clause-changed c =
+    let e = accepted_changes c.args.names.now.table (seen_command c.args.command.now) c.in-Ok.ensures.accepted
+    ∙ sym c.in-Ok.ensures.edits in
+    rw (e, ← c.prepare.ensures.table) c.accept_alone.ensures.changed
+
+pub returns-in-Err-clause-said : goal.returns-in-Err-clause-said
+returns-in-Err-clause-said c =
+    refused_said c.args.names.now.table
+    (seen_command c.args.command.now) string_bytes c.args.given.now c.refused.result c.in-Err.stop (alone-stays (seen_command c.args.command.now) c.requires)
+    c.in-Err.ensures.refused c.refused.ensures
+
+pub returns-in-Err-clause-changed : goal.returns-in-Err-clause-changed
+returns-in-Err-clause-changed c =
+    rw c.prepare.ensures.table
+    (refused_unchanged c.args.names.now.table
+    (seen_command c.args.command.now) string_bytes c.args.given.now c.refused.result c.in-Err.stop (alone-stays (seen_command c.args.command.now) c.requires)
+    c.in-Err.ensures.refused c.refused.ensures)

@@ -1,0 +1,348 @@
+//! Commands on dirty bitmaps, and the query that prints how much of each is dirty.
+ghost use Rattle.std.specs.Prelude.{◌≡◌, ◌<◌, ℕ, true, None, Some, Ok, IsSome, map, IfOk, OnOk, OnErr, length, string_bytes};
+ghost use Rattle.qmp_codec.specs.Bitmaps.{seen_bitmap_add, seen_bitmap_merge, seen_bitmap_name, seen_source};
+ghost use Rattle.qmp_codec.specs.Commands.{SeenSources, seen_command};
+ghost use Rattle.qmp_rules.specs.Answers.{answer, command_edits, refusal_to, returned, told_none};
+ghost use Rattle.qmp_rules.specs.Asks.{id_or};
+ghost use Rattle.qmp_asks.specs.BitmapAsks.{source_name, source_node};
+ghost use Rattle.qmp_rules.specs.Changes.{all_changed};
+ghost use Rattle.qmp_rules.specs.Fitting.{AllChangesFit};
+ghost use Rattle.qmp_rules.specs.Room.{HasRoomForChanges};
+ghost use Rattle.qmp_rules.specs.Queries.{bytes_of_node};
+ghost use Rattle.blk_bitmaps.specs.Calls.{with_first, with_source, without_first};
+ghost use Rattle.blk_bitmaps.specs.Refusals.{add_refusal, find};
+ghost use Rattle.blk_bitmaps.specs.Rows.{emptied, is_named, switched};
+ghost use Rattle.flat_machine.specs.Bitmaps.{AreBitmapsOf, FollowChanges, dirty_in};
+ghost use Rattle.flat_machine.specs.Marking.{dirty_bytes};
+ghost use Rattle.world_parts.specs.Carrying.{is_of_bitmaps, prints_counts, with_counts};
+ghost use Rattle.world_parts.specs.Leaving.{LeavesBitmaps};
+ghost use Rattle.qmp_asks.specs.Values.{amount_or, flag_or_false};
+ghost use Rattle.world_parts.specs.Recorded.{AreAfter, AreFree, IsNewBitmap, IsNewFor, bitmaps_after, bitmaps_merged};
+ghost use Rattle.world_parts.specs.Saying.{IsSaid};
+
+use crate::in_table::{accepted_alone, prepare};
+use blk_base::{NoMemory, Text};
+use blk_bitmaps::{Bitmap, BitmapStop, Bitmaps};
+use blk_graph::{NodeId, free_id};
+use qmp_codec::{Amount, BitmapAdd, BitmapMerge, BitmapName, Command, MergeSource};
+use qmp_rules::{Amounts, Edits, Names, Told};
+use std::alloc::Global;
+use world_parts::{accepted_text, refused};
+
+// ---- nodes by name
+
+fn first_id() -> NodeId
+    ensures { result ≡ 0 }
+{
+    match free_id(&[]) {
+        Some(id) => id,
+        None => unreachable!(),
+    }
+}
+
+/// The node of a name; the first id where there is none.
+fn id_of(names: &Names, name: &str) -> NodeId
+    ensures { result ≡ id_or 0 names.now.table (Some name.now) }
+{
+    match names.id_named(name) {
+        Some(id) => id,
+        None => first_id(),
+    }
+}
+
+// ---- how much is dirty
+
+/// For each bitmap how many bytes its dirty granules have.
+fn counts(alloc: Global, bitmaps: &Bitmaps) -> Result<Vec<u64>, NoMemory>
+    requires { AreFree bitmaps.now }
+    ensures { IfOk result (λ counts. counts.items ≡ map dirty_bytes (map dirty_in bitmaps.now)) }
+{
+    let rows = bitmaps.rows();
+    let mut counts = Vec::new(alloc);
+    for row in rows {
+        counts.push(row.dirty_bytes())?;
+    }
+    Ok(counts)
+}
+
+fn told_counts(alloc: Global, bitmaps: &Bitmaps) -> Result<Told, NoMemory>
+    requires { AreFree bitmaps.now }
+    ensures { IfOk result
+        (λ told. told ≡ with_counts told_none (map dirty_bytes (map dirty_in bitmaps.now))) }
+{
+    let counts = counts(alloc, bitmaps)?;
+    let mut told = Told::nothing(alloc);
+    told.dirty = Amounts::new(counts);
+    Ok(told)
+}
+
+/// The text of the answer to an accepted query, which changes nothing.
+fn accept_counts(
+    alloc: Global,
+    names: &mut Names,
+    bitmaps: &Bitmaps,
+    given: &str,
+    command: &Command,
+    edits: Edits,
+) -> Result<String, NoMemory>
+    requires free { AreFree bitmaps.now }
+    requires room { HasRoomForChanges (length edits) names.old }
+    requires fit { AllChangesFit names.old.table edits }
+    ensures said { IfOk result (λ text. IsSaid given.now (Ok (returned names.old.table
+        (with_counts told_none (map dirty_bytes (map dirty_in bitmaps.now)))
+        (seen_command command.now)))
+        (string_bytes text)) }
+    ensures changed { OnOk result (names.new.table ≡ all_changed names.old.table edits) }
+    ensures kept { OnErr result (names.new.table ≡ names.old.table) }
+{
+    let told = told_counts(alloc, bitmaps)?;
+    let text = accepted_text(alloc, names, given, &told, command)?;
+    names.apply(edits);
+    Ok(text)
+}
+
+/// Answers the query that prints what is dirty, or refuses it. Gives the text of the answer.
+pub fn answer_counts(
+    alloc: Global,
+    names: &mut Names,
+    bitmaps: &Bitmaps,
+    given: &str,
+    command: &Command,
+) -> Result<String, NoMemory>
+    requires prints { prints_counts (seen_command command.now) ≡ true }
+    requires free { AreFree bitmaps.now }
+    ensures said { IfOk result (λ text. IsSaid given.now (answer names.old.table
+        (with_counts told_none (map dirty_bytes (map dirty_in bitmaps.now)))
+        (seen_command command.now)).reply
+        (string_bytes text)) }
+    ensures changed { OnOk result (names.new.table ≡ all_changed names.old.table
+        (answer names.old.table told_none (seen_command command.now)).changes) }
+    ensures kept { OnErr result (names.new.table ≡ names.old.table) }
+{
+    match prepare(alloc, names, command) {
+        Ok(edits) => accept_counts(alloc, names, bitmaps, given, command, edits),
+        Err(stop) => refused(alloc, given, stop),
+    }
+}
+
+// ---- a new bitmap
+
+/// The amount of an accepted command, where it gives one.
+fn amount_or(number: u64, amount: Option<Amount>) -> u64
+    ensures { result ≡ amount_or number amount }
+{
+    match amount {
+        Some(Amount::Number(said)) => said,
+        Some(Amount::Negative) | None => number,
+    }
+}
+
+fn flag_or_false(flag: Option<bool>) -> bool
+    ensures { result ≡ flag_or_false flag }
+{
+    match flag {
+        Some(on) => on,
+        None => false,
+    }
+}
+
+/// How many bytes a node's disk has.
+fn size_of(names: &Names, node: NodeId) -> u64
+    ensures { result ≡ bytes_of_node names.now.table node }
+{
+    match names.node_at(node) {
+        Some(row) => row.size,
+        None => 0,
+    }
+}
+
+/// What stops a bitmap that nothing refuses.
+fn no_memory(stop: BitmapStop) -> NoMemory
+    requires { stop ≡ BitmapStop.NoMemory }
+{
+    let _ = stop;
+    NoMemory
+}
+
+/// The bitmap that an accepted command adds, with all the memory that it takes.
+fn new_bitmap(
+    alloc: Global,
+    bitmaps: &Bitmaps,
+    names: &Names,
+    c: &BitmapAdd,
+) -> Result<Bitmap, NoMemory>
+    requires { add_refusal bitmaps.now (id_or 0 names.now.table (Some (seen_bitmap_add c.now).node))
+        (seen_bitmap_add c.now).name (amount_or 65536 (seen_bitmap_add c.now).granularity) ≡ None }
+    ensures new { IfOk result (IsNewBitmap names.now.table (seen_bitmap_add c.now)) }
+    ensures room { OnOk result (length bitmaps.now < 64) }
+{
+    let node = id_of(names, c.node.as_str());
+    let size = size_of(names, node);
+    let granularity = amount_or(65_536, c.granularity);
+    let enabled = !flag_or_false(c.disabled);
+    let name = Text::copied(alloc, c.name.as_str())?;
+    match bitmaps.prepare(node, name, size, granularity, enabled) {
+        Ok(row) => Ok(row),
+        Err(stop) => Err(no_memory(stop)),
+    }
+}
+
+/// The bitmap that an accepted command adds, where it adds one.
+fn new_of(
+    alloc: Global,
+    bitmaps: &Bitmaps,
+    names: &Names,
+    command: &Command,
+) -> Result<Option<Bitmap>, NoMemory>
+    requires alike { AreBitmapsOf names.now.table.bitmaps bitmaps.now }
+    requires accepted { refusal_to names.now.table told_none (seen_command command.now) ≡ None }
+    ensures new { IfOk result (IsNewFor names.now.table (seen_command command.now)) }
+    ensures room { IfOk result (λ new. IsSome new → length bitmaps.now < 64) }
+{
+    match command {
+        Command::BitmapAdd(c) => Ok(Some(new_bitmap(alloc, bitmaps, names, c)?)),
+        _ => Ok(None),
+    }
+}
+
+// ---- what commands change
+
+fn source_node<'x>(node: &'x str, source: &'x MergeSource) -> &'x str
+    ensures { result.now ≡ source_node node.now (seen_source source.now) }
+{
+    match source {
+        MergeSource::Name(_) => node,
+        MergeSource::Of(bitmap) => bitmap.node.as_str(),
+    }
+}
+
+fn source_name(source: &MergeSource) -> &str
+    ensures { result.now ≡ source_name (seen_source source.now) }
+{
+    match source {
+        MergeSource::Name(name) => name.as_str(),
+        MergeSource::Of(bitmap) => bitmap.name.as_str(),
+    }
+}
+
+/// Merges the sources, one after another.
+fn merge(bitmaps: &mut Bitmaps, names: &Names, c: &BitmapMerge)
+    ensures { bitmaps.new ≡ bitmaps_merged names.now.table (seen_bitmap_merge c.now).node
+        (seen_bitmap_merge c.now).target (seen_bitmap_merge c.now).bitmaps bitmaps.old }
+{
+    for source in &c.bitmaps {
+        let from = id_of(names, source_node(c.node.as_str(), source));
+        let target = id_of(names, c.node.as_str());
+        bitmaps.merge_one(target, c.target.as_str(), from, source_name(source));
+    }
+}
+
+fn remove(bitmaps: &mut Bitmaps, names: &Names, c: &BitmapName)
+    requires { AreFree bitmaps.old }
+    ensures { bitmaps.new ≡ without_first
+        (is_named (id_or 0 names.now.table (Some (seen_bitmap_name c.now).node))
+        (seen_bitmap_name c.now).name) bitmaps.old }
+{
+    // no job uses it, and one that isn't there needs no removal
+    let _ = bitmaps.remove(id_of(names, c.node.as_str()), c.name.as_str());
+}
+
+fn clear(bitmaps: &mut Bitmaps, names: &Names, c: &BitmapName)
+    requires { AreFree bitmaps.old }
+    ensures { bitmaps.new ≡ with_first
+        (is_named (id_or 0 names.now.table (Some (seen_bitmap_name c.now).node))
+        (seen_bitmap_name c.now).name) emptied bitmaps.old }
+{
+    let _ = bitmaps.clear(id_of(names, c.node.as_str()), c.name.as_str());
+}
+
+fn turn(bitmaps: &mut Bitmaps, names: &Names, on: bool, c: &BitmapName)
+    requires { AreFree bitmaps.old }
+    ensures { bitmaps.new ≡ with_first
+        (is_named (id_or 0 names.now.table (Some (seen_bitmap_name c.now).node))
+        (seen_bitmap_name c.now).name) (switched on) bitmaps.old }
+{
+    let node = id_of(names, c.node.as_str());
+    let _ = if on {
+        bitmaps.enable(node, c.name.as_str())
+    } else {
+        bitmaps.disable(node, c.name.as_str())
+    };
+}
+
+/// Makes the changes of an accepted command, the new bitmap among them. Takes no memory.
+fn change(bitmaps: &mut Bitmaps, names: &Names, command: &Command, new: Option<Bitmap>)
+    requires free { AreFree bitmaps.old }
+    requires room { IsSome new → length bitmaps.old < 64 }
+    ensures { bitmaps.new
+        ≡ bitmaps_after names.now.table (seen_command command.now) new bitmaps.old }
+{
+    match command {
+        Command::BitmapAdd(_) => {
+            if let Some(row) = new {
+                bitmaps.push(row);
+            }
+        }
+        Command::BitmapRemove(c) => remove(bitmaps, names, c),
+        Command::BitmapClear(c) => clear(bitmaps, names, c),
+        Command::BitmapEnable(c) => turn(bitmaps, names, true, c),
+        Command::BitmapDisable(c) => turn(bitmaps, names, false, c),
+        Command::BitmapMerge(c) => merge(bitmaps, names, c),
+        _ => {}
+    }
+}
+
+/// Makes the changes of an accepted command. All memory is taken before the table changes.
+fn accept(
+    alloc: Global,
+    names: &mut Names,
+    bitmaps: &mut Bitmaps,
+    given: &str,
+    command: &Command,
+    edits: Edits,
+) -> Result<String, NoMemory>
+    requires alike { AreBitmapsOf names.old.table.bitmaps bitmaps.old }
+    requires accepted { refusal_to names.old.table told_none (seen_command command.now) ≡ None }
+    requires room { HasRoomForChanges (length edits) names.old }
+    requires fit { AllChangesFit names.old.table edits }
+    ensures said { IfOk result (λ text. IsSaid given.now
+        (Ok (returned names.old.table told_none (seen_command command.now))) (string_bytes text)) }
+    ensures changed { OnOk result (names.new.table ≡ all_changed names.old.table edits) }
+    ensures bitmaps { OnOk result (AreAfter names.old.table (seen_command command.now)
+        bitmaps.old bitmaps.new) }
+    ensures kept { OnErr result (names.new.table ≡ names.old.table) }
+    ensures bitmaps_kept { OnErr result (bitmaps.new ≡ bitmaps.old) }
+{
+    let new = new_of(alloc, bitmaps, names, command)?;
+    let text = accepted_alone(alloc, names, given, command)?;
+    change(bitmaps, names, command, new);
+    names.apply(edits);
+    Ok(text)
+}
+
+/// Carries out a command on bitmaps, or refuses it. Gives the text of the answer.
+pub fn answer_bitmaps(
+    alloc: Global,
+    names: &mut Names,
+    bitmaps: &mut Bitmaps,
+    given: &str,
+    command: &Command,
+) -> Result<String, NoMemory>
+    requires is { is_of_bitmaps (seen_command command.now) ≡ true }
+    requires alike { AreBitmapsOf names.old.table.bitmaps bitmaps.old }
+    ensures said { IfOk result (λ text. IsSaid given.now
+        (answer names.old.table told_none (seen_command command.now)).reply (string_bytes text)) }
+    ensures changed { OnOk result (names.new.table ≡ all_changed names.old.table
+        (answer names.old.table told_none (seen_command command.now)).changes) }
+    ensures follow { OnOk result (FollowChanges names.old.table bitmaps.old bitmaps.new
+        (answer names.old.table told_none (seen_command command.now)).changes) }
+    ensures left { OnOk result (LeavesBitmaps names.old.table (seen_command command.now)
+        (refusal_to names.old.table told_none (seen_command command.now)) bitmaps.old bitmaps.new) }
+    ensures kept { OnErr result (names.new.table ≡ names.old.table) }
+    ensures bitmaps_kept { OnErr result (bitmaps.new ≡ bitmaps.old) }
+{
+    match prepare(alloc, names, command) {
+        Ok(edits) => accept(alloc, names, bitmaps, given, command, edits),
+        Err(stop) => refused(alloc, given, stop),
+    }
+}

@@ -1,0 +1,14 @@
+pub mod BitmapsNoted
+pub mod PiecePaths
+pub mod PieceWriters
+pub mod PieceCopied
+pub mod PieceContents
+pub mod PieceCounts
+pub mod PieceNodes
+pub mod PieceFits
+pub mod PieceReady
+pub mod PieceShows
+pub mod PieceTables
+pub mod PieceTold
+pub mod PieceComes
+pub mod PieceCalls
