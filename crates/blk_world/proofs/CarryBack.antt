@@ -100,11 +100,6 @@ pub back_in_on : {T E : Type 0} (r : Result T E) (w : WorldSeen) (line : Result 
 back_in_on (Ok value) w line = tt
 back_in_on (Err e) w line = put_back_in w line
 
--- an error of a command, and of another line
-pub back_of : {T E : Type 0} (r : Result T E) (w v : WorldSeen) (c : Cmd) → OnErr r (IsPutBackBy w v c) → OnErr r (IsPutBack w v)
-back_of (Ok value) w v c is = is
-back_of (Err e) w v c is = is.back
-
 pub back_in : {T E : Type 0} (r : Result T E) (w v : WorldSeen) (c : Cmd) (line : Result Cmd Stop) → line ≡ Ok c → OnErr r (IsPutBackBy w v c)
     → OnErr r (IsPutBackIn w v line)
 back_in r w v c line read is = subst (λ (l : Result Cmd Stop). OnErr r (IsPutBackIn w v l)) (sym read) is
@@ -112,7 +107,3 @@ back_in r w v c line read is = subst (λ (l : Result Cmd Stop). OnErr r (IsPutBa
 pub still_back : {T E : Type 0} (r : Result T E) (w v : WorldSeen) → OnErr r (v ≡ w) → OnErr r (IsPutBack w v)
 still_back (Ok value) w v same = same
 still_back (Err e) w v same = subst (IsPutBack w) (sym same) (put_back w)
-
-pub still_in : {T E : Type 0} (r : Result T E) (w v : WorldSeen) (why : Stop) (line : Result Cmd Stop) → line ≡ Err why → OnErr r (v ≡ w)
-    → OnErr r (IsPutBackIn w v line)
-still_in r w v why line read same = subst (λ (l : Result Cmd Stop). OnErr r (IsPutBackIn w v l)) (sym read) same

@@ -13,10 +13,8 @@ use Rattle.qmp_codec.specs.declared.nodes.AddRaw.{AddRaw}
 use Rattle.qmp_codec.specs.declared.nodes.Added.{Added}
 use Rattle.qmp_codec.specs.declared.nodes.Added.TheVariants as added
 use Rattle.qmp_rules.specs.declared.told.Told.{Told}
-use Rattle.blk_base.specs.declared.fault.DevNo.{DevNo}
 use Rattle.blk_base.specs.declared.fault.FaultFrom.TheVariants as from
 use Rattle.qmp_rules.specs.declared.refusal.Refusal.TheVariants as refusal
-use Rattle.qmp_rules.specs.Refusals.{refusal_text}
 use Rattle.qmp_rules.specs.Table.{RunTable}
 use Rattle.qmp_rules.specs.Edits.{edits_of, added_edits, raw_edits, qcow2_edits}
 use Rattle.qmp_rules.specs.Answers.{refusal_to, command_edits}
@@ -104,13 +102,3 @@ pub failed_call_edits : (s : State) (c : Cmd) (text : List ℕ) (id : Option Dat
 failed_call_edits s c text id class desc h call =
     let says = reads_refused text id class desc h in
     rw (says.0, says.1, call) refl
-
--- the words of failed calls say that they are some
-pub store_call : (count : ℕ) → is_failed_call (refusal_text (refusal.Io from.Store count)) ≡ true
-store_call count = refl
-
-pub device_call : (dev : DevNo) (count : ℕ) → is_failed_call (refusal_text (refusal.Io (from.Dev dev) count)) ≡ true
-device_call dev count = refl
-
-pub full_call : (dev : DevNo) → is_failed_call (refusal_text (refusal.NoSpace dev)) ≡ true
-full_call dev = refl

@@ -54,12 +54,6 @@ use Rattle.flat_machine.specs.Unique.{AreGuests, HaveOneHistory}
 use Rattle.flat_machine.specs.declared.opening.Opening.{Opening}
 use Rattle.flat_machine.proofs.Histories.{Runs, entry_runs, start_runs, of_no_job}
 
--- ---- what stands with options
-
-with-same : {A : Type 0} {x y : ℕ} (f : A → ℕ) (o : Option A) → With o (λ a. x ≡ f a) → With o (λ a. y ≡ f a) → x ≡ y
-with-same f None h k = absurd h
-with-same f (Some a) h k = h ∙ sym k
-
 -- ---- guests
 
 module _ (o : Opening) (guests : AreGuests o.guests) where

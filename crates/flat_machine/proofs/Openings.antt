@@ -6,20 +6,16 @@ use Rattle.std.proofs.lemmas.List.Elements.{All-nil}
 use Rattle.blk_base.specs.declared.file.File.{File}
 use Rattle.blk_base.specs.Files.{file_at}
 use Rattle.blk_graph.proofs.Members.{Contains-nil}
-use Rattle.qmp_rules.specs.declared.rows.NodeRecord.{NodeRecord}
-use Rattle.qmp_rules.specs.Table.{node_by_id, opening_table}
-use Rattle.qmp_rules.specs.Chains.{is_settled}
+use Rattle.qmp_rules.specs.Table.{opening_table}
 use Rattle.flat_machine.specs.declared.opening.Opening.{Opening}
-use Rattle.flat_machine.specs.State.{State, Content, Bytes, Blank, Unknown, bytes_at_node, flat_disk_of, content_in}
+use Rattle.flat_machine.specs.State.{Content, Bytes, Blank, Unknown, content_in}
 use Rattle.flat_machine.specs.Contents.{found}
 use Rattle.flat_machine.specs.Opening.{start}
 use Rattle.flat_machine.specs.Final.{bytes_named}
-use Rattle.flat_machine.specs.Agreement.{Contents, HasDisk, IsAsKnown, IsLeftAs, Agrees}
+use Rattle.flat_machine.specs.Agreement.{Contents, IsAsKnown, IsLeftAs, Agrees}
 use Rattle.flat_machine.specs.Wiring.{TableStands, TableAtRest}
 use Rattle.flat_machine.specs.Standing.{Stands, StandsAtRest, IsUsedUp, IsOfState}
 use Rattle.flat_machine.proofs.Finds.{bytes_eq-same, bytes_eq-other, same-bytes_eq}
-use Rattle.flat_machine.proofs.Agreeing.{rows_same}
-use Rattle.flat_machine.proofs.Kept.{quiet_keeps, own_disk}
 
 -- ---- the beginning
 
@@ -106,22 +102,3 @@ start_agrees o c held = record {
     is_absent : (bytes : Option (List ℕ)) → option_map Bytes bytes ≡ None → bytes ≡ None
     is_absent None e = refl
     is_absent (Some bytes) e = absurd cc
-
--- ---- entries that touch no disk
-
-pub agrees_beside : (opening : List ℕ → Option (List ℕ)) (s now : State) (c : Contents) → now.table.nodes ≡ s.table.nodes → now.disks ≡ s.disks
-    → now.files ≡ s.files → now.left ≡ s.left → now.named ≡ s.named → Agrees opening s c → Agrees opening now c
-agrees_beside opening s now c nodes disks files left named h =
-    quiet_keeps opening s now c c (rows_same s now nodes) disks files left named
-    (record { nodes = λ node other. refl; files = λ name other. refl }) h
-
--- ---- a node with a flat disk
-
--- what it reads as is its flat disk
-pub disk_read : (opening : List ℕ → Option (List ℕ)) (s : State) (c : Contents) (node : ℕ) (row : NodeRecord) → Agrees opening s c
-    → node_by_id s.table node ≡ Some row → HasDisk row → flat_disk_of s node ≡ Some (c.reads node)
-disk_read opening s c node row h is disk =
-    let here = own_disk s.table node row is disk.own in
-    let settled : is_settled s.table node ≡ true = rw (here, is, disk.settled) refl in
-    let reads : bytes_at_node s node ≡ c.reads node = rw here (sym (h.disks node row is disk)) in
-    rw (settled, reads) refl

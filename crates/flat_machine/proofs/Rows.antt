@@ -12,7 +12,7 @@ use Rattle.qmp_rules.specs.Table.{RunTable, node_by_id}
 use Rattle.qmp_rules.specs.Changes.{node_changed, unsettled, lost_with, stands_over}
 use Rattle.qmp_rules.specs.Chains.{filtered, disk_from, disk_node, is_over, unsettled_over}
 use Rattle.flat_machine.specs.Machine.{path_from, path, copies_at, is_copying, copies_through}
-use Rattle.flat_machine.specs.Wiring.{HaveDistinctIds, HasEnds, EdgesHaveEnds, IsUnder}
+use Rattle.flat_machine.specs.Wiring.{HaveDistinctIds, IsUnder}
 use Rattle.flat_machine.proofs.Finds.{find-map, bytes_eq-other}
 use Rattle.flat_machine.proofs.Tables.{refreshed-old, refreshed-new}
 
@@ -27,21 +27,6 @@ pub under-before : (kinds : List NodeKind) (edges : List Edge) (file : ℕ) → 
 under-before kinds edges file h =
     let like = refreshed-old kinds edges h.edge h.there in
     record { edge = like.edge; there = like.there; over = like.same.role ∙ h.over; child = like.same.child ∙ h.child }
-
--- a table whose edges, before that, have their ends in it
-pub ends-refreshed : (t : RunTable) (kinds : List NodeKind) (edges : List Edge) → t.edges ≡ refreshed kinds edges
-    → ((e : Edge) → Contains edges e → HasEnds t e) → EdgesHaveEnds t
-ends-refreshed t kinds edges is h e there =
-    let like = refreshed-old kinds edges e (subst (λ es. Contains es e) is there) in
-    let ends = h like.edge like.there in
-    record {
-      parent = λ node k. ends.parent node (like.same.parent ∙ k);
-      child = subst (λ n. IsSome (node_by_id t n)) like.same.child ends.child;
-    }
-
--- nodes that are there stay
-pub ends-longer : (t now : RunTable) (e : Edge) → ((node : ℕ) → IsSome (node_by_id t node) → IsSome (node_by_id now node)) → HasEnds t e → HasEnds now e
-ends-longer t now e more h = record { parent = λ node k. more node (h.parent node k); child = more e.child h.child }
 
 -- ---- rows that stay, but for their disks
 

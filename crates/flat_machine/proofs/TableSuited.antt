@@ -53,12 +53,6 @@ module _ (t : RunTable) (told : Told) (h : TableStands t) where
   pub named-row : (name : List ℕ) (row : NodeRecord) → node_named t name ≡ Some row → Contains t.nodes row × (bytes_eq row.name name ≡ true)
   named-row name row found = find-Some (λ r. bytes_eq r.name name) t.nodes row found
 
-  pub named-at : (name : List ℕ) (row : NodeRecord) → node_named t name ≡ Some row → node_by_id t row.id ≡ Some row
-  named-at name row found = h.apart row (named-row name row found).0
-
-  pub named-there : (name : List ℕ) (row : NodeRecord) → node_named t name ≡ Some row → IsThere t row.id
-  named-there name row found = subst IsSome (sym (named-at name row found)) refl
-
   -- a `file` node with a flat disk is under no format node
   pub settled-free : (row : NodeRecord) → Contains t.nodes row → row.is_settled ≡ true → IsUnderNoFormat t row.id
   settled-free row there settled other found some under =

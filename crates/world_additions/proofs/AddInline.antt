@@ -26,7 +26,6 @@ use Rattle.qmp_rules.specs.declared.change.Change.TheVariants.{AddFile}
 use Rattle.qmp_rules.specs.declared.refusal.Refusal.TheVariants.{NameTaken}
 use Rattle.qmp_rules.specs.declared.rows.NodeRecord.{NodeRecord}
 use Rattle.qmp_rules.specs.declared.told.Told.{Told}
-use Rattle.flat_machine.specs.Wiring.{HaveDistinctIds}
 use Rattle.flat_machine.proofs.Accepted.{free_fresh}
 use Rattle.flat_machine.proofs.Asked.{not-refused}
 use Rattle.flat_machine.proofs.Finds.{bytes_eq-same, same-bytes_eq}
@@ -34,7 +33,7 @@ use Rattle.flat_machine.proofs.Fresh.{found-new}
 use Rattle.world_parts.specs.Adding.{Adding, Taken}
 use Rattle.world_parts.specs.Coherent.{AreNodesOf}
 use Rattle.world_parts.specs.Joining.{HasInline}
-use Rattle.world_additions.proofs.AddAlike.{apart-of, id_of}
+use Rattle.world_additions.proofs.AddAlike.{id_of}
 use Rattle.world_additions.proofs.AddAsked.{TellsShort}
 use Rattle.world_additions.proofs.AddFacts.{alike-filed}
 use Rattle.world_additions.proofs.AddPlaces.{file-of, free-lowest, place-of}
@@ -156,9 +155,6 @@ module _ (t : RunTable) (nodes : Nodes) (alike : AreNodesOf t nodes) (joined : I
 
   pub size-then : node_size between node ≡ device.size
   size-then = ap (node_size between) (sym node-is) ∙ size-alike t1 between (free_id t) row alike-then row-then ∙ size-is
-
-  pub apart-then : HaveDistinctIds t1
-  apart-then = apart-of t1 between alike-then.listed has.joined
 
   pub place-then : node_named t c.node_name ≡ None → holds t told (ask.Apart c.node_name file.node_name) ≡ None → HasRoomForNode between c.node_name
   place-then fresh apart =

@@ -1,6 +1,6 @@
 -- What the looks of an addition leave: its device is out, and the nodes are those of the table.
 use Rattle.std.proofs.Common.{◌≡◌, ℕ, Bool, true, false, List, inl, inr, refl, sym, ◌∙◌, ap, subst, Option, Some, None, Ok, Err}
-use Rattle.std.specs.Prelude.{IfOk, OnErr, Result, bytes_eq, if◌then◌else◌, option_and_then}
+use Rattle.std.specs.Prelude.{OnErr, Result, bytes_eq, if◌then◌else◌, option_and_then}
 use Rattle.blk_base.specs.Files.{is_out}
 use Rattle.blk_base.proofs.Openings.{out-opened}
 use Rattle.blk_graph.proofs.Members.{find-Some}
@@ -33,10 +33,6 @@ use Rattle.world_additions.proofs.AddPlaces.{file-of}
 pub on-err : {A E : Type 0} (r : Result A E) (P Q : Type 0) → (P → Q) → OnErr r P → OnErr r Q
 on-err (Ok a) P Q f h = tt
 on-err (Err e) P Q f h = f h
-
-pub if-ok : {A E : Type 0} (r : Result A E) (P Q : A → Type 0) → ((a : A) → P a → Q a) → IfOk r P → IfOk r Q
-if-ok (Ok a) P Q f h = f a h
-if-ok (Err e) P Q f h = tt
 
 -- ---- a device is out
 

@@ -11,7 +11,6 @@ use Rattle.blk_graph.specs.Graph.{HasNode, NodeRow, ids}
 use Rattle.blk_graph.specs.Ids.{IsLowestFree, lowest_free, lowest_from}
 use Rattle.blk_graph.specs.Refreshed.{no_kind, refreshed}
 use Rattle.blk_graph.specs.Rule.{first_conflict}
-use Rattle.blk_graph.proofs.IdLemmas.{lowest_free-is}
 use Rattle.blk_graph.proofs.Members.{Contains-cases, Contains-here, Contains-nil, Contains-there}
 use Rattle.blk_nodes.specs.Adding.{IsAllowed}
 use Rattle.blk_nodes.specs.Joined.{IsFile, IsJoined}
@@ -121,9 +120,6 @@ module _ (t : RunTable) (nodes : Nodes) (alike : AreNodesOf t nodes) (joined : I
 
   pub free-lowest : IsLowestFree (ids nodes.graph) (free_id t)
   free-lowest = subst (λ (l : List ℕ). IsLowestFree l (free_id t)) (sym same_ids) (lowest-free (map id_of t.nodes) few)
-
-  pub free-is : (id : ℕ) → id < 64 → IsLowestFree (ids nodes.graph) id → free_id t ≡ id
-  free-is id small lowest = lowest_free-is (map id_of t.nodes) id small (subst (λ (l : List ℕ). IsLowestFree l id) same_ids lowest)
 
 -- ---- rows by id
 

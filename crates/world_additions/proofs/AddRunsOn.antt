@@ -4,12 +4,11 @@ use Rattle.std.specs.Prelude.{is_some, slice_get}
 use Rattle.blk_base.specs.declared.fault.DevNo.{DevNo}
 use Rattle.blk_base.specs.declared.file.Opened.{Opened}
 use Rattle.blk_history.specs.Fold.{With}
-use Rattle.blk_nodes.specs.Nodes.{AreTold, DeviceSeen, Nodes}
+use Rattle.blk_nodes.specs.Nodes.{DeviceSeen, Nodes}
 use Rattle.q2_image.specs.Image.{Known}
 use Rattle.qmp_codec.specs.declared.nodes.Added.{Added}
 use Rattle.qmp_rules.specs.Table.{RunTable}
 use Rattle.world_parts.specs.Adding.{Adding, Taken, of_node, opening_of}
-use Rattle.world_parts.specs.Coherent.{DevicesTell}
 use Rattle.world_parts.specs.Counting.{AreSameDevices, HaveNotFallen, IsLater, RunsOn}
 use Rattle.world_parts.specs.Face.{WorldSeen, counts_from, counts_now}
 use Rattle.world_parts.specs.Joining.{HasAdded}
@@ -41,9 +40,6 @@ runs-still w v told room first earlier store opened same = record {
 -- ---- by what the looks left
 
 module _ (w v : WorldSeen) (first : v.first_faults ≡ w.first_faults) (now : Site) (driver : Added (List ℕ)) (out : Option Taken) where
-  files-of : {s : StoreInRun} → store_of v ≡ s → v.files ≡ s.files
-  files-of is = ap (λ (x : StoreInRun). x.files) is
-
   -- a device that is out, of which nothing is left; or none
   pub runs-back : IsLookedSo (opened_name driver) (site_of w) now out → site_of v ≡ site (back_if driver out now.store) now.nodes → RunsOn w v
   runs-back (inl called) is =
@@ -91,8 +87,3 @@ module _ (w v : WorldSeen) (first : v.first_faults ≡ w.first_faults) (now : Si
       runs-opened w v (ap (λ (x : StoreInRun). is_some x.files) store) (ap (λ (x : StoreInRun). x.room) store) first (ap (λ (x : StoreInRun). x.earlier) store)
       (omega (arith, faults)) (opening_of (opened_name driver) opened.first) (ap (λ (x : StoreInRun). x.opened) store)
       (subst (HaveNotFallen (counts_from w.nodes.devices 0 w.opened)) (sym counts) (not-fallen-itself (counts_from w.nodes.devices 0 w.opened)))
-
-  -- ---- devices tell where the store does
-
-  tell-risen : DevicesTell w.files w.nodes.devices → is_some v.files ≡ is_some w.files → (ds : List DeviceSeen) → ds ≡ w.nodes.devices → DevicesTell v.files ds
-  tell-risen tell files ds same told = subst AreTold (sym same) (tell (sym files ∙ told))

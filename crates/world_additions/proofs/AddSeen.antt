@@ -1,11 +1,9 @@
 -- What a look at the store and at an image came to is what the files may tell.
-use Rattle.std.proofs.Common.{◌≡◌, ℕ, true, false, List, length, refl, sym, ◌∙◌, ap, subst, Some, None}
+use Rattle.std.proofs.Common.{◌≡◌, ℕ, true, false, List, length, refl, sym, ◌∙◌, subst, Some, None}
 use Rattle.q2_format.specs.Header.{header_of}
 use Rattle.qmp_codec.specs.declared.nodes.AddRaw.{AddRaw}
 use Rattle.qmp_codec.specs.declared.nodes.AddQcow2.{AddQcow2}
-use Rattle.qmp_codec.specs.declared.nodes.Added.{Added}
 use Rattle.qmp_codec.specs.declared.nodes.Added.TheVariants as added
-use Rattle.qmp_codec.specs.declared.nodes.FileRef.{FileRef}
 use Rattle.qmp_codec.specs.declared.nodes.FileRef.TheVariants as file_ref
 use Rattle.qmp_codec.specs.declared.nodes.InlineFile.{InlineFile}
 use Rattle.qmp_asks.specs.declared.look.Look.{Look}
@@ -17,7 +15,7 @@ use Rattle.qmp_asks.specs.NodeAsks.{add_asks}
 use Rattle.qmp_rules.specs.Answers.{told_none}
 use Rattle.flat_machine.specs.State.{State, Bytes, content_in}
 use Rattle.flat_machine.specs.Sights.{image_sight}
-use Rattle.world_parts.specs.Adding.{Adding, Opens, look_in_vain, opens}
+use Rattle.world_parts.specs.Adding.{Adding, Opens, look_in_vain}
 use Rattle.world_additions.proofs.AddTold.{looks_at, has_look}
 use Rattle.world_additions.proofs.AddRefused.{looks-file, looks-part, looks-image, has-file, has-begin, has-part, has-opened}
 use Rattle.world_additions.proofs.AddSights.{expects}
@@ -31,30 +29,6 @@ pub data OpensAs (c : Adding) (at : Opens) : Type 0 where
       → file.filename ≡ at.filename → at.what ≡ look.Begin → OpensAs c at
   AsImage : (image : AddQcow2 (List ℕ)) (file : InlineFile (List ℕ)) → c.driver ≡ added.Qcow2 image → image.file ≡ file_ref.Inline file
       → file.filename ≡ at.filename → at.what ≡ look.File → OpensAs c at
-
-pub opens-as : (c : Adding) (at : Opens) → opens c.driver ≡ Some at → OpensAs c at
-opens-as c at is = by_driver c.driver refl
-  where
-    by_driver : (d : Added (List ℕ)) → c.driver ≡ d → OpensAs c at
-    by_driver (added.File filename) e =
-        let same : record { filename = filename; what = look.File } ≡ at = cc (rw e at is) in
-        AsFile (e ∙ ap (λ (o : Opens). added.File o.filename) same) (sym (ap (λ (o : Opens). o.what) same))
-    by_driver (added.Raw raw) e = by_ref raw.file refl
-      where
-        by_ref : (f : FileRef (List ℕ)) → raw.file ≡ f → OpensAs c at
-        by_ref (file_ref.Name name) f = let none : None ≡ Some at = rw (e, f) at is in absurd (cc none)
-        by_ref (file_ref.Inline file) f =
-            let same : record { filename = file.filename; what = look.Begin } ≡ at = cc (rw (e, f) at is) in
-            AsPart raw file e f (ap (λ (o : Opens). o.filename) same) (sym (ap (λ (o : Opens). o.what) same))
-    by_driver (added.Qcow2 image) e = by_ref image.file refl
-      where
-        by_ref : (f : FileRef (List ℕ)) → image.file ≡ f → OpensAs c at
-        by_ref (file_ref.Name name) f = let none : None ≡ Some at = rw (e, f) at is in absurd (cc none)
-        by_ref (file_ref.Inline file) f =
-            let same : record { filename = file.filename; what = look.File } ≡ at = cc (rw (e, f) at is) in
-            AsImage image file e f (ap (λ (o : Opens). o.filename) same) (sym (ap (λ (o : Opens). o.what) same))
-    by_driver (added.CopyOnRead file) e = let none : None ≡ Some at = rw e at is in absurd (cc none)
-    by_driver added.Unknown e = let none : None ≡ Some at = rw e at is in absurd (cc none)
 
 pub looks-as : (c : Adding) (at : Opens) → OpensAs c at → looks_at at.what (add_asks c) ≡ true
 looks-as c at (AsFile e what) = subst (λ (w : Look). looks_at w (add_asks c) ≡ true) (sym what) (looks-file c at.filename e)

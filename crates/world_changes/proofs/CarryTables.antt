@@ -203,9 +203,6 @@ pub stays-left : (t : RunTable) (c : Cmd) (cause : Refusal) → stays_in_table c
 stays-left t (command.BlockdevCreate c) cause stays = absurd cc
 stays-left t _ cause stays = refl
 
-pub alone-left : (t : RunTable) (c : Cmd) (cause : Refusal) → needs_table_alone c ≡ true → left_by t c cause ≡ []
-alone-left t c cause alone = stays-left t c cause (alone-stays c alone)
-
 merged-performed : (t : RunTable) (node target : List ℕ) (sources : SeenSources) (s : State) (old new : Contents) → IsQuiet old new → AllPerformed s (merges t node target sources) old new
 merged-performed t node target [] s old new quiet = quiet
 merged-performed t node target (source ∷ sources) s old new quiet =

@@ -1,6 +1,6 @@
 -- What a snapshot leaves beside its answer: accepted, refused, or where it has to wait.
 use Rattle.std.proofs.Common.{◌≡◌, ℕ, Bool, true, false, cond, List, [], ◌∷◌, Some, None, Ok, Err, refl, sym, ◌∙◌, ap, subst}
-use Rattle.std.specs.Prelude.{◌↔◌, IfOk, Result}
+use Rattle.std.specs.Prelude.{◌↔◌}
 use Rattle.std.proofs.lemmas.Bool.{false≢true}
 use Rattle.qmp_codec.specs.Commands.{Cmd}
 use Rattle.qmp_codec.specs.declared.command.Command.TheVariants as command
@@ -13,7 +13,7 @@ use Rattle.qmp_rules.specs.Answers.{Answer, command_edits, left_by, refusal_to, 
 use Rattle.qmp_rules.specs.Changes.{all_changed}
 use Rattle.qmp_rules.specs.Prepared.{IsStoppedFor}
 use Rattle.qmp_rules.specs.Table.{RunTable, has_name, id_named}
-use Rattle.flat_machine.specs.Marks.{AreCalm, MustWait, after_later, drained_by}
+use Rattle.flat_machine.specs.Marks.{AreCalm, drained_by}
 use Rattle.flat_machine.specs.State.{State}
 use Rattle.flat_machine.specs.Wiring.{TableStands}
 use Rattle.blk_nodes.specs.Joined.{IsJoined}
@@ -22,10 +22,9 @@ use Rattle.blk_nodes.specs.Overlays.{IsFresh}
 use Rattle.flat_machine.proofs.Finds.{bytes_eq-same}
 use Rattle.world_parts.specs.Coherent.{AreNodesOf}
 use Rattle.world_changes.specs.Detaching.{Scene}
-use Rattle.world_parts.specs.Draining.{is_drain}
 use Rattle.world_parts.specs.Handling.{SaysRefusal}
 use Rattle.world_parts.specs.Saying.{IsSaid}
-use Rattle.world_changes.specs.Covering.{CanCoverBy, HasCovered, HasToBeLater, IsCoveredBy, TellsMappedAlone, is_snapshot}
+use Rattle.world_changes.specs.Covering.{CanCoverBy, HasCovered, IsCoveredBy, TellsMappedAlone, is_snapshot}
 use Rattle.world_changes.proofs.CoverCarried.{can_cover}
 use Rattle.world_changes.proofs.OverlayBytes.{image_told}
 use Rattle.world_parts.proofs.Placed.{answer-is}
@@ -54,11 +53,6 @@ pub covering_can : (t : RunTable) (c : Cmd) (told : Told) (nodes : Nodes) → is
     → refusal_to t told c ≡ None → CanCoverBy t c nodes
 covering_can t (command.BlockdevSnapshot c) told nodes is h alike joined none = can_cover t h c told none nodes alike joined
 covering_can t c told nodes is h alike joined none = absurd (let bad : ⊥ = cc is in bad)
-
--- it drains a disk
-pub snapshot_drains : (c : Cmd) → is_snapshot c ≡ true → is_drain c ≡ true
-snapshot_drains (command.BlockdevSnapshot c) is = refl
-snapshot_drains c is = absurd (let bad : ⊥ = cc is in bad)
 
 leaves_nothing : (t : RunTable) (c : Cmd) (cause : Refusal) → is_snapshot c ≡ true → left_by t c cause ≡ []
 leaves_nothing t (command.BlockdevSnapshot c) cause is = refl
@@ -105,14 +99,3 @@ module _ (s : State) (given : List ℕ) (c : Cmd) (is : is_snapshot c ≡ true) 
       → HasCovered s given c x y text
   stop_so text (Refused cause) some same said = refused_so text cause some same said
   stop_so text NoMemory some same said = absurd said
-
-  -- another request is in the way
-  pub later_so : (g r : ℕ) → refusal_to x.table told c ≡ None → MustWait s (drained_by x.table c) g r
-      → y ≡ record x { drains = after_later (drained_by x.table c) x.drains } → HasToBeLater s c x y g r
-  later_so g r none waits left = record { told = told; tells = tells; accepted = none; waits = waits; left = left }
-
-  -- whichever a call of it says
-  pub stop_said : {A E : Type 0} (r : Result A E) (text : A → List ℕ) (stop : PrepareStop) → IsStoppedFor (refusal_to x.table told c) stop → y ≡ x
-      → IfOk r (λ a. SaysRefusal given stop (text a)) → IfOk r (λ a. HasCovered s given c x y (text a))
-  stop_said (Ok a) text stop some same said = stop_so (text a) stop some same said
-  stop_said (Err e) text stop some same said = said

@@ -7,7 +7,7 @@ use Rattle.blk_base.specs.declared.file.File.{File as StoreFile}
 use Rattle.blk_history.specs.Fold.{With}
 use Rattle.q2_format.specs.Created.{Creation}
 use Rattle.qmp_rules.specs.Asks.{stands_for}
-use Rattle.flat_machine.specs.Performing.{ChangesFileAlone, Nothing, IsFormatted, held_bytes, IsQuiet}
+use Rattle.flat_machine.specs.Performing.{ChangesFileAlone, Nothing, IsFormatted, held_bytes}
 use Rattle.flat_machine.proofs.Finds.{same-bytes_eq, bytes_eq-other}
 use Rattle.blk_nodes.specs.Contents.{disk_of}
 use Rattle.blk_nodes.specs.Formatting.{IsFormatAt, HoldsAfter, HoldsImage}
@@ -68,12 +68,6 @@ module _ (w v : WorldSeen) (nodes : v.nodes ≡ w.nodes) (rows : v.table.nodes �
   -- a file over which no node stands is the store's
   pub held_closed : (name : List ℕ) → node_over w.table name ≡ None → held v name ≡ told_bytes v.files name
   held_closed name closed = ap (held_in_file v name) (over_same name ∙ closed)
-
-  pub quiet_same : v.files ≡ w.files → IsQuiet (contents_of w) (contents_of v)
-  quiet_same files = record {
-    nodes = λ node but. reads_same node;
-    files = λ name but. held_same name (ap (λ (fs : Option (List StoreFile)). told_bytes fs name) files);
-  }
 
   -- a file is made
   pub makes_file : (name : List ℕ) (size : ℕ) (files : List StoreFile) → w.files ≡ Some files → node_over w.table name ≡ None

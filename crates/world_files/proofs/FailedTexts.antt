@@ -96,9 +96,6 @@ behind : (desc rest : List ℕ) → escape desc ≡ desc → ((escape desc ++ 34
     (34 ∷ 125 ∷ rest)
 behind desc rest plain = rw plain (simp append_assoc)
 
-front-back : (desc rest : List ℕ) → refusal_front ++ (desc ++ rest) ≡ refusal_front ++ desc ++ rest
-front-back desc rest = sym (append_assoc refusal_front desc rest)
-
 prints-none : (desc : List ℕ) → escape desc ≡ desc → refusal_front ++ desc ++ codes "\"}}" ≡ compact_text
     (refused_data None GenericError desc)
 unfolding escape_byte

@@ -1,6 +1,5 @@
 -- Answers as they are printed.
 use Rattle.std.proofs.Common.{◌≡◌, ◌≤◌, false, List, [], ℕ, ap, sym, ◌∙◌, Option, Some, None, Ok, Err}
-use Rattle.std.specs.Prelude.{Result, IfOk}
 use Rattle.serde_json.specs.Data.{Data, depth}
 use Rattle.serde_json.specs.Read.{read, max_depth}
 use Rattle.serde_json.specs.Written.{has_float, compact_text}
@@ -13,11 +12,6 @@ use Rattle.qmp_rules.specs.Answers.{Answer, accepted, refused_so, line_refusal, 
 use Rattle.serde_json.specs.Data.{object, no_members}
 use Rattle.world_parts.specs.Saying.{IsPrintable, IsSaid}
 use Rattle.world_parts.proofs.CarryTexts.{id_plain, given_plain, refusal_plain}
-
--- what two clauses say of a value that is there
-pub both_ok : {A E : Type 0} (r : Result A E) (P Q R : A → Type 0) → ((a : A) → P a → Q a → R a) → IfOk r P → IfOk r Q → IfOk r R
-both_ok (Ok a) P Q R f p q = f a p q
-both_ok (Err e) P Q R f p q = p
 
 pub said_given : (given text : List ℕ) (id : Option Data) (d : Data) → id ≡ id_at given → IsPrintable 126 d
     → (has_float (returned_data id d) ≡ false → text ≡ compact_text (returned_data id d))

@@ -21,7 +21,7 @@ use Rattle.qmp_rules.specs.Asks.{holds, first_unmet_ask, told_at}
 use Rattle.qmp_asks.specs.CommandAsks.{asks_of, is_built, command_name, negotiates}
 use Rattle.qmp_rules.specs.Changes.{all_changed}
 use Rattle.qmp_rules.specs.Edits.{edits_of, node_ids}
-use Rattle.qmp_rules.specs.Answers.{answer, answer_by, told_none, unbuilt, out_of_turn, refusal_to, refusal_behind, conflict_after, conflict_in, conflict_refusal, rewires}
+use Rattle.qmp_rules.specs.Answers.{answer, answer_by, told_none, out_of_turn, refusal_to, refusal_behind, conflict_after, conflict_in, conflict_refusal, rewires}
 use Rattle.qmp_rules.proofs.PlaceLemmas.{has_place}
 use Rattle.flat_machine.specs.State.{State, Mapped, MapsNone, MapsSome, Unsure}
 use Rattle.flat_machine.specs.Sights.{told_for, overlays_of, mapped_at, AgreesWith, MayMap}
@@ -66,13 +66,6 @@ conflict-quiet t true changes cause is = at (first_conflict (node_ids (all_chang
     at : (pair : Option Conflict) → option_map (conflict_refusal (all_changed t changes)) pair ≡ Some cause → is_io_refusal cause ≡ false
     at None h = absurd cc
     at (Some pair) h = let same : conflict_refusal (all_changed t changes) pair ≡ cause = cc h in rw (← same) refl
-
-unbuilt-quiet : (c : Cmd) (cause : Refusal) → unbuilt c ≡ Some cause → is_io_refusal cause ≡ false
-unbuilt-quiet c cause is = at (is_built c) is
-  where
-    at : (b : Bool) → refused (not b) (refusal.UnknownCommand (command_name c)) ≡ Some cause → is_io_refusal cause ≡ false
-    at true h = absurd cc
-    at false h = let same : refusal.UnknownCommand (command_name c) ≡ cause = cc h in rw (← same) refl
 
 pub turn-quiet : (a b : Bool) (cause : Refusal) → out_of_turn a b ≡ Some cause → is_io_refusal cause ≡ false
 turn-quiet true true cause is = let same : refusal.Negotiation true ≡ cause = cc is in rw (← same) refl

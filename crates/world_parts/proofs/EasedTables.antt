@@ -1,12 +1,11 @@
 -- Tables in which rows may have lost their flat disks, and nothing else that nodes, devices and guests are asked of has changed.
-use Rattle.std.proofs.Common.{◌≡◌, ◌⊎◌, ℕ, ◌==◌, Bool, true, false, cond, List, [], ◌∷◌, map, Option, Some, None, refl, sym, ◌∙◌, ap, subst, inl, inr}
+use Rattle.std.proofs.Common.{◌≡◌, ◌⊎◌, ℕ, ◌==◌, List, [], ◌∷◌, map, Option, Some, None, refl, sym, ◌∙◌, ap, subst, inl, inr}
 use Rattle.std.specs.Prelude.{find, option_map, option_and_then}
 use Rattle.blk_base.specs.declared.file.Opened.{Opened}
 use Rattle.blk_graph.specs.Graph.{NodeRow}
-use Rattle.qmp_codec.specs.declared.words.ImageFormat.{ImageFormat}
-use Rattle.qmp_rules.specs.Changes.{changed, node_changed, unsettled, lost_with, stands_over}
+use Rattle.qmp_rules.specs.Changes.{changed, unsettled}
 use Rattle.qmp_rules.specs.Table.{RunTable, node_by_id}
-use Rattle.qmp_rules.specs.declared.change.Change.TheVariants.{KeepId, MakeFile, FormatFile, SpoilFile, UseFile}
+use Rattle.qmp_rules.specs.declared.change.Change.TheVariants.{UseFile}
 use Rattle.qmp_rules.specs.declared.rows.NodeRecord.{NodeRecord}
 use Rattle.flat_machine.specs.State.{filename_of}
 use Rattle.flat_machine.proofs.Finds.{find-map}
@@ -115,43 +114,6 @@ module _ (t : RunTable) where
     jobs = jobs;
   }
 
-  pub eased_keep : (id : List ℕ) → IsTableEased t (changed t (KeepId id))
-  unfolding changed
-  eased_keep id = kept_rows (changed t (KeepId id)) refl refl refl refl refl
-
-  pub eased_make : (name : List ℕ) (size : ℕ) → IsTableEased t (changed t (MakeFile name size))
-  unfolding changed
-  eased_make name size = kept_rows (changed t (MakeFile name size)) refl refl refl refl refl
-
   pub eased_use : (name : List ℕ) → IsTableEased t (changed t (UseFile name))
   unfolding changed
   eased_use name = kept_rows (changed t (UseFile name)) refl refl refl refl refl
-
-  by_test : (b : Bool) (row : NodeRecord) → (cond b (unsettled row) row ≡ row) ⊎ (cond b (unsettled row) row ≡ unsettled row)
-  by_test true row = inr refl
-  by_test false row = inl refl
-
-  pub eased_format : (node : ℕ) (name : List ℕ) (size : ℕ) (file : Option (List ℕ)) (format : Option ImageFormat)
-      → IsTableEased t (changed t (FormatFile node name size file format))
-  unfolding changed
-  eased_format node name size file format = record {
-    f = node_changed node unsettled;
-    only = λ row. by_test (row.id == node) row;
-    rows = refl;
-    edges = refl;
-    devices = refl;
-    guests = refl;
-    jobs = refl;
-  }
-
-  pub eased_spoil : (name : List ℕ) → IsTableEased t (changed t (SpoilFile name))
-  unfolding changed
-  eased_spoil name = record {
-    f = lost_with name;
-    only = λ row. by_test (stands_over name row.filename) row;
-    rows = refl;
-    edges = refl;
-    devices = refl;
-    guests = refl;
-    jobs = refl;
-  }

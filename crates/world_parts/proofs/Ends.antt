@@ -54,12 +54,6 @@ pub marked-done : (ended : List ℕ) (actor : ℕ) (rows : List GuestProgress) (
     → AreMarked (ended ++ actor ∷ []) 1 (set rows (actor - 1) (record row { is_done = true }))
 marked-done ended actor rows row some there all = marked-own ended 1 rows (actor - 1) row actor (omega arith) there all
 
-pub script-done : (ended : List ℕ) → true ≡ is_listed 0 (ended ++ 0 ∷ [])
-script-done ended = own ended 0
-
-pub script-stays : (ended : List ℕ) (actor : ℕ) → actor ≢ 0 → is_listed 0 ended ≡ is_listed 0 (ended ++ actor ∷ [])
-script-stays ended actor some = stays ended 0 actor some
-
 -- the row of a guest says whether it is done
 pub marked-at : (ended : List ℕ) (first : ℕ) (rows : List GuestProgress) (g : ℕ) (row : GuestProgress) → AreMarked ended first rows → slice_get rows g ≡ Some row → row.is_done ≡ is_listed (g + first) ended
 marked-at ended first [] g row all there = absurd (let bad : ⊥ = cc there in bad)

@@ -2,7 +2,7 @@
 use Rattle.std.proofs.Common.{◌≡◌, ℕ, zero, suc, ◌+◌, ◌-◌, Bool, true, false, List, [], ◌∷◌, ◌++◌, length, take, drop, refl, sym, ◌∙◌, ap, subst, arith, IsTrue}
 use Rattle.std.specs.Prelude.{◌||◌, Err, Ok, Option, Result}
 use Rattle.std.proofs.lemmas.Bool.{false≢true}
-use Rattle.std.proofs.lemmas.List.{length-append, take-append-drop, drop-append-le, take-append-le}
+use Rattle.std.proofs.lemmas.List.{length-append, take-append-drop}
 use Rattle.std.proofs.lemmas.List.Folds.{list_any-append}
 use Rattle.std.proofs.Math.Seq.{drop-append_seam, take-append_seam}
 use Rattle.blk_base.specs.Answers.{CreateAnswers, IsIn, OpenAnswers}
@@ -18,43 +18,6 @@ use Rattle.world_parts.specs.Stores.{AreLast, StopsOpening, StoreInRun, last_ope
 
 length-less : (n : ℕ) → n - 0 ≡ n
 length-less n = omega arith
-
-take-length : (xs : List Opened) → take (length xs) xs ≡ xs
-take-length [] = refl
-take-length (x ∷ xs) = ap (λ (rest : List Opened). x ∷ rest) (take-length xs)
-
-drop-length : (xs : List Opened) → drop (length xs) xs ≡ []
-drop-length [] = refl
-drop-length (x ∷ xs) = drop-length xs
-
-pub last-none : (opened : List Opened) → last_opened 0 opened ≡ []
-last-none opened = ap (λ (n : ℕ). drop n opened) (length-less (length opened)) ∙ drop-length opened
-
-pub first-all : (opened : List Opened) → first_opened 0 opened ≡ opened
-first-all opened = ap (λ (n : ℕ). take n opened) (length-less (length opened)) ∙ take-length opened
-
-pub are-last-none : (opened : List Opened) → ((name : List ℕ) → is_out name opened ≡ false) → AreLast 0 opened
-are-last-none opened none = record { many = omega arith; back = λ name. ap (is_out name) (first-all opened) ∙ none name }
-
--- ---- one more
-
-after-push : (n : ℕ) (opened : List Opened) (o : Opened) → length (opened ++ o ∷ []) - (n + 1) ≡ length opened - n
-after-push n opened o = let more : length (opened ++ o ∷ []) ≡ length opened + 1 = length-append opened (o ∷ []) in omega (arith, more)
-
-pub last-push : (n : ℕ) (opened : List Opened) (o : Opened) → last_opened (n + 1) (opened ++ o ∷ []) ≡ last_opened n opened ++ o ∷ []
-last-push n opened o =
-    ap (λ (k : ℕ). drop k (opened ++ o ∷ [])) (after-push n opened o)
-    ∙ drop-append-le (length opened - n) opened (o ∷ []) (omega arith)
-
-pub first-push : (n : ℕ) (opened : List Opened) (o : Opened) → first_opened (n + 1) (opened ++ o ∷ []) ≡ first_opened n opened
-first-push n opened o =
-    ap (λ (k : ℕ). take k (opened ++ o ∷ [])) (after-push n opened o)
-    ∙ take-append-le (length opened - n) opened (o ∷ []) (omega arith)
-
-pub are-last-push : (n : ℕ) (opened : List Opened) (o : Opened) → AreLast n opened → AreLast (n + 1) (opened ++ o ∷ [])
-are-last-push n opened o last =
-    let more : length (opened ++ o ∷ []) ≡ length opened + 1 = length-append opened (o ∷ []) in
-    record { many = omega (arith, more, last.many); back = λ name. ap (is_out name) (first-push n opened o) ∙ last.back name }
 
 -- ---- how many there are
 

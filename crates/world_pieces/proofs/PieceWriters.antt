@@ -97,9 +97,6 @@ rule_for edges w e rule held_w held_e same asks shut = elim (cases_eq held_w.0 h
 
 -- ---- what an edge of a node asks and shares, by what the node is
 
-perm_with : (e : Edge) (u : Uses) → with_uses e (Some u) ≡ e → (e.perm ≡ u.perm) × (e.shared ≡ u.shared)
-perm_with e u is = (ap (λ (x : Edge). x.perm) (sym is), ap (λ (x : Edge). x.shared) (sym is))
-
 only_qcow2 : (d : Driver) → has_role (driver_kind d) Backing ≡ true → driver_kind d ≡ Qcow2
 only_qcow2 drivers.File h = absurd (false≢true h)
 only_qcow2 (drivers.Raw part) h = absurd (false≢true h)
