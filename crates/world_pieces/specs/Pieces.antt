@@ -60,6 +60,22 @@ abbrev pub piece_passes : Nodes → ℕ → ℕ → Op → Extent → ℕ → Ty
 piece_passes nodes drive node (Read span) part dev = read_passes nodes drive part dev
 piece_passes nodes drive node op part dev = write_passes nodes node op part dev
 
+-- ---- what is noted of it
+
+-- what a piece of a request writes of, be it bytes or zeros
+abbrev pub written_in : Op → Extent → Option Extent
+written_in (Write span payload) part = Some part
+written_in (Zero span) part = Some part
+written_in op part = None
+
+abbrev pub noted_where : Option Extent → ℕ → RunTable → List Bitmap → List Bitmap
+noted_where None drive t rows = rows
+noted_where (Some part) drive t rows = noted_rows part rows (path t drive)
+
+abbrev pub noted_after : Outcome → Option Extent → ℕ → RunTable → List Bitmap → List Bitmap
+noted_after outcome written drive t rows =
+    if is_noted outcome then noted_where written drive t rows else rows
+
 -- ---- what it leaves of the world
 
 -- So it was in the world, on the guest's drive where it is read, else on the node that the drive reads as; what was written is
@@ -94,19 +110,3 @@ pub record HasPieceLicence (w v : WorldSeen) (g : ℕ) (f : Flight) (outcome : O
       (counts_now w) (counts_within w v) (counts_now v)
       (piece_passes w.nodes made.drive (disk_node w.table made.drive) f.op (part_of f))
       (piece_entry w g f outcome made.buffer)
-
--- ---- pieces
-
--- what a piece of a request writes of, be it bytes or zeros
-abbrev pub written_in : Op → Extent → Option Extent
-written_in (Write span payload) part = Some part
-written_in (Zero span) part = Some part
-written_in op part = None
-
-abbrev pub noted_where : Option Extent → ℕ → RunTable → List Bitmap → List Bitmap
-noted_where None drive t rows = rows
-noted_where (Some part) drive t rows = noted_rows part rows (path t drive)
-
-abbrev pub noted_after : Outcome → Option Extent → ℕ → RunTable → List Bitmap → List Bitmap
-noted_after outcome written drive t rows =
-    if is_noted outcome then noted_where written drive t rows else rows
