@@ -28,7 +28,7 @@ module _ (t now : RunTable) (e : IsTableEased t now) where
   entered_eased fixed = record {
     devices = λ g. ap (find (λ device. device.number == g)) e.devices;
     drives = λ g. ap (child_of (GuestOf g) Drive) e.edges;
-    rows = λ node here. eased_at node ∙ by_row node here (node_by_id t node) refl;
+    rows = λ node here. eased_at t now e node ∙ by_row node here (node_by_id t node) refl;
     children = λ node role here. ap (child_of (Node node) role) e.edges;
   }
     where
