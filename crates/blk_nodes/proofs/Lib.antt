@@ -29,3 +29,4 @@ mod CopiedDisks
 mod MappedDown
 mod Formatted
 mod Jobs
+pub mod Rewired

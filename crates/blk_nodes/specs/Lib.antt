@@ -17,3 +17,4 @@ pub mod Handing
 pub mod Formatting
 pub mod Copying
 pub mod Jobs
+pub mod Rewiring

@@ -27,6 +27,7 @@ mod formatting;
 mod imaging;
 mod jobs;
 mod looks;
+mod rewiring;
 mod writing;
 
 use crate::adding::{conflict_of, draw_edges, take_back, take_drawn};

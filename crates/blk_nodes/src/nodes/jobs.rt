@@ -56,7 +56,7 @@ fn draw_uses(
 }
 
 /// Lets the node of a row be written or not.
-fn set_read_only(row: &mut Option<Row>, is_read_only: bool)
+pub(crate) fn set_read_only(row: &mut Option<Row>, is_read_only: bool)
     ensures { row.new ≡ option_map (with_read_only is_read_only) row.old }
 {
     if let Some(row) = row {
