@@ -1,33 +1,38 @@
 -- An overlay that is put over a node: it has the node as backing node, and then all parents of the node have it.
-use Rattle.std.proofs.Common.{◌≡◌, ◌≢◌, ◌⊎◌, ℕ, Bool, true, false, cond, List, refl, sym, ap, subst, ◌∙◌, inl, inr, Option, Some, None, option_map}
+use Rattle.std.proofs.Common.{◌≡◌, ◌≢◌, ◌⊎◌, ℕ, Bool, true, false, cond, List, [], ◌∷◌, refl, sym, ap, subst, ◌∙◌, inl, inr, Option, Some, None, option_map}
 use Rattle.std.specs.Prelude.{◌==◌, ◌&&◌, ◌||◌, not, IsSome}
 use Rattle.std.specs.List.{find, Contains}
-use Rattle.std.proofs.lemmas.Bool.{eq-eqb, ne_eqb, cases_eq, false_from_ne_true}
+use Rattle.std.proofs.lemmas.Bool.{eqb-true, eq-eqb, ne_eqb, cases_eq, false_from_ne_true}
 use Rattle.blk_graph.specs.declared.edge.Edge.{Edge}
 use Rattle.blk_graph.specs.declared.edge.Parent.{Parent}
 use Rattle.blk_graph.specs.declared.edge.Parent.TheVariants.{Node, Guest}
 use Rattle.blk_graph.specs.declared.edge.Role.{Role}
 use Rattle.blk_graph.specs.declared.edge.Role.TheVariants.{Drive, File, Backing, Filtered, Source, Target, Between, Base}
-use Rattle.blk_graph.specs.declared.kind.Kind.TheVariants.{Qcow2}
+use Rattle.blk_graph.specs.declared.kind.Kind.TheVariants.{Protocol, Qcow2}
 use Rattle.blk_graph.specs.declared.kind.NodeKind.{NodeKind}
 use Rattle.blk_graph.specs.Edges.{same_parent, same_role}
 use Rattle.blk_graph.specs.Edits.{is_edge, child_after, stays, replaced, takes_place, with_child, with_edge, with_replaced}
+use Rattle.blk_graph.specs.Judged.{IsOverlayApart}
+use Rattle.blk_graph.specs.Paths.{IsAcyclic, IsPath, LeadsBack, Reaches}
 use Rattle.blk_graph.specs.Permissions.{has_role, node_edge}
 use Rattle.blk_graph.specs.Refreshed.{refreshed}
-use Rattle.blk_graph.proofs.Members.{Contains-map, map-Contains}
+use Rattle.blk_graph.proofs.Members.{Contains-map, find-Some, map-Contains}
 use Rattle.blk_graph.proofs.EditLemmas.{IsSameEdge, Contains-with_edge}
 use Rattle.blk_graph.proofs.CycleLemmas.{and-left, same_parent-true}
 use Rattle.blk_graph.proofs.RoleLemmas.{same_role-refl, same_role-true, takes_place-role}
-use Rattle.blk_graph.proofs.ChildLemmas.{child-kept}
+use Rattle.blk_graph.proofs.ChildLemmas.{child-kept, reached-entered}
 use Rattle.blk_graph.proofs.RuleLemmas.{find-None}
-use Rattle.blk_graph.proofs.DraftLemmas.{children_replaced}
-use Rattle.blk_graph.proofs.RefreshLemmas.{child_of-refreshed}
+use Rattle.blk_graph.proofs.DraftLemmas.{acyclic_put, children_replaced}
+use Rattle.blk_graph.proofs.OverLemmas.{IsAcyclic-with_over}
+use Rattle.blk_graph.proofs.PathLemmas.{IsAcyclic-covered, Reaches-edge}
+use Rattle.blk_graph.proofs.RefreshLemmas.{child_of-refreshed, IsAcyclic-refreshed}
 use Rattle.qmp_rules.specs.declared.rows.NodeRecord.{NodeRecord}
-use Rattle.qmp_rules.specs.Table.{RunTable, child}
+use Rattle.qmp_rules.specs.Table.{RunTable, child, node_by_id}
 use Rattle.qmp_rules.specs.Chains.{filter_role}
 use Rattle.qmp_rules.specs.Answers.{told_none}
 use Rattle.flat_machine.specs.State.{drive_of}
-use Rattle.flat_machine.specs.Wiring.{TableStands}
+use Rattle.flat_machine.specs.Wiring.{LeadsToFile, TableStands}
+use Rattle.flat_machine.proofs.Rows.{same_row}
 use Rattle.flat_machine.proofs.Tables.{refreshed-old, refreshed-new, with_edge-keeps}
 use Rattle.flat_machine.proofs.TablesKept.{child-role}
 use Rattle.flat_machine.proofs.TableSuited.{settled-free}
@@ -249,3 +254,126 @@ module _ (t : RunTable) (node overlay : NodeRecord) (kinds : List NodeKind) (ove
         child_of-refreshed kinds (Guest g) Drive moved_edges ∙ children_replaced node.id overlay.id but t.edges (Guest g) Drive
         ∙ map-both _ _ (λ c. after_guest g c) (drive_of t g);
   }
+
+-- ---- no cycle
+
+replaced-like : (from to : ℕ) (but : Option Parent) (a b : Edge) → IsSameEdge a b → IsSameEdge (replaced from to but a) (replaced from to but b)
+replaced-like from to but a b same =
+    let test : (a.child == from && not (stays but a.parent)) ≡ (b.child == from && not (stays but b.parent))
+    = ap (λ (c : ℕ). c == from && not (stays but a.parent)) same.child ∙ ap (λ (p : Parent). b.child == from && not (stays but p)) same.parent in
+    rw test (by_test (b.child == from && not (stays but b.parent)))
+  where
+    by_test : (moves : Bool) → IsSameEdge (cond moves (with_child to a) a) (cond moves (with_child to b) b)
+    by_test true = record { parent = same.parent; role = same.role; child = refl }
+    by_test false = same
+
+-- edges that are replaced close none where they wouldn't before they were derived
+replaced-acyclic : (from to : ℕ) (but : Option Parent) (kinds : List NodeKind) (edges : List Edge) → IsAcyclic (with_replaced from to but edges)
+    → IsAcyclic (with_replaced from to but (refreshed kinds edges))
+replaced-acyclic from to but kinds edges =
+    IsAcyclic-covered (with_replaced from to but (refreshed kinds edges)) (with_replaced from to but edges) (λ a e there parent.
+    let r = Contains-map (replaced from to but) (refreshed kinds edges) e there in
+    let old = refreshed-old kinds edges r.0 r.1 in
+    let same = replaced-like from to but old.edge r.0 old.same in
+    let leads : (replaced from to but old.edge).child ≡ e.child = same.child ∙ ap (λ (x : Edge). x.child) (sym r.2) in
+    subst (Reaches (with_replaced from to but edges) a) leads
+    (Reaches-edge (with_replaced from to but edges) a (replaced from to but old.edge)
+    (map-Contains (replaced from to but) edges old.edge old.there)
+    (same.parent ∙ ap (λ (x : Edge). x.parent) (sym r.2) ∙ parent)))
+
+module _ (t : RunTable) (node overlay : NodeRecord) (over : LiesOver t node overlay) (bare : child t overlay.id Backing ≡ None) (h : TableStands t) where
+  -- a `file` node makes no edges
+  none_from_file : (e : Edge) (row : NodeRecord) → Contains t.edges e → Contains t.nodes row → e.parent ≡ Node row.id → IsSome row.filename → ⊥
+  none_from_file e row there row_there from = by_name row.filename refl
+    where
+      no_role : (role : Role) → has_role Protocol role ≡ true → ⊥
+      no_role role has = cc
+
+      by_name : (name : Option (List ℕ)) → row.filename ≡ name → IsSome name → ⊥
+      by_name None is some = cc
+      by_name (Some name) is some =
+          let kind = h.drivers name row (record { there = row_there; filename = is }) in
+          no_role e.role (subst (λ k. has_role k e.role ≡ true) kind (h.roles e row there row_there from))
+
+  -- the overlay's only edge leads to its file
+  pub record LeadsToOwnFile (e : Edge) : Type 0 where
+    pub under : NodeRecord
+    pub there : Contains t.nodes under
+    pub leads : e.child ≡ under.id
+    pub named : IsSome under.filename
+    pub gone : under.is_settled ≡ false
+
+  from_overlay : (e : Edge) → Contains t.edges e → e.parent ≡ Node overlay.id → LeadsToOwnFile e
+  from_overlay e there from = by_row (node_by_id t e.child) refl (h.edges e there).child
+    where
+      role_is : (role : Role) → e.role ≡ role → has_role Qcow2 role ≡ true → e.role ≡ File
+      role_is File is has = is
+      role_is Backing is has = absurd (no_edge_of t overlay.id Backing bare e there from is)
+      role_is Drive is has = absurd cc
+      role_is Filtered is has = absurd cc
+      role_is Source is has = absurd cc
+      role_is Target is has = absurd cc
+      role_is Between is has = absurd cc
+      role_is Base is has = absurd cc
+
+      file : e.role ≡ File
+      file = role_is e.role refl (subst (λ k. has_role k e.role ≡ true) over.driver (h.roles e overlay there over.overlay_there from))
+
+      by_row : (found : Option NodeRecord) → node_by_id t e.child ≡ found → IsSome found → LeadsToOwnFile e
+      by_row None is some = absurd cc
+      by_row (Some under) is some =
+          let here = find-Some (λ r. r.id == e.child) t.nodes under is in
+          let to : e.child ≡ under.id = sym (eqb-true under.id e.child here.1) in
+          by_name under here.0 to (record {
+            over_there = over.overlay_there;
+            under_there = here.0;
+            edge = e;
+            there = there;
+            parent = from;
+            role = file;
+            child = to;
+          }) under.filename refl
+        where
+          by_name : (under : NodeRecord) → Contains t.nodes under → e.child ≡ under.id → LeadsToFile t overlay under → (name : Option (List ℕ))
+              → under.filename ≡ name → LeadsToOwnFile e
+          by_name under there to of None is =
+              let filter = h.filtered overlay under of is in
+              let none = subst (λ k. IsSome (filter_role k)) over.driver filter in
+              absurd cc
+          by_name under there to of (Some name) is =
+              let some : IsSome under.filename = subst IsSome (sym is) refl in
+              record { under = under; there = there; leads = to; named = some; gone = (h.taken overlay under of some).gone }
+
+  away : Reaches t.edges overlay.id node.id → ⊥
+  away reaches = by_rest reaches.rest reaches.path.2
+    where
+      below : LeadsToOwnFile reaches.first
+      below = from_overlay reaches.first reaches.path.0 reaches.path.1
+
+      by_rest : (rest : List Edge) → IsPath t.edges reaches.first.child rest node.id → ⊥
+      by_rest [] is =
+          let same = same_row t h.apart node below.under over.node_there below.there (sym below.leads ∙ is) in
+          let settled = ap (λ r. r.is_settled) same ∙ over.disk.settled in
+          let gone = below.gone in
+          cc
+      by_rest (e ∷ rest) path = none_from_file e below.under path.0 below.there (path.1 ∙ ap Node below.leads) below.named
+
+  -- nothing leads to the overlay, and it doesn't lead to the node
+  pub overlay_apart : IsOverlayApart t.edges node.id overlay.id
+  overlay_apart = record { differ = over.other; unused = λ e there is. over.lone e there is; away = away }
+
+  pub attached_acyclic : (kinds : List NodeKind) → IsAcyclic (refreshed kinds (with_edge (node_edge overlay.id Backing node.id) t.edges))
+  attached_acyclic kinds =
+      IsAcyclic-refreshed kinds (with_edge (node_edge overlay.id Backing node.id) t.edges)
+      (acyclic_put (node_edge overlay.id Backing node.id) t.edges none h.acyclic)
+    where
+      none : LeadsBack t.edges node.id (Node overlay.id) → ⊥
+      none (inl same) = over.other (sym same)
+      none (inr way) = reached-entered t.edges node.id overlay.id way.first way.rest way.path (λ e there is. over.lone e there is)
+
+  pub moved_acyclic : (kinds again : List NodeKind)
+      → IsAcyclic (refreshed again (with_replaced node.id overlay.id (Some (Node overlay.id)) (refreshed kinds (with_edge (node_edge overlay.id Backing node.id) t.edges))))
+  moved_acyclic kinds again =
+      let attached : List Edge = with_edge (node_edge overlay.id Backing node.id) t.edges in
+      IsAcyclic-refreshed again (with_replaced node.id overlay.id (Some (Node overlay.id)) (refreshed kinds attached))
+      (replaced-acyclic node.id overlay.id (Some (Node overlay.id)) kinds attached (IsAcyclic-with_over node.id overlay.id t.edges h.acyclic overlay_apart))

@@ -13,6 +13,7 @@ use Rattle.blk_graph.specs.Edits.{child_of, without_parent}
 use Rattle.blk_graph.specs.Refreshed.{refreshed}
 use Rattle.blk_graph.proofs.Members.{find-Some, Contains-filter}
 use Rattle.blk_graph.proofs.ChildLemmas.{child-without}
+use Rattle.blk_graph.proofs.DraftLemmas.{acyclic_fewer}
 use Rattle.blk_graph.proofs.RefreshLemmas.{child_of-refreshed}
 use Rattle.qmp_rules.specs.declared.change.Change.TheVariants as change
 use Rattle.qmp_rules.specs.declared.rows.DeviceRow.{DeviceRow}
@@ -27,7 +28,7 @@ use Rattle.flat_machine.proofs.Finds.{find-filter}
 use Rattle.flat_machine.proofs.Tables.{filter-keeps, refreshed-old, refreshed-new}
 use Rattle.flat_machine.proofs.Rows.{rows-same, stays-at}
 use Rattle.flat_machine.proofs.Wired.{Grows, NoRow, NoEdge, no_rows, no_edges, grown_stands}
-use Rattle.flat_machine.proofs.TablesKept.{goes_there, old_edge, rows_grow}
+use Rattle.flat_machine.proofs.TablesKept.{derived_acyclic, goes_there, old_edge, rows_grow}
 use Rattle.flat_machine.proofs.WritingKept.{grown_writing, left_still}
 use Rattle.flat_machine.proofs.WritingAdded.{drive_there}
 
@@ -86,6 +87,7 @@ module _ (t now : RunTable) (number : ℕ) (nodes : now.nodes ≡ t.nodes) (kind
   pub gone_table : now.guests ≡ t.guests → now.devices ≡ without_device number t.devices → TableStands now
   gone_table guests devices =
       grown_stands t now (IsThere t) NoRow NoEdge gone_grow (no_rows t now) (no_edges t now) h numbers
+      (derived_acyclic now kinds before derived (acyclic_fewer (λ x. not (same_parent x.parent (Guest number))) t.edges h.acyclic))
     where
       numbers : AreNumbered now
       numbers device there =

@@ -36,3 +36,5 @@ pub mod Histories
 mod OneHistory
 pub mod Recorded
 pub mod BitmapRows
+pub mod RowKinds
+pub mod Redrawn

@@ -49,6 +49,7 @@ start_table guests = record {
   alone = λ name a b over_a over_b. absurd (Contains-nil a over_a.there);
   edges = λ e there. absurd (Contains-nil e there);
   roles = λ e row there. absurd (Contains-nil e there);
+  acyclic = λ node cycle. Contains-nil cycle.first cycle.path.0;
   single = λ e there. absurd (Contains-nil e there);
   taken = λ over under f. absurd (Contains-nil over f.over_there);
   filtered = λ over under f. absurd (Contains-nil over f.over_there);

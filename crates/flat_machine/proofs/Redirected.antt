@@ -10,6 +10,7 @@ use Rattle.blk_graph.specs.declared.edge.Role.TheVariants.{Drive, File, Backing}
 use Rattle.blk_graph.specs.declared.kind.Kind.{Kind}
 use Rattle.blk_graph.specs.declared.kind.Kind.TheVariants.{Protocol, Raw, Qcow2, CopyOnRead, BeforeWrite, Mirror, Commit}
 use Rattle.blk_graph.specs.Edits.{child_of}
+use Rattle.blk_graph.specs.Paths.{IsAcyclic}
 use Rattle.blk_graph.specs.Permissions.{node_edge, has_role}
 use Rattle.blk_graph.proofs.Members.{find-Some}
 use Rattle.blk_graph.proofs.EditLemmas.{IsSameEdge}
@@ -21,6 +22,7 @@ use Rattle.blk_history.specs.Fold.{With}
 use Rattle.flat_machine.specs.State.{drive_of}
 use Rattle.flat_machine.specs.Machine.{copies_at, copies_through, path, path_from}
 use Rattle.flat_machine.specs.Agreement.{HasDisk}
+use Rattle.flat_machine.specs.Suiting.{IsAlone}
 use Rattle.flat_machine.specs.Wiring.{HasEnds, StandsFor, LeadsToFile, IsDiskOf, InlineAreUnder, TableStands, writes_through}
 use Rattle.flat_machine.proofs.Tables.{HasLike}
 use Rattle.flat_machine.proofs.Rows.{same_row, from-child, path-child, copies-at}
@@ -28,7 +30,7 @@ use Rattle.flat_machine.proofs.Wired.{with_at}
 use Rattle.flat_machine.proofs.TablesKept.{no_copies, not_copying, own_reads}
 use Rattle.flat_machine.proofs.TableSuited.{settled-free}
 
--- ---- an overlay, and the node that it is put over
+-- ---- an overlay without parents, and the node that it is put over
 
 pub record LiesOver (t : RunTable) (node overlay : NodeRecord) : Type 0 where
   pub node_there : Contains t.nodes node
@@ -37,6 +39,8 @@ pub record LiesOver (t : RunTable) (node overlay : NodeRecord) : Type 0 where
   pub driver : overlay.kind ≡ Qcow2
   pub writable : overlay.read_only ≡ false
   pub other : overlay.id ≢ node.id
+  pub size : overlay.size ≡ node.size
+  pub lone : IsAlone t overlay.id
 
 -- ---- edges that lead elsewhere
 
@@ -76,6 +80,10 @@ unfiltered t row found own = rw (found, own) refl
 disk-alone : (more : ℕ) (t : RunTable) (n : ℕ) → filtered t n ≡ None → disk_from more t n ≡ n
 disk-alone zero t n none = refl
 disk-alone (suc more) t n none = from-child more t n None none
+
+pub disk_of_none : (t : RunTable) (n : ℕ) → filtered t n ≡ None → disk_node t n ≡ n
+unfolding disk_node
+disk_of_none t n none = disk-alone 64 t n none
 
 path-alone : (more : ℕ) (t : RunTable) (n : ℕ) (p : ℕ → Bool) → filtered t n ≡ None → list_any p (path_from more t n) ≡ (p n || false)
 path-alone zero t n p none = refl
@@ -368,8 +376,8 @@ module _ (t : RunTable) (es : List Edge) (node overlay : NodeRecord) (to : ℕ �
         ])
       ]
 
-  pub led_stands : TableStands led
-  led_stands = record {
+  pub led_stands : IsAcyclic es → TableStands led
+  led_stands acyclic = record {
     apart = h.apart;
     drivers = λ name row f. h.drivers name row (was_standing name row f);
     names = h.names;
@@ -384,6 +392,7 @@ module _ (t : RunTable) (es : List Edge) (node overlay : NodeRecord) (to : ℕ �
           let kind : row.kind ≡ Qcow2 = ap (λ x. x.kind) same ∙ over.driver in
           rw (kind, sym own.role) refl
     ];
+    acyclic = acyclic;
     single = λ e there role. elim (r.old e there) [
       | inl l ↦
           let was = l.role ∙ role in

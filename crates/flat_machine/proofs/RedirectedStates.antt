@@ -6,6 +6,7 @@ use Rattle.std.proofs.lemmas.Bool.{cases_eq}
 use Rattle.std.proofs.lemmas.List.Elements.{All-weaker}
 use Rattle.blk_graph.specs.declared.edge.Edge.{Edge}
 use Rattle.blk_graph.specs.declared.edge.Role.TheVariants.{File}
+use Rattle.blk_graph.specs.Paths.{IsAcyclic}
 use Rattle.blk_graph.specs.declared.kind.Kind.{Kind}
 use Rattle.blk_graph.specs.declared.kind.Kind.TheVariants.{Protocol, Raw, Qcow2, CopyOnRead, BeforeWrite, Mirror, Commit}
 use Rattle.qmp_rules.specs.declared.rows.NodeRecord.{NodeRecord}
@@ -180,9 +181,9 @@ module _ (s : State) (es : List Edge) (node overlay : NodeRecord) (to : ℕ → 
 
   -- ---- all that holds of the state
 
-  pub led_state_stands : Stands led_state
-  led_state_stands = record {
-    table = led_stands s.table es node overlay to over r h.table;
+  pub led_state_stands : IsAcyclic es → Stands led_state
+  led_state_stands acyclic = record {
+    table = led_stands s.table es node overlay to over r h.table acyclic;
     files = λ name row of. h.files name row (was_file name row of);
     lost = λ name row of gone. let was = was_file name row of in still_lost name row was (h.lost name row was gone);
     states = λ name content is closed. h.states name content is

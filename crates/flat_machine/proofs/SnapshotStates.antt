@@ -20,8 +20,8 @@ use Rattle.flat_machine.proofs.WritingAdded.{bytes-put}
 use Rattle.flat_machine.proofs.DriveWrites.{own_writable}
 use Rattle.flat_machine.proofs.Redirected.{LiesOver, overlay_named}
 use Rattle.flat_machine.proofs.RedirectedStates.{file_before, led_state_stands}
-use Rattle.flat_machine.proofs.Covered.{staying, attached, moving, moved}
-use Rattle.flat_machine.proofs.Snapshots.{snapshot_nodes, attached_edges, attached_table, covered_edges, covered_table, over_attached, attached_stands, edits_are}
+use Rattle.flat_machine.proofs.Covered.{staying, attached, attached_acyclic, moving, moved}
+use Rattle.flat_machine.proofs.Snapshots.{snapshot_nodes, attached_edges, attached_table, covered_acyclic, covered_edges, covered_table, over_attached, attached_stands, edits_are}
 
 module _ (s : State) (node overlay : NodeRecord) (over : LiesOver s.table node overlay) (bare : child s.table overlay.id Backing ≡ None)
     (h : Stands s) where
@@ -38,6 +38,7 @@ module _ (s : State) (node overlay : NodeRecord) (over : LiesOver s.table node o
   attached_holds = led_state_stands s (attached_edges s.table node overlay over bare h.table) node overlay staying over
       (attached s.table node overlay (kinds_of s.table.nodes) bare) disks
       (λ n has. bytes-put overlay.id n (bytes_at_node s node.id) s.disks has) (λ same. absurd (over.other (sym same))) h
+      (attached_acyclic s.table node overlay over bare h.table (kinds_of s.table.nodes))
 
   overlay_can : IsGuestWritable attached_state overlay.id
   overlay_can = own_writable attached_state overlay attached_holds over.overlay_there (ap filter_role over.driver)
@@ -50,7 +51,7 @@ module _ (s : State) (node overlay : NodeRecord) (over : LiesOver s.table node o
       (over_attached s.table node overlay over bare h.table)
       (moved attached_state.table node overlay (kinds_of s.table.nodes) (over_attached s.table node overlay over bare h.table)
       (attached_stands s.table node overlay over bare h.table))
-      disks (λ n has. has) (λ same. overlay_can) attached_holds
+      disks (λ n has. has) (λ same. overlay_can) attached_holds (covered_acyclic s.table node overlay over bare h.table)
 
   -- the move to the overlay leaves which file a node writes
   pub moved_files : (n : ℕ) (name : List ℕ) → written_file covered_state.table n ≡ Some name → written_file attached_state.table n ≡ Some name

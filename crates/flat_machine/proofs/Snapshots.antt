@@ -1,5 +1,5 @@
 -- A snapshot that nothing refuses: its changes can be made, and keep what holds of tables and states.
-use Rattle.std.proofs.Common.{◌≡◌, ℕ, true, false, List, [], ◌∷◌, ◌++◌, refl, sym, ap, subst, ◌∙◌, Option, Some, None}
+use Rattle.std.proofs.Common.{◌≡◌, ℕ, true, false, List, [], ◌∷◌, ◌++◌, refl, sym, ap, subst, ◌∙◌, inl, inr, Option, Some, None}
 use Rattle.std.specs.Prelude.{◌==◌, not, bytes_eq, is_some}
 use Rattle.std.proofs.lemmas.Bool.{eqb-true, not-false}
 use Rattle.blk_graph.specs.declared.edge.Edge.{Edge}
@@ -8,6 +8,7 @@ use Rattle.blk_graph.specs.declared.edge.Role.TheVariants.{Backing}
 use Rattle.blk_graph.specs.declared.kind.Kind.{Kind}
 use Rattle.blk_graph.specs.declared.kind.Kind.TheVariants.{Protocol, Raw, Qcow2, CopyOnRead, BeforeWrite, Mirror, Commit}
 use Rattle.blk_graph.specs.Edits.{with_edge, with_replaced}
+use Rattle.blk_graph.specs.Paths.{IsAcyclic}
 use Rattle.blk_graph.specs.Permissions.{node_edge}
 use Rattle.blk_graph.specs.Refreshed.{refreshed}
 use Rattle.qmp_codec.specs.declared.nodes.Snapshot.{Snapshot}
@@ -22,20 +23,21 @@ use Rattle.qmp_rules.specs.Asks.{holds, takes}
 use Rattle.qmp_asks.specs.NodeAsks.{snapshot_values, snapshot_names, snapshot_rest}
 use Rattle.qmp_rules.specs.Edits.{snapshot_edits}
 use Rattle.qmp_rules.specs.Changes.{changed, all_changed}
+use Rattle.qmp_rules.specs.Answers.{told_none}
 use Rattle.qmp_rules.specs.Chains.{filter_role}
 use Rattle.flat_machine.specs.Wiring.{InlineAreUnder, TableStands, TableAtRest}
-use Rattle.flat_machine.specs.Suiting.{IsAlone, AllTableSuit}
+use Rattle.flat_machine.specs.Suiting.{AllTableSuit}
 use Rattle.flat_machine.proofs.Finds.{bytes_eq-same, same-bytes_eq}
 use Rattle.flat_machine.proofs.Asked.{not-refused, NoneHolds, good-value, found-named, takes-driver, lone-node, settled-node}
 use Rattle.flat_machine.proofs.Accepted.{no_filter, no_edge}
 use Rattle.flat_machine.proofs.Rows.{same_row}
-use Rattle.flat_machine.proofs.TableSuited.{named-row, own-settled, writable-node}
+use Rattle.flat_machine.proofs.TableSuited.{named-row, own-settled, settled-free, writable-node}
 use Rattle.flat_machine.proofs.Redirected.{LiesOver, led_stands, led_inline}
-use Rattle.flat_machine.proofs.Covered.{staying, attached, moving, moved}
+use Rattle.flat_machine.proofs.Covered.{staying, attached, attached_acyclic, moving, moved, moved_acyclic}
 
 -- ---- its nodes
 
--- the node and the overlay: that is fit to be put over it, has no parent and no backing node, and a disk of the same size
+-- the node and the overlay: that is fit to be put over it, and has no backing node
 pub record AreSnapshot (t : RunTable) (c : Snapshot (List ℕ)) : Type 0 where
   pub node : NodeRecord
   pub overlay : NodeRecord
@@ -43,9 +45,7 @@ pub record AreSnapshot (t : RunTable) (c : Snapshot (List ℕ)) : Type 0 where
   pub overlay_is : node_named t c.overlay ≡ Some overlay
   pub over : LiesOver t node overlay
   pub bare : child t overlay.id Backing ≡ None
-  pub lone : IsAlone t overlay.id
   pub settled : overlay.is_settled ≡ true
-  pub size : overlay.size ≡ node.size
 
 is_image : (kind : Kind) → takes drivers.Qcow2 kind ≡ true → kind ≡ Qcow2
 is_image Qcow2 h = refl
@@ -102,12 +102,12 @@ snapshot_nodes t told c h asks =
             driver = image;
             writable = writable-node t told h c.overlay overlay b.1 tail.1.1.1.0;
             other = λ same. two_names node overlay a.1 b.1 (same_row t h.apart node overlay node_here.0 overlay_here.0 same);
+            size = sym (equal-nodes t told c.node c.overlay node overlay a.1 b.1 tail.1.1.1.1.0);
+            lone = no_edge overlay.id t.edges (lone-node t told c.overlay overlay b.1 tail.1.1.1.1.1.1.1.0);
           };
           bare = bare-node t told c.overlay overlay b.1 tail.1.1.1.1.1.0;
-          lone = no_edge overlay.id t.edges (lone-node t told c.overlay overlay b.1 tail.1.1.1.1.1.1.1.0);
           settled = own-settled t told h overlay (h.apart overlay overlay_here.0) (is_own overlay.kind image)
               (settled-node t told c.overlay overlay b.1 tail.1.0);
-          size = sym (equal-nodes t told c.node c.overlay node overlay a.1 b.1 tail.1.1.1.1.0);
         }
       where
         is_own : (kind : Kind) → kind ≡ Qcow2 → filter_role kind ≡ None
@@ -141,6 +141,7 @@ module _ (t : RunTable) (node overlay : NodeRecord) (over : LiesOver t node over
 
   pub attached_stands : TableStands attached_table
   attached_stands = led_stands t attached_edges node overlay staying over (attached t node overlay (kinds_of t.nodes) bare) h
+      (attached_acyclic t node overlay over bare h (kinds_of t.nodes))
 
   pub over_attached : LiesOver attached_table node overlay
   over_attached = record {
@@ -150,11 +151,22 @@ module _ (t : RunTable) (node overlay : NodeRecord) (over : LiesOver t node over
     driver = over.driver;
     writable = over.writable;
     other = over.other;
+    size = over.size;
+    lone = λ e there is. elim ((attached t node overlay (kinds_of t.nodes) bare).old e there) [
+      | inl l ↦ over.lone l.edge l.there (elim l.leads [
+        | inl same ↦ sym same ∙ is
+        | inr same ↦ sym same ∙ is
+      ])
+      | inr own ↦ over.other (sym is ∙ sym own.child)
+    ];
   }
+
+  pub covered_acyclic : IsAcyclic covered_edges
+  covered_acyclic = moved_acyclic t node overlay over bare h (kinds_of t.nodes) (kinds_of t.nodes)
 
   pub covered_stands : TableStands covered_table
   covered_stands = led_stands attached_table covered_edges node overlay (moving node.id overlay.id) over_attached
-      (moved attached_table node overlay (kinds_of t.nodes) over_attached attached_stands) attached_stands
+      (moved attached_table node overlay (kinds_of t.nodes) over_attached attached_stands) attached_stands covered_acyclic
 
   pub covered_inline : InlineAreUnder t → InlineAreUnder covered_table
   covered_inline inline = led_inline attached_table covered_edges node overlay (moving node.id overlay.id) over_attached
@@ -167,7 +179,32 @@ module _ (t : RunTable) (node overlay : NodeRecord) (over : LiesOver t node over
 
   pub covered_suit : AllTableSuit t (change.Attach overlay.id node.id ∷ change.Move node.id overlay.id overlay.id ∷ [])
   unfolding changed
-  covered_suit = (attached_stands, (covered_stands, tt))
+  covered_suit = (
+    record {
+      sizes = record {
+        row = overlay;
+        other = node;
+        found = h.apart overlay over.overlay_there;
+        other_found = h.apart node over.node_there;
+        same = over.size;
+      };
+      stands = attached_stands;
+    },
+    (
+      record {
+        sizes = record {
+          row = node;
+          other = overlay;
+          found = h.apart node over.node_there;
+          other_found = h.apart overlay over.overlay_there;
+          same = sym over.size;
+        };
+        free = settled-free attached_table told_none attached_stands node over.node_there over.disk.settled;
+        stands = covered_stands;
+      },
+      tt,
+    ),
+  )
 
 -- ---- the command
 

@@ -86,8 +86,8 @@ table_keeps t (change.StartJob row) suits h = suits
 table_keeps t (change.AskJob number asked) suits h = suits
 table_keeps t (change.RemoveDevice number) suits h =
     gone_table t (changed t (change.RemoveDevice number)) number refl (kinds_of t.nodes) refl h refl refl
-table_keeps t (change.Attach overlay node) suits h = suits
-table_keeps t (change.Move from to but) suits h = suits
+table_keeps t (change.Attach overlay node) suits h = suits.stands
+table_keeps t (change.Move from to but) suits h = suits.stands
 table_keeps t (change.AddBitmap row) suits h =
     rows_table t (changed t (change.AddBitmap row)) (rows-same t (changed t (change.AddBitmap row)) refl h.apart) refl refl refl h
 table_keeps t (change.RemoveBitmap node name) suits h =

@@ -13,13 +13,15 @@ use Rattle.blk_graph.specs.declared.kind.Kind.TheVariants.{Protocol, Raw, Qcow2,
 use Rattle.blk_graph.specs.declared.kind.NodeKind.{NodeKind}
 use Rattle.blk_graph.specs.Edges.{same_parent, same_role}
 use Rattle.blk_graph.specs.Edits.{is_edge, child_of, with_edge, without_parent, takes_place}
+use Rattle.blk_graph.specs.Paths.{IsAcyclic, LeadsBack}
 use Rattle.blk_graph.specs.Refreshed.{refreshed}
 use Rattle.blk_graph.specs.Permissions.{node_edge, has_role}
 use Rattle.blk_graph.proofs.Members.{find-Some, Contains-filter, Contains-map}
 use Rattle.blk_graph.proofs.EditLemmas.{IsSameEdge, Contains-with_edge}
 use Rattle.blk_graph.proofs.RoleLemmas.{takes_place-role}
-use Rattle.blk_graph.proofs.ChildLemmas.{child-edge, child-new, child-kept, child-without}
-use Rattle.blk_graph.proofs.RefreshLemmas.{child_of-refreshed}
+use Rattle.blk_graph.proofs.ChildLemmas.{child-edge, child-new, child-kept, child-without, reached-entered}
+use Rattle.blk_graph.proofs.DraftLemmas.{acyclic_fewer, acyclic_put}
+use Rattle.blk_graph.proofs.RefreshLemmas.{child_of-refreshed, IsAcyclic-refreshed}
 use Rattle.qmp_rules.specs.declared.rows.NodeRecord.{NodeRecord}
 use Rattle.qmp_rules.specs.declared.rows.DeviceRow.{DeviceRow}
 use Rattle.qmp_rules.specs.Table.{RunTable, node_by_id, child}
@@ -84,7 +86,24 @@ pub rows_table : (t now : RunTable) → SameRows t now → now.edges ≡ t.edges
     → TableStands t → TableStands now
 rows_table t now rows edges guests devices h =
     grown_stands t now (IsThere t) NoRow NoEdge (rows_grow t now rows edges h) (no_rows t now) (no_edges t now) h
-    (same_numbers t now guests devices h.numbers)
+    (same_numbers t now guests devices h.numbers) (subst IsAcyclic (sym edges) h.acyclic)
+
+-- ---- cycles
+
+-- edges that are derived close none that wasn't there
+pub derived_acyclic : (now : RunTable) (kinds : List NodeKind) (before : List Edge) → now.edges ≡ refreshed kinds before → IsAcyclic before
+    → IsAcyclic now.edges
+derived_acyclic now kinds before derived acyclic = subst IsAcyclic (sym derived) (IsAcyclic-refreshed kinds before acyclic)
+
+-- no edge leads to a node that isn't there
+unreached : (t : RunTable) (node : ℕ) → EdgesHaveEnds t → node_by_id t node ≡ None → (e : Edge) → Contains t.edges e → e.child ≢ node
+unreached t node ends fresh e there same = not-there t node fresh (subst (IsThere t) same (ends e there).child)
+
+-- and then none leads back to it
+no_way_to : (node : ℕ) (edges : List Edge) (child : ℕ) → ((e : Edge) → Contains edges e → e.child ≢ node) → child ≢ node
+    → LeadsBack edges child (Node node) → ⊥
+no_way_to node edges child none other (inl same) = other same
+no_way_to node edges child none other (inr way) = reached-entered edges child node way.first way.rest way.path none
 
 -- ---- nodes that are no filters
 
@@ -264,7 +283,7 @@ module _ (t now : RunTable) (row : NodeRecord) (suits : SuitsFile t row) (nodes 
   pub file_table : now.guests ≡ t.guests → now.devices ≡ t.devices → TableStands now
   file_table guests devices =
       grown_stands t now (IsThere t) (λ r. r ≡ row) NoEdge file_grow file_rows (no_edges t now) h
-      (same_numbers t now guests devices h.numbers)
+      (same_numbers t now guests devices h.numbers) (derived_acyclic now kinds t.edges derived h.acyclic)
 
 -- ---- a format node
 
@@ -510,6 +529,27 @@ module _ (t now : RunTable) (row : NodeRecord) (file : ℕ) (backing : Option �
   format_table guests devices =
       grown_stands t now (IsThere t) (λ r. r ≡ row) IsNewEdge format_grow format_rows format_new_edges h
       (same_numbers t now guests devices h.numbers)
+      (derived_acyclic now kinds (with_format_edges row.id file backing t.edges) derived (format_acyclic backing refl))
+    where
+      one_more : IsAcyclic (with_edge own_edge t.edges)
+      one_more = acyclic_put own_edge t.edges (no_way_to row.id t.edges file (unreached t row.id h.edges suits.fresh)
+          (λ same. not-there t row.id suits.fresh (subst (IsThere t) same (subst IsSome (sym suits.found) refl)))) h.acyclic
+
+      -- nothing leads to the new node
+      none_to : (e : Edge) → Contains (with_edge own_edge t.edges) e → e.child ≢ row.id
+      none_to e there same = elim (Contains-with_edge own_edge t.edges e there) [
+        | inl is ↦
+            not-there t row.id suits.fresh
+            (subst (IsThere t) (ap (λ x. x.child) (sym is) ∙ same) (subst IsSome (sym suits.found) refl))
+        | inr old ↦ unreached t row.id h.edges suits.fresh e old same
+      ]
+
+      format_acyclic : (below : Option ℕ) → backing ≡ below → IsAcyclic (with_backing_edge row.id below (with_edge own_edge t.edges))
+      format_acyclic None is = one_more
+      format_acyclic (Some node) is =
+          acyclic_put (node_edge row.id Backing node) (with_edge own_edge t.edges)
+          (no_way_to row.id (with_edge own_edge t.edges) node none_to
+          (λ same. not-there t row.id suits.fresh (subst (IsThere t) same (suits.backed node is).there))) one_more
 
 -- ---- a filter that copies what is read
 
@@ -637,6 +677,9 @@ module _ (t now : RunTable) (row : NodeRecord) (child : ℕ) (suits : SuitsFilte
   filter_table guests devices =
       grown_stands t now (IsThere t) (λ r. r ≡ row) IsNewFilterEdge filter_grow filter_rows filter_new_edges h
       (same_numbers t now guests devices h.numbers)
+      (derived_acyclic now kinds (with_edge new_filter_edge t.edges) derived
+      (acyclic_put new_filter_edge t.edges (no_way_to row.id t.edges child (unreached t row.id h.edges suits.fresh)
+      (λ same. not-there t row.id suits.fresh (subst (IsThere t) same (subst IsSome (sym suits.found) refl)))) h.acyclic))
 
 -- ---- a node that goes
 
@@ -723,6 +766,8 @@ module _ (t now : RunTable) (node : ℕ) (alone : IsAlone t node) (nodes : now.n
   removed_table guests devices =
       grown_stands t now (IsOther t node) NoRow NoEdge removed_grow (no_rows t now) (no_edges t now) h
       (same_numbers t now guests devices h.numbers)
+      (derived_acyclic now kinds (without_parent (Node node) t.edges) derived
+      (acyclic_fewer (λ x. not (same_parent x.parent (Node node))) t.edges h.acyclic))
 
 -- ---- a device
 
@@ -783,6 +828,7 @@ module _ (t now : RunTable) (device : DeviceRow) (node : ℕ) (suits : SuitsDevi
   pub device_table : now.guests ≡ t.guests → now.devices ≡ t.devices ++ device ∷ [] → TableStands now
   device_table guests devices =
       grown_stands t now (IsThere t) NoRow IsDriveEdge device_grow (no_rows t now) device_new_edges h numbers
+      (derived_acyclic now kinds (with_edge drive t.edges) derived (acyclic_put drive t.edges (λ back. back) h.acyclic))
     where
       numbers : AreNumbered now
       numbers other there = elim (pushed-cases t.devices device other (subst (λ ds. Contains ds other) devices there)) [

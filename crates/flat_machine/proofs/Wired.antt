@@ -8,6 +8,7 @@ use Rattle.blk_graph.specs.declared.edge.Parent.TheVariants.{Node}
 use Rattle.blk_graph.specs.declared.edge.Role.{Role}
 use Rattle.blk_graph.specs.declared.edge.Role.TheVariants.{File}
 use Rattle.blk_graph.specs.declared.kind.Kind.TheVariants.{Protocol, CopyOnRead}
+use Rattle.blk_graph.specs.Paths.{IsAcyclic}
 use Rattle.blk_graph.specs.Permissions.{has_role}
 use Rattle.blk_graph.proofs.Members.{find-Some}
 use Rattle.blk_graph.proofs.EditLemmas.{IsSameEdge}
@@ -250,8 +251,8 @@ module _ (t now : RunTable) (P : ℕ → Type 0) (IsNewRow : NodeRecord → Type
             (with_at (IsDiskOf now later) (node_by_id now (disk_node t node)) both.later both.found_later
             (disk_like old.row later both.row both.later old.kept old.like both.like was))
 
-    pub grown_stands : AreNumbered now → TableStands now
-    grown_stands numbers = record {
+    pub grown_stands : AreNumbered now → IsAcyclic now.edges → TableStands now
+    grown_stands numbers acyclic = record {
       apart = g.apart;
       drivers = λ name row over. elim (g.rows row over.there) [
         | inl old ↦ old.like.kind ∙ h.drivers name old.row (stood_for name row old over)
@@ -281,6 +282,7 @@ module _ (t now : RunTable) (P : ℕ → Type 0) (IsNewRow : NodeRecord → Type
             subst (λ k. has_role k e.role ≡ true) (sym was.like.kind) (subst (λ r. has_role was.row.kind r ≡ true) old.same.role role)
         | inr is_new ↦ edges.roles e row is_new row_there is
       ];
+      acyclic = acyclic;
       single = λ e there role. elim (g.edges e there) [
         | inl old ↦
             let o = h.single old.edge old.there (old.same.role ∙ role) in

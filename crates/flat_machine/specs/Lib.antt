@@ -26,3 +26,4 @@ pub mod Suiting
 pub mod Imaging
 pub mod Recording
 pub mod Bitmaps
+pub mod Rewiring

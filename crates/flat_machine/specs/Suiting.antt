@@ -87,7 +87,26 @@ pub record SuitsDevice (t : RunTable) (device : DeviceRow) (node : ℕ) : Type 0
   pub free : IsUnderNoFormat t node
   pub number : HasDeviceNumber t.guests device
 
--- Of the kinds that jobs and snapshots bring it is asked that they leave it.
+-- both are there, and have disks of one size
+pub record HaveOneSize (t : RunTable) (first second : ℕ) : Type 0 where
+  pub row : NodeRecord
+  pub other : NodeRecord
+  pub found : node_by_id t first ≡ Some row
+  pub other_found : node_by_id t second ≡ Some other
+  pub same : row.size ≡ other.size
+
+-- an overlay gets a node of its size as backing node
+pub record SuitsAttach (t : RunTable) (overlay node : ℕ) : Type 0 where
+  pub sizes : HaveOneSize t overlay node
+  pub stands : TableStands (changed t (change.Attach overlay node))
+
+-- the parents of a node, which is no format node's file, go over to one of its size
+pub record SuitsMove (t : RunTable) (from to but : ℕ) : Type 0 where
+  pub sizes : HaveOneSize t from to
+  pub free : IsUnderNoFormat t from
+  pub stands : TableStands (changed t (change.Move from to but))
+
+-- Of the other kinds that jobs bring it is asked that they leave it.
 abbrev pub TableSuits : RunTable → Change → Type 0
 TableSuits t change.Negotiate = Unit {0}
 TableSuits t (change.KeepId id) = Unit {0}
@@ -102,6 +121,8 @@ TableSuits t (change.AddFilter row child) = SuitsFilter t row child
 TableSuits t (change.RemoveNode node) = IsAlone t node
 TableSuits t (change.AddDevice device node) = SuitsDevice t device node
 TableSuits t (change.RemoveDevice number) = Unit {0}
+TableSuits t (change.Attach overlay node) = SuitsAttach t overlay node
+TableSuits t (change.Move from to but) = SuitsMove t from to but
 TableSuits t (change.AddBitmap row) = Unit {0}
 TableSuits t (change.RemoveBitmap node name) = Unit {0}
 TableSuits t (change.TurnBitmap node name on) = Unit {0}

@@ -4,6 +4,7 @@ use Rattle.blk_graph.specs.declared.edge.Edge.{Edge}
 use Rattle.blk_graph.specs.declared.edge.Parent.TheVariants.{Node}
 use Rattle.blk_graph.specs.declared.edge.Role.TheVariants.{File}
 use Rattle.blk_graph.specs.declared.kind.Kind.TheVariants.{Protocol, CopyOnRead}
+use Rattle.blk_graph.specs.Paths.{IsAcyclic}
 use Rattle.blk_graph.specs.Permissions.{has_role}
 use Rattle.qmp_rules.specs.declared.rows.NodeRecord.{NodeRecord}
 use Rattle.qmp_rules.specs.declared.rows.DeviceRow.{DeviceRow}
@@ -155,6 +156,7 @@ pub record TableStands (t : RunTable) : Type 0 where
   pub alone : StandAlone t
   pub edges : EdgesHaveEnds t
   pub roles : HaveRoles t
+  pub acyclic : IsAcyclic t.edges
   pub single : HaveOneFile t
   pub taken : FilesAreTaken t
   pub filtered : OthersAreFiltered t

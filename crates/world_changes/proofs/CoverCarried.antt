@@ -114,12 +114,12 @@ module _ (t : RunTable) (h : TableStands t) (c : Snapshot (List ℕ)) (told : To
     overlay = of.overlay.id;
     node_is = node_is;
     overlay_is = overlay_is;
-    there = node_there t of.node of.overlay of.over of.bare of.lone of.size h nodes alike joined;
-    fits = cover_of t of.node of.overlay of.over of.bare of.lone of.size h nodes alike joined;
-    apart = edges_are_apart t of.node of.overlay of.over of.bare of.lone of.size h nodes alike joined;
+    there = node_there t of.node of.overlay of.over of.bare of.over.lone of.over.size h nodes alike joined;
+    fits = cover_of t of.node of.overlay of.over of.bare of.over.lone of.over.size h nodes alike joined;
+    apart = edges_are_apart t of.node of.overlay of.over of.bare of.over.lone of.over.size h nodes alike joined;
     keeps =
         ap (λ (edges : List Edge). first_conflict (map (λ (r : NodeRow). r.id) nodes.graph.nodes) edges)
-        (covered_same t of.node of.overlay of.over of.bare of.lone of.size h nodes alike joined)
+        (covered_same t of.node of.overlay of.over of.bare of.over.lone of.over.size h nodes alike joined)
         ∙ ap (λ (ids : List ℕ). first_conflict ids table_then.edges)
         (ap (map (λ (r : NodeRow). r.id)) alike.listed ∙ ids-listed t.nodes)
         ∙ no_conflict;
@@ -224,7 +224,7 @@ module _ (w : WorldSeen) (c : Snapshot (List ℕ)) (told : Told) (tells : TellsM
     clear : is_some w.files ≡ true → IsClear w.nodes overlay
     clear some = record {
       fresh = (tells.maps overlay (overlay_is w.table h c told none)).known.0 (unmapped w.table h c told none);
-      unused = λ edge there. pair.lone edge (subst (λ (edges : List Edge). Contains edges edge) whole.coherent.alike.edges there);
+      unused = λ edge there. pair.over.lone edge (subst (λ (edges : List Edge). Contains edges edge) whole.coherent.alike.edges there);
       told = whole.tell some;
     }
 
@@ -249,7 +249,7 @@ module _ (w : WorldSeen) (c : Snapshot (List ℕ)) (told : Told) (tells : TellsM
         ap (λ (a : Answer). a.changes) (answer-is w.table told (command.BlockdevSnapshot c) None none) ∙ edits w.table h c told none
 
     coherent : IsCoherent u nodes w.opened w.progress
-    coherent = covered_coherent w.table pair.node pair.overlay pair.over pair.bare pair.lone pair.settled pair.size h w.nodes w.opened w.progress joined
+    coherent = covered_coherent w.table pair.node pair.overlay pair.over pair.bare pair.over.lone pair.settled pair.over.size h w.nodes w.opened w.progress joined
         whole.coherent
 
     covered_carried : AreCalm w.table w.progress.guests (drained_by w.table (command.BlockdevSnapshot c)) → (IsClear w.nodes overlay → ReadCovered w.nodes nodes node overlay)

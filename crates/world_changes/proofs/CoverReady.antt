@@ -6,10 +6,9 @@ use Rattle.std.proofs.lemmas.Bool.{eqb-true}
 use Rattle.blk_graph.specs.declared.edge.Edge.{Edge}
 use Rattle.blk_graph.specs.declared.edge.Parent.{Parent}
 use Rattle.blk_graph.specs.declared.edge.Parent.TheVariants.{Node}
-use Rattle.blk_graph.specs.declared.edge.Role.{Role}
-use Rattle.blk_graph.specs.declared.edge.Role.TheVariants.{Drive, File, Backing, Filtered, Source, Target, Between, Base}
+use Rattle.blk_graph.specs.declared.edge.Role.TheVariants.{File, Backing}
 use Rattle.blk_graph.specs.declared.kind.Kind.{Kind}
-use Rattle.blk_graph.specs.declared.kind.Kind.TheVariants.{Protocol, Qcow2}
+use Rattle.blk_graph.specs.declared.kind.Kind.TheVariants.{Qcow2}
 use Rattle.blk_graph.specs.declared.kind.NodeKind.{NodeKind}
 use Rattle.blk_graph.specs.Edits.{child_of, replaced, stays, with_child, with_edge, with_over, with_replaced}
 use Rattle.blk_graph.specs.Graph.{HasNode, IsFit, ids}
@@ -17,7 +16,6 @@ use Rattle.blk_graph.specs.Judged.{IsOverlayApart, IsEditStop, IsJudged}
 use Rattle.blk_graph.specs.Rule.{first_conflict}
 use Rattle.blk_graph.specs.declared.stop.GraphStop.{GraphStop}
 use Rattle.blk_graph.specs.declared.stop.GraphStop.TheVariants.{Cycle, Conflict}
-use Rattle.blk_graph.specs.Paths.{IsPath, Reaches}
 use Rattle.blk_graph.specs.Permissions.{has_role, node_edge}
 use Rattle.blk_graph.specs.Refreshed.{refreshed}
 use Rattle.blk_graph.proofs.AlikeLemmas.{AreEdgesAlike, IsEdgeAlike, refreshed-alike, refreshed-both}
@@ -32,7 +30,7 @@ use Rattle.flat_machine.specs.Wiring.{LeadsToFile, TableStands}
 use Rattle.flat_machine.specs.Suiting.{IsAlone}
 use Rattle.flat_machine.proofs.WritingKept.{role_edge}
 use Rattle.flat_machine.proofs.Redirected.{LiesOver}
-use Rattle.flat_machine.proofs.Covered.{no_edge_of}
+use Rattle.flat_machine.proofs.Covered.{overlay_apart}
 use Rattle.flat_machine.proofs.Snapshots.{covered_edges}
 use Rattle.blk_nodes.specs.Covering.{covered, IsCover}
 use Rattle.blk_nodes.specs.Joined.{HasSize, IsJoined}
@@ -92,85 +90,8 @@ module _ (t : RunTable) (node overlay : NodeRecord) (over : LiesOver t node over
   overlay_found : node_by_id t overlay.id ≡ Some overlay
   overlay_found = h.apart overlay over.overlay_there
 
-  -- a `file` node makes no edges
-  none_from_file : (e : Edge) (row : NodeRecord) → Contains t.edges e → Contains t.nodes row → e.parent ≡ Node row.id → IsSome row.filename → ⊥
-  none_from_file e row there row_there from some = by_name row.filename refl some
-    where
-      no_role : (role : Role) → has_role Protocol role ≡ true → ⊥
-      no_role role has = let bad : ⊥ = cc has in bad
-
-      by_name : (name : Option (List ℕ)) → row.filename ≡ name → IsSome name → ⊥
-      by_name None is none = let bad : ⊥ = cc none in bad
-      by_name (Some name) is named =
-          let kind : row.kind ≡ Protocol = h.drivers name row (record { there = row_there; filename = is }) in
-          let has : has_role Protocol e.role ≡ true = subst (λ (k : Kind). has_role k e.role ≡ true) kind (h.roles e row there row_there from) in
-          no_role e.role has
-
-  -- the overlay's only edge leads to its file, which is another node than the one below
-  from_overlay : (e : Edge) → Contains t.edges e → e.parent ≡ Node overlay.id
-      → (under : NodeRecord) × Contains t.nodes under × (e.child ≡ under.id) × IsSome under.filename × (under.is_settled ≡ false)
-  from_overlay e there from = by_row (node_by_id t e.child) refl (h.edges e there).child
-    where
-      role_is : (role : Role) → e.role ≡ role → has_role Qcow2 role ≡ true → e.role ≡ File
-      role_is File is has = is
-      role_is Backing is has = absurd (no_edge_of t overlay.id Backing bare e there from is)
-      role_is Drive is has = absurd (let bad : ⊥ = cc has in bad)
-      role_is Filtered is has = absurd (let bad : ⊥ = cc has in bad)
-      role_is Source is has = absurd (let bad : ⊥ = cc has in bad)
-      role_is Target is has = absurd (let bad : ⊥ = cc has in bad)
-      role_is Between is has = absurd (let bad : ⊥ = cc has in bad)
-      role_is Base is has = absurd (let bad : ⊥ = cc has in bad)
-
-      file : e.role ≡ File
-      file = role_is e.role refl (subst (λ (k : Kind). has_role k e.role ≡ true) over.driver (h.roles e overlay there over.overlay_there from))
-
-      by_row : (found : Option NodeRecord) → node_by_id t e.child ≡ found → IsSome found
-          → (under : NodeRecord) × Contains t.nodes under × (e.child ≡ under.id) × IsSome under.filename × (under.is_settled ≡ false)
-      by_row None is some = absurd (let bad : ⊥ = cc some in bad)
-      by_row (Some under) is some =
-          let here = find-Some (λ (r : NodeRecord). r.id == e.child) t.nodes under is in
-          let to : e.child ≡ under.id = sym (eqb-true under.id e.child here.1) in
-          let of : LeadsToFile t overlay under = record {
-            over_there = over.overlay_there;
-            under_there = here.0;
-            edge = e;
-            there = there;
-            parent = from;
-            role = file;
-            child = to;
-          } in
-          by_name under here.0 to of under.filename refl
-        where
-          by_name : (under : NodeRecord) → Contains t.nodes under → e.child ≡ under.id → LeadsToFile t overlay under → (name : Option (List ℕ)) → under.filename ≡ name
-              → (row : NodeRecord) × Contains t.nodes row × (e.child ≡ row.id) × IsSome row.filename × (row.is_settled ≡ false)
-          by_name under there to of None is =
-              let filter = h.filtered overlay under of is in
-              let none : IsSome (filter_role Qcow2) = subst (λ (k : Kind). IsSome (filter_role k)) over.driver filter in
-              absurd (let bad : ⊥ = cc none in bad)
-          by_name under there to of (Some name) is =
-              let some : IsSome under.filename = subst IsSome (sym is) refl in
-              (under, there, to, some, (h.taken overlay under of some).gone)
-
-  -- it doesn't lead to the node
-  away : Reaches t.edges overlay.id node.id → ⊥
-  away reaches = by_rest reaches.rest reaches.path.2
-    where
-      below : (under : NodeRecord) × Contains t.nodes under × (reaches.first.child ≡ under.id) × IsSome under.filename × (under.is_settled ≡ false)
-      below = from_overlay reaches.first reaches.path.0 reaches.path.1
-
-      by_rest : (rest : List Edge) → IsPath t.edges reaches.first.child rest node.id → ⊥
-      by_rest [] is =
-          let found : node_by_id t below.0.id ≡ Some below.0 = h.apart below.0 below.1 in
-          let same : below.0.id ≡ node.id = sym below.2 ∙ is in
-          let rows : Some below.0 ≡ Some node = sym found ∙ ap (node_by_id t) same ∙ node_found in
-          let row : below.0 ≡ node = cc rows in
-          let settled : below.0.is_settled ≡ true = ap (λ (r : NodeRecord). r.is_settled) row ∙ over.disk.settled in
-          let bad : ⊥ = cc (sym below.4 ∙ settled) in
-          bad
-      by_rest (e ∷ rest) path = none_from_file e below.0 path.0 below.1 (path.1 ∙ ap Node below.2) below.3
-
   pub apart_of : IsOverlayApart t.edges node.id overlay.id
-  apart_of = record { differ = over.other; unused = λ e there is. lone e there is; away = away }
+  apart_of = overlay_apart t node overlay over bare h
 
   -- ---- in the nodes
 

@@ -30,3 +30,4 @@ pub mod RunOpenings
 pub mod SoundImages
 pub mod TableKinds
 pub mod TablesAfter
+pub mod Rewirings

@@ -1,8 +1,7 @@
 -- The kinds of the nodes are the same by the table's rows and by the nodes' own, so both derive the same edges.
-use Rattle.std.proofs.Common.{◌≡◌, ◌≢◌, ℕ, zero, suc, ◌<◌, ◌==◌, Bool, cond, not, List, [], ◌∷◌, length, map, set, replicate, Option, Some, None, inl, inr, ◌⊎◌, refl, sym, ◌∙◌, ap, subst, arith}
-use Rattle.std.specs.Prelude.{IsSome, Contains, find}
-use Rattle.std.proofs.lemmas.Bool.{eqb-true, eq-eqb, ne_eqb, cases_eq}
-use Rattle.std.proofs.lemmas.List.{length-set, length-replicate, get_or-replicate, get_or-set_same, get_or-set_other, ext_get_or}
+use Rattle.std.proofs.Common.{◌≡◌, ℕ, zero, suc, Bool, not, List, [], ◌∷◌, map, Option, Some, None, refl, sym, ◌∙◌, ap, subst, arith}
+use Rattle.std.specs.Prelude.{IsSome, Contains}
+use Rattle.std.proofs.lemmas.List.{ext_get_or}
 use Rattle.blk_graph.specs.declared.edge.Edge.{Edge}
 use Rattle.blk_graph.specs.declared.edge.Parent.{Parent}
 use Rattle.blk_graph.specs.declared.edge.Parent.TheVariants.{Node, Guest, Job}
@@ -11,11 +10,12 @@ use Rattle.blk_graph.specs.declared.kind.Kind.{Kind}
 use Rattle.blk_graph.specs.declared.kind.NodeKind.{NodeKind}
 use Rattle.blk_graph.specs.Permissions.{uses_by}
 use Rattle.blk_graph.specs.Refreshed.{kind_at, no_kind, uses_into, with_uses, ruled, ruled_from, turned, turned_by, refreshed}
-use Rattle.blk_graph.proofs.Members.{Contains-here, Contains-there, Contains-map, find-Some}
+use Rattle.blk_graph.proofs.Members.{Contains-here, Contains-there, Contains-map}
 use Rattle.blk_graph.proofs.RefreshLemmas.{ruled-same}
-use Rattle.qmp_rules.specs.Table.{RunTable, node_by_id, kind_of_record, kinds_from, kinds_of}
+use Rattle.qmp_rules.specs.Table.{RunTable, node_by_id, kind_of_record, kinds_of}
 use Rattle.qmp_rules.specs.declared.rows.NodeRecord.{NodeRecord}
 use Rattle.flat_machine.specs.Wiring.{HaveDistinctIds}
+use Rattle.flat_machine.proofs.RowKinds.{kind_or, kind_by, length-kinds_of}
 use Rattle.blk_nodes.specs.Joined.{IsJoined}
 use Rattle.blk_nodes.specs.Nodes.{Nodes, row_at, driver_kind, node_kind}
 use Rattle.blk_nodes.specs.declared.row.Row.{Row}
@@ -29,60 +29,6 @@ map-same {A} {B} f g (x ∷ xs) each =
     ap (λ (y : B). y ∷ map f xs) (each x (Contains-here x xs))
     ∙ ap (λ (ys : List B). g x ∷ ys) (map-same f g xs (λ y there. each y (Contains-there x xs y there)))
 
--- ---- the kinds of rows
-
--- rows of one id are the same row
-abbrev AreOnce : List NodeRecord → Type 0
-AreOnce rows = (a b : NodeRecord) → Contains rows a → Contains rows b → a.id ≡ b.id → a ≡ b
-
-once-tail : (row : NodeRecord) (rows : List NodeRecord) → AreOnce (row ∷ rows) → AreOnce rows
-once-tail row rows once a b there other = once a b (Contains-there row rows a there) (Contains-there row rows b other)
-
-once_by : (t : RunTable) → HaveDistinctIds t → AreOnce t.nodes
-once_by t apart a b there other same =
-    let here : node_by_id t a.id ≡ Some a = apart a there in
-    let also : node_by_id t b.id ≡ Some b = apart b other in
-    let e : Some a ≡ Some b = sym here ∙ ap (node_by_id t) same ∙ also in
-    cc e
-
--- what a row makes of the kind at its id, where there is one
-abbrev kind_or : NodeKind → Option NodeRecord → NodeKind
-kind_or kind None = kind
-kind_or kind (Some row) = kind_of_record row
-
-length-kinds : (rows : List NodeRecord) (kinds : List NodeKind) → length (kinds_from kinds rows) ≡ length kinds
-length-kinds [] kinds = refl
-length-kinds (row ∷ rows) kinds = length-kinds rows (set kinds row.id (kind_of_record row)) ∙ length-set kinds row.id (kind_of_record row)
-
-kinds_by : (rows : List NodeRecord) (kinds : List NodeKind) (id : ℕ) → AreOnce rows → id < length kinds
-    → kind_at (kinds_from kinds rows) id ≡ kind_or (kind_at kinds id) (find (λ row. row.id == id) rows)
-kinds_by [] kinds id once small = refl
-kinds_by (row ∷ rows) kinds id once small =
-    by_id (cases_eq row.id id)
-    (kinds_by rows (set kinds row.id (kind_of_record row)) id (once-tail row rows once) (omega (arith, small, length-set kinds row.id (kind_of_record row))))
-  where
-    more : List NodeKind
-    more = set kinds row.id (kind_of_record row)
-
-    -- a later row of the same id is this one
-    later : row.id ≡ id → (found : Option NodeRecord) → find (λ r. r.id == id) rows ≡ found
-        → kind_or (kind_at more id) found ≡ kind_of_record row
-    later same None is = ap (λ (n : ℕ). kind_at (set kinds n (kind_of_record row)) id) same ∙ get_or-set_same kinds id (kind_of_record row) no_kind small
-    later same (Some other) is =
-        let at = find-Some (λ (r : NodeRecord). r.id == id) rows other is in
-        ap kind_of_record (once other row (Contains-there row rows other at.0) (Contains-here row rows) (eqb-true other.id id at.1 ∙ sym same))
-
-    by_id : (row.id ≡ id) ⊎ (row.id ≢ id) → kind_at (kinds_from more rows) id ≡ kind_or (kind_at more id) (find (λ r. r.id == id) rows)
-        → kind_at (kinds_from more rows) id ≡ kind_or (kind_at kinds id) (cond (row.id == id) (Some row) (find (λ r. r.id == id) rows))
-    by_id (inl same) rest =
-        rest ∙ later same (find (λ r. r.id == id) rows) refl
-        ∙ ap (λ (b : Bool). kind_or (kind_at kinds id) (cond b (Some row) (find (λ (r : NodeRecord). r.id == id) rows))) (sym (eq-eqb row.id id same))
-    by_id (inr apart) rest =
-        rest
-        ∙ ap (λ (kind : NodeKind). kind_or kind (find (λ (r : NodeRecord). r.id == id) rows))
-        (get_or-set_other kinds row.id id (kind_of_record row) no_kind (λ same. apart (sym same)))
-        ∙ ap (λ (b : Bool). kind_or (kind_at kinds id) (cond b (Some row) (find (λ (r : NodeRecord). r.id == id) rows))) (sym (ne_eqb row.id id apart))
-
 -- ---- table and nodes
 
 kind-alike : (row : NodeRecord) (own : Row) → IsRowOf row own → kind_of_record row ≡ node_kind own
@@ -95,22 +41,16 @@ pub kinds_alike : (t : RunTable) (nodes : Nodes) → IsJoined nodes → HaveDist
     → kinds_of t.nodes ≡ nodes.graph.kinds
 kinds_alike t nodes joined apart alike =
     ext_get_or no_kind (kinds_of t.nodes) nodes.graph.kinds
-    (length-kinds t.nodes none ∙ length-replicate 64 no_kind ∙ sym joined.sound.kinds)
-    (λ id below. kinds_by t.nodes none id (once_by t apart) (omega (arith, below, length-kinds t.nodes none))
-    ∙ at_id id (let e : id < 64 = omega (arith, below, length-kinds t.nodes none, length-replicate 64 no_kind) in e)
-    (node_by_id t id) (row_at nodes id) refl (alike id))
+    (length-kinds_of t.nodes ∙ sym joined.sound.kinds)
+    (λ id below. kind_by t id apart (omega (arith, below, length-kinds_of t.nodes)) ∙ at_id id (node_by_id t id) (row_at nodes id) refl (alike id))
   where
-    none : List NodeKind
-    none = replicate 64 no_kind
-
-    at_id : (id : ℕ) → id < 64 → (row : Option NodeRecord) (own : Option Row) → row_at nodes id ≡ own → AreAlike row own
-        → kind_or (kind_at none id) row ≡ kind_at nodes.graph.kinds id
-    at_id id small None None there is =
-        get_or-replicate 64 id no_kind no_kind small
-        ∙ sym (joined.sound.vacant id (λ has. let bad : IsSome {T = Row} None = subst IsSome there (joined.there id has) in cc bad))
-    at_id id small (Some row) (Some own) there is = kind-alike row own is ∙ sym (joined.kinds id own there)
-    at_id id small None (Some own) there is = absurd is
-    at_id id small (Some row) None there is = absurd is
+    at_id : (id : ℕ) (row : Option NodeRecord) (own : Option Row) → row_at nodes id ≡ own → AreAlike row own
+        → kind_or no_kind row ≡ kind_at nodes.graph.kinds id
+    at_id id None None there is =
+        sym (joined.sound.vacant id (λ has. let bad : IsSome {T = Row} None = subst IsSome there (joined.there id has) in cc bad))
+    at_id id (Some row) (Some own) there is = kind-alike row own is ∙ sym (joined.kinds id own there)
+    at_id id None (Some own) there is = absurd is
+    at_id id (Some row) None there is = absurd is
 
 -- ---- derived edges
 
