@@ -84,6 +84,12 @@ table_keeps t (change.PutFilter row node) suits h = suits
 table_keeps t (change.UseNode slot what node) suits h = suits
 table_keeps t (change.StartJob row) suits h = suits
 table_keeps t (change.AskJob number asked) suits h = suits
+table_keeps t (change.ReadyJob number) suits h = suits
+table_keeps t (change.EndJob number slot drops) suits h = suits
+table_keeps t (change.PullFilter filter) suits h = suits
+table_keeps t (change.Rebase node backing) suits h = suits
+table_keeps t (change.Settle node disk) suits h = suits
+table_keeps t (change.MakeReadOnly id) suits h = suits
 table_keeps t (change.RemoveDevice number) suits h =
     gone_table t (changed t (change.RemoveDevice number)) number refl (kinds_of t.nodes) refl h refl refl
 table_keeps t (change.Attach overlay node) suits h = suits
