@@ -16,7 +16,7 @@ use Rattle.qmp_rules.specs.Changes.{changed}
 use Rattle.flat_machine.specs.State.{State, content_in}
 use Rattle.flat_machine.specs.Changed.{stepped}
 use Rattle.flat_machine.specs.Wiring.{StandsFor, IsUnder, HasDeviceNumber, HasOwnName, TableStands}
-use Rattle.flat_machine.specs.Standing.{MayGuestWrite, Stands}
+use Rattle.flat_machine.specs.Standing.{IsLostBy, MayGuestWrite, Stands}
 
 abbrev pub IsThere : RunTable → ℕ → Type 0
 IsThere t node = IsSome (node_by_id t node)
@@ -34,6 +34,13 @@ abbrev pub IsUnderNoFormat : RunTable → ℕ → Type 0
 IsUnderNoFormat t node =
     (row : NodeRecord) → node_by_id t node ≡ Some row → IsSome row.filename → IsUnder t.edges node
     → ⊥
+
+-- a node that is no filter, and no `file` node under a format node
+pub record IsPlainNode (t : RunTable) (node : ℕ) : Type 0 where
+  pub row : NodeRecord
+  pub there : node_by_id t node ≡ Some row
+  pub own : filter_role row.kind ≡ None
+  pub free : IsUnderNoFormat t node
 
 -- ---- tables
 
@@ -87,7 +94,7 @@ pub record SuitsDevice (t : RunTable) (device : DeviceRow) (node : ℕ) : Type 0
   pub free : IsUnderNoFormat t node
   pub number : HasDeviceNumber t.guests device
 
--- Of the kinds that jobs and snapshots bring it is asked that they leave it.
+-- Of the kinds by which filters come and go, parents move and nodes may be written or not, it is asked that they leave it.
 abbrev pub TableSuits : RunTable → Change → Type 0
 TableSuits t change.Negotiate = Unit {0}
 TableSuits t (change.KeepId id) = Unit {0}
@@ -100,6 +107,12 @@ TableSuits t (change.AddFile row) = SuitsFile t row
 TableSuits t (change.AddFormat row file backing) = SuitsFormat t row file backing
 TableSuits t (change.AddFilter row child) = SuitsFilter t row child
 TableSuits t (change.RemoveNode node) = IsAlone t node
+TableSuits t (change.Unsettle node) = Unit {0}
+TableSuits t (change.UseNode slot what node) = IsPlainNode t node
+TableSuits t (change.StartJob row) = Unit {0}
+TableSuits t (change.AskJob number asked) = Unit {0}
+TableSuits t (change.ReadyJob number) = Unit {0}
+TableSuits t (change.EndJob number slot drops) = Unit {0}
 TableSuits t (change.AddDevice device node) = SuitsDevice t device node
 TableSuits t (change.RemoveDevice number) = Unit {0}
 TableSuits t (change.AddBitmap row) = Unit {0}
@@ -139,6 +152,12 @@ pub record RemovalSuits (t : RunTable) (node : ℕ) : Type 0 where
       → Contains t.edges edge → edge.parent ≡ Node node
       → edge.role ≡ File → edge.child ≡ row.id → file_state t name ≡ Some Used
 
+-- a `file` node loses its disk for a cause
+abbrev pub UnsettleSuits : RunTable → ℕ → Type 0
+UnsettleSuits t node =
+    (name : List ℕ) (row : NodeRecord) → StandsFor t name row → row.id ≡ node
+    → IsLostBy t name row
+
 -- the node stands for the file, and has no parent
 pub record FormattingSuits (t : RunTable) (node : ℕ) (name : List ℕ) : Type 0 where
   pub row : NodeRecord
@@ -165,6 +184,12 @@ Suits s (change.AddFile row) = FileSuits s row
 Suits s (change.AddFormat row file backing) = FormatSuits s row file backing
 Suits s (change.AddFilter row child) = SuitsFilter s.table row child
 Suits s (change.RemoveNode node) = RemovalSuits s.table node
+Suits s (change.Unsettle node) = UnsettleSuits s.table node
+Suits s (change.UseNode slot what node) = IsPlainNode s.table node
+Suits s (change.StartJob row) = Unit {0}
+Suits s (change.AskJob number asked) = Unit {0}
+Suits s (change.ReadyJob number) = Unit {0}
+Suits s (change.EndJob number slot drops) = Unit {0}
 Suits s (change.AddDevice device node) = DeviceSuits s device node
 Suits s (change.RemoveDevice number) = Unit {0}
 Suits s (change.AddBitmap row) = Unit {0}
