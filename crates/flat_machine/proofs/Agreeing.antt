@@ -7,7 +7,7 @@ use Rattle.std.proofs.lemmas.List.Elements.{All-weaker, All-nil, All-cons, All-h
 use Rattle.blk_graph.proofs.Members.{find-Some, Contains-filter}
 use Rattle.qmp_rules.specs.declared.rows.NodeRecord.{NodeRecord}
 use Rattle.qmp_rules.specs.Table.{node_by_id, has_name}
-use Rattle.qmp_rules.specs.Changes.{node_changed, unsettled, writable, without_record}
+use Rattle.qmp_rules.specs.Changes.{node_changed, unsettled, writable, settled, with_settled, kept_from_writes, without_record}
 use Rattle.blk_history.specs.Fold.{With}
 use Rattle.flat_machine.specs.State.{State, Content, Left, bytes_in, content_in}
 use Rattle.flat_machine.specs.Changed.{with_bytes_of}
@@ -110,6 +110,49 @@ same_writable id row = by_test (row.id == id)
     by_test : (b : Bool) → (cond b (writable row) row).id ≡ row.id
     by_test true = refl
     by_test false = refl
+
+pub less_read_only : (id : ℕ) (row : NodeRecord) → HasDisk (node_changed id kept_from_writes row) → HasDisk row
+less_read_only id row = by_test (row.id == id)
+  where
+    by_test : (b : Bool) → HasDisk (cond b (kept_from_writes row) row) → HasDisk row
+    by_test true h = record { settled = h.settled; own = h.own }
+    by_test false h = h
+
+pub same_read_only : (id : ℕ) (row : NodeRecord) → (node_changed id kept_from_writes row).id ≡ row.id
+same_read_only id row = by_test (row.id == id)
+  where
+    by_test : (b : Bool) → (cond b (kept_from_writes row) row).id ≡ row.id
+    by_test true = refl
+    by_test false = refl
+
+same_settled : (id : ℕ) (row : NodeRecord) → (node_changed id settled row).id ≡ row.id
+same_settled id row = by_test (row.id == id)
+  where
+    by_test : (b : Bool) → (cond b (settled row) row).id ≡ row.id
+    by_test true = refl
+    by_test false = refl
+
+-- all rows but one are as they were
+pub rows_settled : (s now : State) (id : ℕ) → now.table.nodes ≡ with_settled id s.table.nodes → RowsBut (λ node. node ≡ id) s now
+rows_settled s now id e node row found disk = elim (cases_eq node id) [
+  | inl same ↦ inl same
+  | inr other ↦ inr (by_row other (find (λ r. r.id == node) s.table.nodes) refl of_old)
+]
+  where
+    of_old : option_map (node_changed id settled) (find (λ r. r.id == node) s.table.nodes) ≡ Some row
+    of_old = sym (find-map (λ r. r.id == node) (node_changed id settled) (λ r. ap (λ k. k == node) (same_settled id r)) s.table.nodes)
+        ∙ subst (λ rows. find (λ r. r.id == node) rows ≡ Some row) e found
+
+    by_test : (r : NodeRecord) → (r.id == id) ≡ false → node_changed id settled r ≡ row → r ≡ row
+    by_test r t is = sym (rw t refl) ∙ is
+
+    by_row : node ≢ id → (was : Option NodeRecord) → find (λ r. r.id == node) s.table.nodes ≡ was
+        → option_map (node_changed id settled) was ≡ Some row → HadDisk s node
+    by_row other None was k = absurd cc
+    by_row other (Some r) was k =
+        let id_is : r.id ≡ node = eqb-true r.id node (find-Some (λ x. x.id == node) s.table.nodes r was).1 in
+        let same : r ≡ row = by_test r (ne_eqb r.id id (λ is. other (sym id_is ∙ is))) cc in
+        record { row = r; found = was; disk = subst HasDisk (sym same) disk }
 
 -- ---- disks
 

@@ -284,6 +284,7 @@ leaves_bitmaps (change.ClearBitmap node name) = false
 leaves_bitmaps (change.MergeBitmap node name source_node source) = false
 leaves_bitmaps (change.RemoveNode node) = false
 leaves_bitmaps (change.StartJob row) = false
+leaves_bitmaps (change.EndJob number slot drops) = false
 leaves_bitmaps c = true
 
 left-rows : (t : RunTable) (c : Change) → leaves_bitmaps c ≡ true → (changed t c).bitmaps ≡ t.bitmaps
@@ -293,6 +294,7 @@ left-rows t (change.RemoveBitmap node name) leaves = absurd cc
 left-rows t (change.TurnBitmap node name on) leaves = absurd cc
 left-rows t (change.RemoveNode node) leaves = absurd cc
 left-rows t (change.StartJob row) leaves = absurd cc
+left-rows t (change.EndJob number slot drops) leaves = absurd cc
 left-rows t _ leaves = refl
 
 left-sets : (t : RunTable) (ds : List Dirty) (c : Change) → leaves_bitmaps c ≡ true → dirty_beside t ds c ≡ ds
@@ -301,6 +303,7 @@ left-sets t ds (change.RemoveBitmap node name) leaves = absurd cc
 left-sets t ds (change.ClearBitmap node name) leaves = absurd cc
 left-sets t ds (change.MergeBitmap node name source_node source) leaves = absurd cc
 left-sets t ds (change.RemoveNode node) leaves = absurd cc
+left-sets t ds (change.EndJob number slot drops) leaves = absurd cc
 left-sets t ds _ leaves = refl
 
 pub follow-none : (t : RunTable) (rows : List Bitmap) → AreBitmapsOf t.bitmaps rows → FollowChanges t rows rows []

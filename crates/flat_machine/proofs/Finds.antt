@@ -1,5 +1,5 @@
 -- What is found in lists after they changed: rows by id, disks by node, files by name.
-use Rattle.std.proofs.Common.{◌≡◌, ◌≢◌, ◌⊎◌, ℕ, Bool, true, false, cond, List, [], ◌∷◌, ◌++◌, map, refl, sym, ap, ◌∙◌, inl, inr, Some, None, option_map}
+use Rattle.std.proofs.Common.{◌≡◌, ◌≢◌, ◌⊎◌, ℕ, Bool, true, false, cond, List, [], ◌∷◌, ◌++◌, map, refl, sym, ap, ◌∙◌, inl, inr, Option, Some, None, option_map}
 use Rattle.std.specs.Prelude.{◌==◌, ◌||◌, not, bytes_eq}
 use Rattle.std.specs.List.{find, filter}
 use Rattle.std.proofs.lemmas.Bool.{eqb-true, eq-eqb, ne_eqb, false_from_ne_true, or_parts}
@@ -111,6 +111,13 @@ cases_name a b = by_test (bytes_eq a b) refl
     by_test : (t : Bool) → bytes_eq a b ≡ t → (a ≡ b) ⊎ (a ≢ b)
     by_test true e = inl (same-bytes_eq a b e)
     by_test false e = inr (name_differs a b e)
+
+pub cases_found : (found : Option (List ℕ)) (name : List ℕ) → (found ≡ Some name) ⊎ (found ≡ Some name → ⊥)
+cases_found None name = inr (λ is. cc)
+cases_found (Some other) name = elim (cases_name other name) [
+  | inl same ↦ inl (ap Some same)
+  | inr differ ↦ inr (λ is. differ cc)
+]
 
 pub content_in-with : (name : List ℕ) (content : Content) (files : List KnownFile)
     → content_in (with_content name content files) name ≡ Some content

@@ -61,6 +61,8 @@ pub record NoJobs (t : RunTable) : Type 0 where
 abbrev IsPlain : Change → Type 0
 IsPlain (change.StartJob row) = ⊥
 IsPlain (change.AskJob number asked) = ⊥
+IsPlain (change.ReadyJob number) = ⊥
+IsPlain (change.EndJob number slot drops) = ⊥
 IsPlain c = Unit {0}
 
 abbrev ArePlain : List Change → Type 0
@@ -75,6 +77,12 @@ plain_keeps : (t : RunTable) (c : Change) → IsPlain c → NoJobs t → NoJobs 
 unfolding changed
 plain_keeps t (change.StartJob row) plain h = absurd plain
 plain_keeps t (change.AskJob number asked) plain h = absurd plain
+plain_keeps t (change.ReadyJob number) plain h = absurd plain
+plain_keeps t (change.EndJob number slot drops) plain h = absurd plain
+plain_keeps t (change.PullFilter filter) plain h = record { jobs = h.jobs; started = h.started }
+plain_keeps t (change.Rebase node backing) plain h = record { jobs = h.jobs; started = h.started }
+plain_keeps t (change.Settle node disk) plain h = record { jobs = h.jobs; started = h.started }
+plain_keeps t (change.MakeReadOnly id) plain h = record { jobs = h.jobs; started = h.started }
 plain_keeps t change.Negotiate plain h = record { jobs = h.jobs; started = h.started }
 plain_keeps t (change.KeepId id) plain h = record { jobs = h.jobs; started = h.started }
 plain_keeps t (change.DropId id) plain h = record { jobs = h.jobs; started = h.started }

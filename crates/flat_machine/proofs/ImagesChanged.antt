@@ -1,37 +1,40 @@
 -- What is said of images stays so with each kind of change, and with changes in turn.
 use Rattle.std.proofs.Common.{◌≡◌, ◌≢◌, ◌⊎◌, ℕ, Bool, true, false, cond, List, [], ◌∷◌, ◌++◌, refl, sym, ap, subst, ◌∙◌, inl, inr, Option, Some, None}
-use Rattle.std.specs.Prelude.{◌==◌, not, IsSome, is_some, option_and_then}
+use Rattle.std.specs.Prelude.{◌==◌, ◌&&◌, not, IsSome, is_some, option_and_then}
 use Rattle.std.specs.List.{filter}
 use Rattle.std.proofs.lemmas.Bool.{eqb-true, eq-eqb, ne_eqb, cases_eq}
+use Rattle.q2_format.specs.Header.{header_of}
 use Rattle.blk_graph.specs.declared.edge.Edge.{Edge}
-use Rattle.blk_graph.specs.declared.edge.Parent.TheVariants.{Node, Guest}
+use Rattle.blk_graph.specs.declared.edge.Parent.TheVariants.{Node, Guest, Job}
 use Rattle.blk_graph.specs.declared.edge.Role.TheVariants.{File, Backing}
 use Rattle.blk_graph.specs.declared.kind.Kind.{Kind}
 use Rattle.blk_graph.specs.declared.kind.Kind.TheVariants.{Protocol, Raw, Qcow2, CopyOnRead, BeforeWrite, Mirror, Commit}
 use Rattle.blk_graph.specs.declared.kind.NodeKind.{NodeKind}
-use Rattle.blk_graph.specs.Edits.{with_edge, without_parent}
+use Rattle.blk_graph.specs.Edits.{child_of, with_edge, without_parent}
 use Rattle.blk_graph.specs.Permissions.{node_edge, job_edge}
 use Rattle.blk_graph.proofs.ChildLemmas.{child-kept, child-without}
+use Rattle.blk_graph.proofs.DraftLemmas.{children_removed}
 use Rattle.blk_graph.proofs.RefreshLemmas.{child_of-refreshed}
 use Rattle.qmp_rules.specs.declared.change.Change.{Change}
 use Rattle.qmp_rules.specs.declared.change.Change.TheVariants as change
 use Rattle.qmp_rules.specs.declared.rows.NodeRecord.{NodeRecord}
 use Rattle.qmp_rules.specs.Table.{RunTable, node_by_id, child, kinds_of}
 use Rattle.qmp_rules.specs.Chains.{filter_role}
-use Rattle.qmp_rules.specs.Changes.{changed, node_changed, unsettled, writable, with_writable, with_unsettled, without_record, lost_with, stands_over, device_edge}
+use Rattle.qmp_rules.specs.Changes.{changed, node_changed, unsettled, writable, with_writable, with_unsettled, settled, kept_from_writes, with_read_only, with_backing, without_record, lost_with, stands_over, device_edge}
 use Rattle.qmp_rules.specs.Asks.{name_of_file}
+use Rattle.blk_history.specs.Fold.{With}
 use Rattle.flat_machine.specs.State.{State, Image, Left, Content, Unknown, Mapped, content_in, filename_of}
-use Rattle.flat_machine.specs.Contents.{mapped_in, file_bytes}
+use Rattle.flat_machine.specs.Contents.{maps_none, mapped_in, file_bytes}
 use Rattle.flat_machine.specs.Changed.{put, name_file, name_if, add_file, know_if, note_image, content_under, bytes_by_format, left_disk, leave, own_filename, overlay_file, stepped, all_stepped}
-use Rattle.flat_machine.specs.Sights.{AgreesWith}
+use Rattle.flat_machine.specs.Sights.{AgreesWith, mapped_at}
 use Rattle.flat_machine.specs.Agreement.{Contents, AreAsKnown, Agrees}
-use Rattle.flat_machine.specs.Performing.{HeldSame, Nothing, Can, Performed, AllCan, AllPerformed}
+use Rattle.flat_machine.specs.Performing.{HeldSame, Nothing, Rewrites, Can, Performed, AllCan, AllPerformed}
 use Rattle.flat_machine.specs.Writing.{written_file}
 use Rattle.flat_machine.specs.Wiring.{TableStands}
 use Rattle.flat_machine.specs.Standing.{IsOpenlyKnown, Stands}
 use Rattle.flat_machine.specs.Suiting.{IsThere, HasNoNode, SuitsFile, SuitsFormat, SuitsFilter, FormattingSuits, RemovalSuits, Suits, AllSuit}
-use Rattle.flat_machine.specs.Imaging.{maps_some, image_at, is_qcow2, is_qcow2_at, ShowsImage, ShowsImages, StayInFiles, KeepsImages, AllKeepImages}
-use Rattle.flat_machine.proofs.Finds.{find-filter}
+use Rattle.flat_machine.specs.Imaging.{maps_some, image_at, is_qcow2, is_qcow2_at, ShowsImage, ShowsImages, StayInFiles, PullKeepsImages, KeepsImages, AllKeepImages}
+use Rattle.flat_machine.proofs.Finds.{cases_found, find-filter}
 use Rattle.flat_machine.proofs.Fresh.{found-new}
 use Rattle.flat_machine.proofs.Kept.{change_keeps}
 use Rattle.flat_machine.proofs.Wired.{Grows, NoRow, NoEdge}
@@ -70,6 +73,36 @@ same_writable id row = record { id = by_id (row.id == id); kind = by_kind (row.i
     by_kind false = refl
 
     by_name : (b : Bool) → (cond b (writable row) row).filename ≡ row.filename
+    by_name true = refl
+    by_name false = refl
+
+same_settled : (id : ℕ) (row : NodeRecord) → IsSameRow (node_changed id settled) row
+same_settled id row = record { id = by_id (row.id == id); kind = by_kind (row.id == id); filename = by_name (row.id == id) }
+  where
+    by_id : (b : Bool) → (cond b (settled row) row).id ≡ row.id
+    by_id true = refl
+    by_id false = refl
+
+    by_kind : (b : Bool) → (cond b (settled row) row).kind ≡ row.kind
+    by_kind true = refl
+    by_kind false = refl
+
+    by_name : (b : Bool) → (cond b (settled row) row).filename ≡ row.filename
+    by_name true = refl
+    by_name false = refl
+
+same_read_only : (id : ℕ) (row : NodeRecord) → IsSameRow (node_changed id kept_from_writes) row
+same_read_only id row = record { id = by_id (row.id == id); kind = by_kind (row.id == id); filename = by_name (row.id == id) }
+  where
+    by_id : (b : Bool) → (cond b (kept_from_writes row) row).id ≡ row.id
+    by_id true = refl
+    by_id false = refl
+
+    by_kind : (b : Bool) → (cond b (kept_from_writes row) row).kind ≡ row.kind
+    by_kind true = refl
+    by_kind false = refl
+
+    by_name : (b : Bool) → (cond b (kept_from_writes row) row).filename ≡ row.filename
     by_name true = refl
     by_name false = refl
 
@@ -374,6 +407,63 @@ remove_images s node old new suits stands held h = λ other. by_node other (case
         })
         (h other)
 
+-- ---- a filter that goes
+
+pull_images : (s : State) (filter : ℕ) (old new : Contents) → PullKeepsImages s.table filter → HeldSame Nothing old new → ShowsImages s old
+    → ShowsImages (stepped s (change.PullFilter filter)) new
+unfolding changed
+pull_images s filter old new keeps held h =
+    images_still s now old new refl (record { kind = λ node. by_node node (cases_eq node filter); file = keeps.file })
+    (λ n name image is. held name (λ never. never)) h
+  where
+    now : State
+    now = stepped s (change.PullFilter filter)
+
+    by_node : (node : ℕ) → ((node ≡ filter) ⊎ (node ≢ filter)) → is_qcow2_at now.table node ≡ is_qcow2_at s.table node
+    by_node node (inl same) = subst (λ n. is_qcow2_at now.table n ≡ is_qcow2_at s.table n) (sym same)
+        (ap is_image_row (find_dropped (λ (r : NodeRecord). r.id == filter) s.table.nodes) ∙ sym keeps.other)
+    by_node node (inr differ) = ap is_image_row
+        (find-filter (λ (r : NodeRecord). r.id == node) (λ r. not (r.id == filter))
+        (λ r e. ap not (ne_eqb r.id filter (λ same. differ (sym (eqb-true r.id node e) ∙ same)))) s.table.nodes)
+
+-- ---- a header that is rewritten
+
+backing_other : (n node : ℕ) (backing : Option ℕ) (edges : List Edge) → child_of (Node n) File (with_backing node backing edges) ≡ child_of (Node n) File edges
+backing_other n node None edges = children_removed (Node node) Backing edges (Node n) File (no_file (n == node))
+  where
+    no_file : (b : Bool) → (b && false) ≡ false
+    no_file true = refl
+    no_file false = refl
+backing_other n node (Some below) edges = child-role (Node n) File (node_edge node Backing below) edges refl
+
+rebase_images : (s : State) (node : ℕ) (backing : Option ℕ) (old new : Contents) → Rewrites s node old new → ShowsImages s old
+    → ShowsImages (stepped s (change.Rebase node backing)) new
+unfolding changed maps_some
+rebase_images s node backing old new did h = λ n. record { noted = (h n).noted; mapped = by_kind n (is_qcow2_at s.table n) refl }
+  where
+    now : State
+    now = stepped s (change.Rebase node backing)
+
+    over : AreOverFiles s.table now.table
+    over = same_over_files s.table now.table refl
+        (λ n. child_of-refreshed (kinds_of s.table.nodes) (Node n) File (with_backing node backing s.table.edges) ∙ backing_other n node backing s.table.edges)
+
+    rewritten : (n : ℕ) (name file : List ℕ) → written_file s.table n ≡ Some name → (before : Option (List ℕ)) → old.held name ≡ before
+        → With before (λ bytes. maps_none file (header_of file) ≡ maps_none bytes (header_of bytes)) → AgreesWith (mapped_at s.images n) (maps_some file)
+    rewritten n name file was None e same = absurd same
+    rewritten n name file was (Some bytes) e same =
+        subst (λ (b : Bool). AgreesWith (mapped_at s.images n) b) (ap not (sym same)) ((h n).mapped name bytes was e)
+
+    by_kind : (n : ℕ) (b : Bool) → is_qcow2_at s.table n ≡ b → (name file : List ℕ) → written_file now.table n ≡ Some name
+        → new.held name ≡ Some file → AgreesWith (mapped_at now.images n) (maps_some file)
+    by_kind n false e name file is told = nothing_said now.images n (maps_some file) ((h n).noted ∙ e)
+    by_kind n true e name file is told =
+        let was : written_file s.table n ≡ Some name = over.file n name e is in
+        elim (cases_found (written_file s.table node) name) [
+          | inl its ↦ rewritten n name file was (old.held name) refl (did.mapping name file its told)
+          | inr other ↦ (h n).mapped name file was (sym (did.files name other) ∙ told)
+        ]
+
 -- ---- every kind
 
 pub images_keep : (s : State) (c : Change) (old new : Contents) → Suits s c → Can s c → KeepsImages s c → TableStands s.table → AreAsKnown s old
@@ -419,6 +509,22 @@ images_keep s (change.UseNode slot what node) old new suits can keeps stands kno
 images_keep s (change.StartJob row) old new suits can keeps stands known did h =
     over_same s (stepped s (change.StartJob row)) old new (named_images (overlay_file s.table row row.kind) s) refl refl did.files h
 images_keep s (change.AskJob number asked) old new suits can keeps stands known did h = over_same s (stepped s (change.AskJob number asked)) old new refl refl refl did.files h
+images_keep s (change.ReadyJob number) old new suits can keeps stands known did h = over_same s (stepped s (change.ReadyJob number)) old new refl refl refl did.files h
+images_keep s (change.EndJob number slot drops) old new suits can keeps stands known did h =
+    over_rewired s (stepped s (change.EndJob number slot drops)) old new (without_parent (Job slot) s.table.edges) refl refl
+    (λ n. child_of-refreshed (kinds_of s.table.nodes) (Node n) File (without_parent (Job slot) s.table.edges))
+    (λ n. child-without (Job slot) (Node n) File s.table.edges (λ same. cc)) did.files h
+images_keep s (change.PullFilter filter) old new suits can keeps stands known did h = pull_images s filter old new keeps did.files h
+images_keep s (change.Rebase node backing) old new suits can keeps stands known did h = rebase_images s node backing old new did h
+images_keep s (change.Settle node disk) old new suits can keeps stands known did h =
+    images_still s (stepped s (change.Settle node disk)) old new refl
+    (mapped_over_files s.table (changed s.table (change.Settle node disk)) (node_changed node settled) (same_settled node) refl (λ n. refl))
+    (λ n name image is. did.files name (λ never. never)) h
+images_keep s (change.MakeReadOnly id) old new suits can keeps stands known did h =
+    images_still s (stepped s (change.MakeReadOnly id)) old new refl
+    (mapped_over_files s.table (changed s.table (change.MakeReadOnly id)) (node_changed id kept_from_writes) (same_read_only id) refl
+    (λ n. child_of-refreshed (kinds_of (with_read_only id s.table.nodes)) (Node n) File s.table.edges))
+    (λ n name image is. did.files name (λ never. never)) h
 images_keep s (change.AddDevice device node) old new suits can keeps stands known did h =
     over_rewired s (stepped s (change.AddDevice device node)) old new (with_edge (device_edge device node) s.table.edges) refl refl
     (λ n. child_of-refreshed (kinds_of s.table.nodes) (Node n) File (with_edge (device_edge device node) s.table.edges))

@@ -1,6 +1,6 @@
 -- Each kind of change keeps what nodes read as and what files hold as the flat machine says.
 use Rattle.std.proofs.Common.{◌≡◌, ℕ, suc, Bool, true, false, cond, List, [], ◌∷◌, ◌++◌, map, length, replicate, refl, sym, ap, subst, ◌∙◌, inl, inr, Option, Some, None, option_map}
-use Rattle.std.specs.Prelude.{◌==◌, ◌&&◌, not, max, All, option_and_then, unwrap_or, is_none, IsSome}
+use Rattle.std.specs.Prelude.{◌==◌, ◌&&◌, slice_index_or, not, max, All, option_and_then, unwrap_or, is_none, IsSome}
 use Rattle.std.specs.List.{find, filter}
 use Rattle.std.proofs.lemmas.Bool.{eqb-true}
 use Rattle.std.proofs.lemmas.List.Elements.{All-push}
@@ -8,7 +8,9 @@ use Rattle.q2_format.specs.Contents.{file_disk, raw_disk, image_disk}
 use Rattle.q2_format.specs.Created.{Creation, created_length, creation_of}
 use Rattle.q2_format.proofs.Unmapped.{created_disk}
 use Rattle.blk_graph.specs.declared.edge.Role.{Role}
-use Rattle.blk_graph.specs.declared.edge.Role.TheVariants.{Backing}
+use Rattle.blk_graph.specs.declared.edge.Role.TheVariants.{File, Backing}
+use Rattle.qmp_rules.specs.declared.change.NewDisk.{NewDisk}
+use Rattle.qmp_rules.specs.declared.change.NewDisk.TheVariants.{OfNode, OfStart}
 use Rattle.blk_graph.specs.declared.kind.Kind.{Kind}
 use Rattle.blk_graph.specs.declared.kind.Kind.TheVariants.{Protocol, Raw, Qcow2, CopyOnRead, BeforeWrite, Mirror, Commit}
 use Rattle.blk_graph.proofs.Members.{find-Some}
@@ -18,17 +20,17 @@ use Rattle.qmp_rules.specs.declared.change.Change.{Change}
 use Rattle.qmp_rules.specs.declared.change.Change.TheVariants as change
 use Rattle.qmp_rules.specs.Table.{RunTable, node_by_id, child}
 use Rattle.qmp_rules.specs.Chains.{filter_role, filtered, disk_from, disk_node}
-use Rattle.qmp_rules.specs.Changes.{changed, node_changed, unsettled, writable, with_unsettled, stands_over, lost_with}
+use Rattle.qmp_rules.specs.Changes.{changed, node_changed, unsettled, writable, kept_from_writes, with_unsettled, stands_over, lost_with}
 use Rattle.qmp_rules.specs.Asks.{name_of_file}
 use Rattle.blk_history.specs.Fold.{With}
 use Rattle.flat_machine.specs.State.{State, Content, Bytes, Blank, Unknown, Left, Mapped, bytes_in, bytes_at_node, content_in, filename_of}
 use Rattle.flat_machine.specs.Contents.{file_bytes, image_bytes, formatted, length_in, mapped_in, with_content}
-use Rattle.flat_machine.specs.Changed.{put, make, name_file, name_if, stepped, all_stepped, content_under, bytes_below, bytes_by_format, format_name, know_if, note_image, with_bytes_of, leave, left_in, left_disk, own_filename, overlay_file}
+use Rattle.flat_machine.specs.Changed.{new_bytes, put, make, name_file, name_if, stepped, all_stepped, content_under, bytes_below, bytes_by_format, format_name, know_if, note_image, with_bytes_of, leave, left_in, left_disk, own_filename, written_file, overlay_file}
 use Rattle.flat_machine.specs.Final.{IsDiskIn}
 use Rattle.flat_machine.specs.Agreement.{Contents, HasDisk, ReadAsDisks, IsBlank, IsAsKnown, AreAsKnown, AreAbsent, IsLeftAs, Agrees}
-use Rattle.flat_machine.specs.Performing.{ReadSame, HeldSame, Nothing, IsQuiet, Puts, Removes, ChangesFileAlone, IsWholly, IsReadable, CanFileBeRead, IsBacking, CanAddFile, CanAddFormat, CanAddFilter, Can, Performed, AllCan, AllPerformed, held_bytes, backing_reads, format_as, IsFormatted}
-use Rattle.flat_machine.proofs.Finds.{find-map, bytes_eq-same}
-use Rattle.flat_machine.proofs.Agreeing.{RowsBut, rows_same, rows_pushed, rows_filter, rows_mapped, rows_dropped, less_unsettled, same_unsettled, less_writable, same_writable, disks_kept, disks_but, disks_put, disks_dropped, known_kept, known_put, absent_kept, absent_put, unchanged_kept, unchanged_named, left_kept, left_forgot}
+use Rattle.flat_machine.specs.Performing.{ReadSame, HeldSame, Nothing, IsQuiet, Puts, Removes, ChangesFileAlone, IsWholly, IsReadable, CanFileBeRead, IsBacking, CanAddFile, CanAddFormat, CanAddFilter, Can, Performed, AllCan, AllPerformed, IsSettledLike, settled_as, CanRewrite, Rewrites, held_bytes, backing_reads, format_as, IsFormatted}
+use Rattle.flat_machine.proofs.Finds.{find-map, bytes_eq-same, cases_found}
+use Rattle.flat_machine.proofs.Agreeing.{RowsBut, rows_same, rows_pushed, rows_filter, rows_mapped, rows_dropped, less_unsettled, same_unsettled, less_writable, same_writable, less_read_only, same_read_only, rows_settled, disks_kept, disks_but, disks_put, disks_dropped, known_kept, known_put, absent_kept, absent_put, unchanged_kept, unchanged_named, left_kept, left_forgot}
 
 own_node : (t : RunTable) (id : ℕ) (more : ℕ) → filtered t id ≡ None → disk_from (suc more) t id ≡ id
 own_node t id more none = rw (none, disk_from) refl
@@ -528,6 +530,59 @@ module _ (opening : List ℕ → Option (List ℕ)) where
   still_keeps s now old new nodes disks files left named q h =
       quiet_keeps s now old new (rows_same s now nodes) disks files left named q h
 
+  -- ---- what ends of jobs bring
+
+  -- a filter goes, which says nothing by itself
+  pulled : (s : State) (filter : ℕ) → RowsBut Nothing s (stepped s (change.PullFilter filter))
+  unfolding changed
+  pulled s filter node row found disk = inr (rows_dropped s (stepped s (change.PullFilter filter)) filter refl node row found disk).1
+
+  -- a node has a disk again: what it reads as
+  settle_keeps : (s : State) (node : ℕ) (disk : NewDisk) (old new : Contents) → IsSettledLike s disk
+      → Puts node (settled_as s old disk) old new → Agrees opening s old → Agrees opening (stepped s (change.Settle node disk)) new
+  unfolding changed
+  settle_keeps s node disk old new can did h =
+      let now : State = stepped s (change.Settle node disk) in
+      record {
+        disks = disks_put s now old new node (new_bytes s disk) (rows_settled s now node refl) refl did.nodes (did.reads_as ∙ bytes_are disk can) h.disks;
+        known = known_kept s now old new refl did.files h.known;
+        absent = absent_kept s now old new refl did.files h.absent;
+        left = left_kept s now old new refl did.files h.left;
+        unchanged = unchanged_kept s now old new opening refl did.files h.unchanged;
+      }
+    where
+      bytes_are : (d : NewDisk) → IsSettledLike s d → settled_as s old d ≡ new_bytes s d
+      bytes_are (OfNode source) like = backing_bytes s old source h.disks (node_by_id s.table source) refl like
+      bytes_are (OfStart job) like = refl
+
+  -- a header is rewritten: the file alone changes, of which nothing is known
+  rewrite_keeps : (s : State) (node : ℕ) (backing : Option ℕ) (old new : Contents) → CanRewrite s node
+      → Rewrites s node old new → Agrees opening s old → Agrees opening (stepped s (change.Rebase node backing)) new
+  unfolding changed
+  rewrite_keeps s node backing old new can did h = record {
+    disks = disks_but s now old new (λ other. child s.table node File ≡ Some other) (rows_same s now refl)
+        (λ n row found disk is. can.under n row is found disk) refl did.nodes h.disks;
+    known = λ name content found. by_file name content found;
+    absent = λ name none. did.files name (λ is. let known = can.known name is in cc) ∙ h.absent name none;
+    left = kept_left;
+    unchanged = λ name not_named. did.files name (λ is. let named = can.named name is in cc) ∙ h.unchanged name not_named;
+  }
+    where
+      now : State
+      now = stepped s (change.Rebase node backing)
+
+      by_file : (name : List ℕ) (content : Content) → content_in s.files name ≡ Some content → IsAsKnown content (new.held name)
+      by_file name content found = elim (cases_found (written_file s.table node) name) [
+        | inl is ↦ let unknown = can.known name is in let same : Unknown ≡ content = cc in subst (λ c. IsAsKnown c (new.held name)) same tt
+        | inr other ↦ subst (IsAsKnown content) (sym (did.files name other)) (h.known name content found)
+      ]
+
+      kept_left : All (IsLeftAs new) s.left
+      kept_left k d within =
+          let l : Left = slice_index_or s.left k d in
+          subst (λ bytes. With bytes (IsDiskIn l.kind l.offset l.bytes))
+          (sym (did.files l.file (λ is. can.left l.file is k d within refl))) (h.left k d within)
+
   pub change_keeps : (s : State) (c : Change) (old new : Contents) → Can s c → Performed s c old new → Agrees opening s old
       → Agrees opening (stepped s c) new
   unfolding changed
@@ -559,6 +614,17 @@ module _ (opening : List ℕ → Option (List ℕ)) where
       let t : RunTable = changed s.table (change.StartJob row) in
       named_keeps (overlay_file s.table row row.kind) s t old new (rows_same s (record s { table = t }) refl) did h
   change_keeps s (change.AskJob number asked) old new can did h = still_keeps s (stepped s (change.AskJob number asked)) old new refl refl refl refl refl did h
+  change_keeps s (change.ReadyJob number) old new can did h = still_keeps s (stepped s (change.ReadyJob number)) old new refl refl refl refl refl did h
+  change_keeps s (change.EndJob number slot drops) old new can did h =
+      still_keeps s (stepped s (change.EndJob number slot drops)) old new refl refl refl refl refl did h
+  change_keeps s (change.PullFilter filter) old new can did h =
+      quiet_keeps s (stepped s (change.PullFilter filter)) old new (pulled s filter) refl refl refl refl did h
+  change_keeps s (change.Rebase node backing) old new can did h = rewrite_keeps s node backing old new can did h
+  change_keeps s (change.Settle node disk) old new can did h = settle_keeps s node disk old new can did h
+  change_keeps s (change.MakeReadOnly id) old new can did h =
+      let now : State = stepped s (change.MakeReadOnly id) in
+      let rows = rows_mapped s now (node_changed id kept_from_writes) (same_read_only id) (less_read_only id) refl in
+      quiet_keeps s now old new rows refl refl refl refl did h
   change_keeps s (change.AddDevice device node) old new can did h = still_keeps s (stepped s (change.AddDevice device node)) old new refl refl refl refl refl did h
   change_keeps s (change.RemoveDevice number) old new can did h = still_keeps s (stepped s (change.RemoveDevice number)) old new refl refl refl refl refl did h
   change_keeps s (change.Attach overlay node) old new can did h = attach_keeps s overlay node old new can did h

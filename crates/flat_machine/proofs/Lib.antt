@@ -12,6 +12,7 @@ pub mod TablesKept
 pub mod WritingKept
 pub mod WritingAdded
 pub mod DevicesGone
+pub mod JobEdges
 pub mod FilesStand
 pub mod StandingKept
 pub mod TableSuited

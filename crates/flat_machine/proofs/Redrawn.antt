@@ -3,7 +3,7 @@
 use Rattle.std.proofs.Common.{◌≡◌, ◌≢◌, ℕ, ◌<◌, Bool, true, false, cond, List, [], ◌∷◌, map, replicate, refl, sym, ap, subst, ◌∙◌, inl, inr, Option, Some, None, option_map}
 use Rattle.std.specs.Prelude.{◌==◌, ◌&&◌, not, IsSome}
 use Rattle.std.specs.List.{filter, find, Contains}
-use Rattle.std.proofs.lemmas.Bool.{eqb-true, ne_eqb}
+use Rattle.std.proofs.lemmas.Bool.{and_right, eqb-true, ne_eqb}
 use Rattle.blk_graph.specs.declared.edge.Edge.{Edge}
 use Rattle.blk_graph.specs.declared.edge.Parent.{Parent}
 use Rattle.blk_graph.specs.declared.edge.Parent.TheVariants.{Node, Guest, Job}
@@ -15,7 +15,7 @@ use Rattle.blk_graph.specs.declared.kind.Kind.{Kind}
 use Rattle.blk_graph.specs.declared.kind.Kind.TheVariants.{CopyOnRead}
 use Rattle.blk_graph.specs.declared.kind.NodeKind.{NodeKind}
 use Rattle.blk_graph.specs.Edges.{same_parent, same_role}
-use Rattle.blk_graph.specs.Edits.{child_after, child_of, replaced, stays, with_child, with_edge, with_replaced, without_parent}
+use Rattle.blk_graph.specs.Edits.{child_after, child_of, is_edge, replaced, stays, with_child, with_edge, with_replaced, without_edge, without_parent}
 use Rattle.blk_graph.specs.Graph.{Graph, HasNode, HasParent, FitsIn, IsFit}
 use Rattle.blk_graph.specs.Paths.{IsAcyclic, Reaches}
 use Rattle.blk_graph.specs.Permissions.{has_role, job_edge, job_role, node_edge}
@@ -23,7 +23,7 @@ use Rattle.blk_graph.specs.Refreshed.{kind_at, no_kind, refreshed, IsOf, IsRefre
 use Rattle.blk_graph.proofs.Members.{Contains-filter, Contains-map, find-Some}
 use Rattle.blk_graph.proofs.ChildLemmas.{child-without}
 use Rattle.blk_graph.proofs.CycleLemmas.{and-left}
-use Rattle.blk_graph.proofs.DraftLemmas.{children_replaced}
+use Rattle.blk_graph.proofs.DraftLemmas.{children_removed, children_replaced}
 use Rattle.blk_graph.proofs.EditLemmas.{IsSameEdge, Contains-with_edge, Contains-with_edge_new}
 use Rattle.blk_graph.proofs.FitLemmas.{IsFit-filter, IsFit-refreshed, IsFit-replaced, IsFit-with_edge, listed_fit}
 use Rattle.blk_graph.proofs.PathLemmas.{IsAcyclic-covered, Reaches-edge}
@@ -32,11 +32,11 @@ use Rattle.qmp_rules.specs.declared.change.Change.{Change}
 use Rattle.qmp_rules.specs.declared.change.Change.TheVariants as change
 use Rattle.qmp_rules.specs.declared.rows.NodeRecord.{NodeRecord}
 use Rattle.qmp_rules.specs.Chains.{filter_role}
-use Rattle.qmp_rules.specs.Changes.{changed, all_changed, device_edge, lost_with, node_changed, stands_over, unsettled, writable}
+use Rattle.qmp_rules.specs.Changes.{changed, all_changed, device_edge, kept_from_writes, lost_with, node_changed, rewired, settled, stands_over, unsettled, writable}
 use Rattle.qmp_rules.specs.Fitting.{ChangeFits, AllChangesFit}
 use Rattle.qmp_rules.specs.Table.{RunTable, child, kind_of_record, kinds_of, node_by_id}
 use Rattle.flat_machine.specs.Rewiring.{keeps_nodes, AllKeepNodes}
-use Rattle.flat_machine.specs.Suiting.{HaveOneSize, IsThere, IsUnderNoFormat, SuitsAttach, TableSuits, AllTableSuit}
+use Rattle.flat_machine.specs.Suiting.{HaveOneSize, IsThere, IsUnderNoFormat, TableSuits, AllTableSuit}
 use Rattle.flat_machine.specs.Wiring.{HaveDistinctIds, TableStands}
 use Rattle.flat_machine.proofs.Finds.{find-map}
 use Rattle.flat_machine.proofs.RowKinds.{kind_or, kind_by, kinds-mapped}
@@ -257,6 +257,13 @@ module _ (g : Graph) (small : (n : ℕ) → HasNode g n → n < 64) (t now : Run
       ])
       (λ row found format. child-role (Node row.id) File new t.edges other)
 
+  -- a node's backing edge goes
+  keeps_unbacked : (node : ℕ) → now.edges ≡ refreshed (kinds_of now.nodes) (without_edge (Node node) Backing t.edges) → Keeps g t now
+  keeps_unbacked node derived = keeps_edit g small t now (without_edge (Node node) Backing t.edges) derived h (nodes_same t now nodes)
+      (λ fit. refit (without_edge (Node node) Backing t.edges) (IsFit-filter (kinded g t) (λ e. not (is_edge (Node node) Backing e)) t.edges fit))
+      (λ sized e there. sized e (Contains-filter (λ x. not (is_edge (Node node) Backing x)) t.edges e there).0)
+      (λ row found format. children_removed (Node node) Backing t.edges (Node row.id) File (and_right (same_parent (Node row.id) (Node node)) false refl))
+
   -- edges of a guest or of a job go
   keeps_without : (gone : Parent) → ((n : ℕ) → gone ≢ Node n) → now.edges ≡ refreshed (kinds_of now.nodes) (without_parent gone t.edges) → Keeps g t now
   keeps_without gone other derived = keeps_edit g small t now (without_parent gone t.edges) derived h (nodes_same t now nodes)
@@ -392,6 +399,27 @@ same_writable id row = by_test (row.id == id)
     by_test true = record { id = refl; kind = refl; size = refl; offset = refl }
     by_test false = same_row_itself row
 
+same_read_only : (id : ℕ) (row : NodeRecord) → IsSameNode row (node_changed id kept_from_writes row)
+same_read_only id row = by_test (row.id == id)
+  where
+    by_test : (b : Bool) → IsSameNode row (cond b (kept_from_writes row) row)
+    by_test true = record { id = refl; kind = refl; size = refl; offset = refl }
+    by_test false = same_row_itself row
+
+same_settled : (id : ℕ) (row : NodeRecord) → IsSameNode row (node_changed id settled row)
+same_settled id row = by_test (row.id == id)
+  where
+    by_test : (b : Bool) → IsSameNode row (cond b (settled row) row)
+    by_test true = record { id = refl; kind = refl; size = refl; offset = refl }
+    by_test false = same_row_itself row
+
+kind_settled : (id : ℕ) (row : NodeRecord) → kind_of_record (node_changed id settled row) ≡ kind_of_record row
+kind_settled id row = by_test (row.id == id)
+  where
+    by_test : (b : Bool) → kind_of_record (cond b (settled row) row) ≡ kind_of_record row
+    by_test true = refl
+    by_test false = refl
+
 -- no job's edge is to a format node's file
 job_other : (what : JobUse) → same_role (job_role what) File ≡ false
 job_other CopyTarget = refl
@@ -408,51 +436,52 @@ module _ (t now : RunTable) (new : Edge) (h : TableStands now) (derived : now.ed
       let like = refreshed-new (kinds_of now.nodes) (with_edge new t.edges) new (Contains-with_edge_new new t.edges) in
       record { edge = like.edge; there = subst (λ es. Contains es like.edge) (sym derived) like.there; same = like.same }
 
-  new_child : IsThere now new.child
-  new_child = subst (IsThere now) new_like.same.child (h.edges new_like.edge new_like.there).child
-
   new_role : (row : NodeRecord) → Contains now.nodes row → new.parent ≡ Node row.id → has_role row.kind new.role ≡ true
   new_role row there from =
       subst (λ role. has_role row.kind role ≡ true) new_like.same.role
       (h.roles new_like.edge row new_like.there there (new_like.same.parent ∙ from))
 
 module _ (g : Graph) (small : (n : ℕ) → HasNode g n → n < 64) (t : RunTable) (there : (n : ℕ) → IsThere t n → HasNode g n) (h : TableStands t) where
-  attach_keeps : (overlay node : ℕ) → SuitsAttach t overlay node → Keeps g t (changed t (change.Attach overlay node))
-  unfolding changed
-  attach_keeps overlay node suits =
-      keeps_put g small t now refl suits.stands new refl
-      (record { parent = there overlay (subst IsSome (sym suits.sizes.found) refl); child = there node (subst IsSome (sym suits.sizes.other_found) refl); table = table })
+  abbrev backed : ℕ → ℕ → RunTable
+  backed over below = rewired t.nodes (with_edge (node_edge over Backing below) t.edges) t
+
+  -- a node gets a backing node of its size
+  backed_keeps : (over below : ℕ) → HaveOneSize t over below → TableStands (backed over below) → Keeps g t (backed over below)
+  backed_keeps over below sizes stands =
+      keeps_put g small t (backed over below) refl stands new refl
+      (record {
+        parent = there over (subst IsSome (sym sizes.found) refl);
+        child = there below (subst IsSome (sym sizes.other_found) refl);
+        table = table;
+      })
       own refl
     where
-      now : RunTable
-      now = changed t (change.Attach overlay node)
-
       new : Edge
-      new = node_edge overlay Backing node
+      new = node_edge over Backing below
 
-      here : Contains t.nodes suits.sizes.row × ((suits.sizes.row.id == overlay) ≡ true)
-      here = find-Some (λ r. r.id == overlay) t.nodes suits.sizes.row suits.sizes.found
+      here : Contains t.nodes sizes.row × ((sizes.row.id == over) ≡ true)
+      here = find-Some (λ r. r.id == over) t.nodes sizes.row sizes.found
 
-      overlay_is : suits.sizes.row.id ≡ overlay
-      overlay_is = eqb-true suits.sizes.row.id overlay here.1
+      over_is : sizes.row.id ≡ over
+      over_is = eqb-true sizes.row.id over here.1
 
-      table : has_role (kind_at (kinds_of t.nodes) overlay).kind Backing ≡ true
+      table : has_role (kind_at (kinds_of t.nodes) over).kind Backing ≡ true
       table =
-          let less = small overlay (there overlay (subst IsSome (sym suits.sizes.found) refl)) in
-          subst (λ k. has_role k Backing ≡ true) (sym (ap (λ (k : NodeKind). k.kind) (kind_by t overlay h.apart less ∙ ap (kind_or no_kind) suits.sizes.found)))
-          (new_role t now new suits.stands refl suits.sizes.row here.0 (ap Node (sym overlay_is)))
+          let less = small over (there over (subst IsSome (sym sizes.found) refl)) in
+          subst (λ k. has_role k Backing ≡ true) (sym (ap (λ (k : NodeKind). k.kind) (kind_by t over h.apart less ∙ ap (kind_or no_kind) sizes.found)))
+          (new_role t (backed over below) new stands refl sizes.row here.0 (ap Node (sym over_is)))
 
       own : IsSizedEdge t new
-      own over under over_at under_at from to keeps =
-          let parents : Node overlay ≡ Node over.id = from in
-          let ids : over.id ≡ overlay = cc in
-          let over_found : node_by_id t overlay ≡ Some over = subst (λ n. node_by_id t n ≡ Some over) ids over_at in
-          let under_found : node_by_id t node ≡ Some under = subst (λ n. node_by_id t n ≡ Some under) (sym to) under_at in
-          let overlay_found = suits.sizes.found in
-          let node_found = suits.sizes.other_found in
-          let over_row : over ≡ suits.sizes.row = cc in
-          let under_row : under ≡ suits.sizes.other = cc in
-          ap (λ r. r.size) under_row ∙ sym suits.sizes.same ∙ ap (λ r. r.size) (sym over_row)
+      own upper under upper_at under_at from to keeps =
+          let parents : Node over ≡ Node upper.id = from in
+          let ids : upper.id ≡ over = cc in
+          let upper_found : node_by_id t over ≡ Some upper = subst (λ n. node_by_id t n ≡ Some upper) ids upper_at in
+          let under_found : node_by_id t below ≡ Some under = subst (λ n. node_by_id t n ≡ Some under) (sym to) under_at in
+          let over_found = sizes.found in
+          let below_found = sizes.other_found in
+          let upper_row : upper ≡ sizes.row = cc in
+          let under_row : under ≡ sizes.other = cc in
+          ap (λ r. r.size) under_row ∙ sym sizes.same ∙ ap (λ r. r.size) (sym upper_row)
 
   pub change_keeps_nodes : (c : Change) → keeps_nodes c ≡ true → TableSuits t c → ChangeFits t c → Keeps g t (changed t c)
   unfolding changed
@@ -482,17 +511,31 @@ module _ (g : Graph) (small : (n : ℕ) → HasNode g n → n < 64) (t : RunTabl
       keeps_access g small t now (nodes_mapped t now (node_changed id writable) (same_writable id) refl) h.apart suits refl
   change_keeps_nodes (change.PutFilter row node) is suits fits = absurd cc
   change_keeps_nodes (change.UseNode slot what node) is suits fits =
-      let now : RunTable = changed t (change.UseNode slot what node) in
-      let new : Edge = job_edge slot what node in
-      keeps_put g small t now refl suits new refl
+      keeps_put g small t (changed t (change.UseNode slot what node)) refl (table_keeps t (change.UseNode slot what node) suits h)
+      (job_edge slot what node) refl
       (record {
         parent = fits;
-        child = there node (new_child t now new suits refl);
+        child = there node (subst IsSome (sym suits.there) refl);
         table = record { job = slot; what = what; is = refl };
       })
       (λ over under over_at under_at from to keeps. absurd cc) (job_other what)
   change_keeps_nodes (change.StartJob row) is suits fits = keeps_same g t (changed t (change.StartJob row)) refl refl
   change_keeps_nodes (change.AskJob number asked) is suits fits = keeps_same g t (changed t (change.AskJob number asked)) refl refl
+  change_keeps_nodes (change.ReadyJob number) is suits fits = keeps_same g t (changed t (change.ReadyJob number)) refl refl
+  change_keeps_nodes (change.EndJob number slot drops) is suits fits =
+      keeps_without g small t (changed t (change.EndJob number slot drops)) refl
+      (table_keeps t (change.EndJob number slot drops) suits h) (Job slot) (λ n same. cc) refl
+  change_keeps_nodes (change.PullFilter filter) is suits fits = absurd cc
+  change_keeps_nodes (change.Rebase node None) is suits fits =
+      keeps_unbacked g small t (changed t (change.Rebase node None)) refl suits.stands node refl
+  change_keeps_nodes (change.Rebase node (Some base)) is suits fits = backed_keeps node base (suits.sizes base refl) suits.stands
+  change_keeps_nodes (change.Settle node disk) is suits fits =
+      let now : RunTable = changed t (change.Settle node disk) in
+      keeps_still g t now (nodes_mapped t now (node_changed node settled) (same_settled node) refl)
+      (kinds-mapped (node_changed node settled) (λ r. (same_settled node r).id) (kind_settled node) t.nodes (replicate 64 no_kind)) refl
+  change_keeps_nodes (change.MakeReadOnly id) is suits fits =
+      let now : RunTable = changed t (change.MakeReadOnly id) in
+      keeps_access g small t now (nodes_mapped t now (node_changed id kept_from_writes) (same_read_only id) refl) h.apart suits refl
   change_keeps_nodes (change.AddDevice device node) is suits fits =
       let now : RunTable = changed t (change.AddDevice device node) in
       keeps_put g small t now refl (table_keeps t (change.AddDevice device node) suits h) (device_edge device node) refl
@@ -505,7 +548,7 @@ module _ (g : Graph) (small : (n : ℕ) → HasNode g n → n < 64) (t : RunTabl
   change_keeps_nodes (change.RemoveDevice number) is suits fits =
       keeps_without g small t (changed t (change.RemoveDevice number)) refl (table_keeps t (change.RemoveDevice number) suits h) (Guest number)
       (λ n same. cc) refl
-  change_keeps_nodes (change.Attach overlay node) is suits fits = attach_keeps overlay node suits
+  change_keeps_nodes (change.Attach overlay node) is suits fits = backed_keeps overlay node suits.sizes suits.stands
   change_keeps_nodes (change.Move from to but) is suits fits =
       keeps_moved g small t (changed t (change.Move from to but)) refl there h suits.stands from to but suits.sizes suits.free refl
   change_keeps_nodes (change.AddBitmap row) is suits fits = keeps_same g t (changed t (change.AddBitmap row)) refl refl

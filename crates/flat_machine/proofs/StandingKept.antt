@@ -5,18 +5,20 @@ use Rattle.std.specs.List.{find, Contains}
 use Rattle.std.proofs.lemmas.Bool.{eqb-true, eqb-false, ne_eqb, cases_eq}
 use Rattle.std.proofs.lemmas.List.Elements.{All-weaker}
 use Rattle.blk_graph.specs.declared.edge.Edge.{Edge}
-use Rattle.blk_graph.specs.declared.edge.Parent.TheVariants.{Node, Guest}
+use Rattle.blk_graph.specs.declared.edge.Parent.TheVariants.{Node, Guest, Job}
 use Rattle.blk_graph.specs.declared.edge.Role.TheVariants.{Drive, File, Backing}
+use Rattle.blk_graph.specs.declared.kind.JobUse.{JobUse}
 use Rattle.blk_graph.specs.declared.kind.NodeKind.{NodeKind}
 use Rattle.blk_graph.specs.Edges.{same_parent}
 use Rattle.blk_graph.specs.Edits.{child_of, takes_place, with_edge, without_parent}
 use Rattle.blk_graph.specs.Refreshed.{refreshed}
-use Rattle.blk_graph.specs.Permissions.{node_edge}
+use Rattle.blk_graph.specs.Permissions.{node_edge, job_edge}
 use Rattle.blk_graph.proofs.Members.{find-Some, Contains-filter}
 use Rattle.blk_graph.proofs.CycleLemmas.{same_parent-true}
 use Rattle.blk_graph.proofs.EditLemmas.{Contains-with_edge_new}
 use Rattle.qmp_rules.specs.declared.rows.NodeRecord.{NodeRecord}
 use Rattle.qmp_rules.specs.declared.rows.DeviceRow.{DeviceRow}
+use Rattle.qmp_rules.specs.declared.rows.JobRecord.{JobRecord}
 use Rattle.qmp_rules.specs.declared.rows.FileState.{FileState}
 use Rattle.qmp_rules.specs.declared.rows.FileState.TheVariants.{Made, Formatted, Used}
 use Rattle.qmp_rules.specs.declared.change.Change.{Change}
@@ -25,10 +27,10 @@ use Rattle.qmp_rules.specs.Table.{RunTable, node_by_id, file_state, has_name, ki
 use Rattle.qmp_rules.specs.Changes.{changed, node_changed, unsettled, with_unsettled, without_record, with_format_edges, with_backing_edge, device_edge}
 use Rattle.flat_machine.specs.State.{State, Content, Unknown, content_in, filename_of}
 use Rattle.flat_machine.specs.Contents.{with_content, mapped_in}
-use Rattle.flat_machine.specs.Changed.{stepped, all_stepped, know_if, content_under, bytes_by_format, left_disk}
+use Rattle.flat_machine.specs.Changed.{stepped, all_stepped, name_if, name_file, overlay_file, know_if, content_under, bytes_by_format, left_disk}
 use Rattle.flat_machine.specs.Wiring.{StandsFor, IsUnder, TableStands}
 use Rattle.flat_machine.specs.Standing.{IsLostBy, IsOfState, IsOpenlyKnown, FilesAreOfState, IsUsedUp, WritingStands, Stands}
-use Rattle.flat_machine.specs.Suiting.{IsThere, FileSuits, FormatSuits, SuitsFilter, RemovalSuits, DeviceSuits, Suits, AllSuit}
+use Rattle.flat_machine.specs.Suiting.{IsThere, IsPlainNode, FileSuits, FormatSuits, SuitsFilter, RemovalSuits, UnsettleSuits, DeviceSuits, Suits, AllSuit}
 use Rattle.flat_machine.proofs.Finds.{content_in-with, content_in-with_other, cases_name}
 use Rattle.flat_machine.proofs.Accepted.{added_files}
 use Rattle.flat_machine.proofs.Kept.{with_format, left_alone}
@@ -37,8 +39,9 @@ use Rattle.flat_machine.proofs.Rows.{under-refreshed, IsLike, SameRows, rows-sam
 use Rattle.flat_machine.proofs.TablesKept.{new_parent, rows_table, file_table, format_table, filter_table, removed_table, device_table, rows_grow}
 use Rattle.flat_machine.proofs.Wired.{Grows, NoRow, NoEdge}
 use Rattle.flat_machine.proofs.WritingKept.{grown_writing, left_still}
-use Rattle.flat_machine.proofs.WritingAdded.{drive_there, same_devices, file_writing, format_writing, filter_writing, remove_writing, device_writing}
+use Rattle.flat_machine.proofs.WritingAdded.{has_name-grows, drive_there, same_devices, file_writing, format_writing, filter_writing, remove_writing, device_writing}
 use Rattle.flat_machine.proofs.DevicesGone.{gone_table, gone_writing}
+use Rattle.flat_machine.proofs.JobEdges.{over_table, over_writing, use_table, use_writing}
 use Rattle.flat_machine.proofs.FilesStand.{use_stands, spoil_stands, make_stands, format_stands}
 
 -- ---- one node more
@@ -383,37 +386,164 @@ device_gone_stands s number h =
           filter-keeps (λ x. not (same_parent x.parent (Guest number))) s.table.edges e (ap not apart) there;
     }
 
--- neither rows nor edges nor devices nor files change
+-- rows stay, but for their disks, and all else does
+rows_stand : (s now : State) → SameRows s.table now.table → now.table.edges ≡ s.table.edges → now.table.guests ≡ s.table.guests
+    → now.table.devices ≡ s.table.devices → now.table.files ≡ s.table.files → now.files ≡ s.files → now.disks ≡ s.disks
+    → now.left ≡ s.left → ((name : List ℕ) → has_name name s.named ≡ true → has_name name now.named ≡ true)
+    → ((name : List ℕ) (row later : NodeRecord) → StandsFor s.table name row → IsLike row later → Contains now.table.nodes later
+    → later.is_settled ≡ false → (row.is_settled ≡ false) ⊎ IsLostBy s.table name row)
+    → Stands s → Stands now
+rows_stand s now rows edges guests devices states files disks left named loses h = record {
+  table = rows_table s.table now.table rows edges guests devices h.table;
+  files = λ name later over.
+      let old = rows.back later over.there in
+      subst (λ fs. IsSome (content_in fs name)) (sym files) (h.files name old.0 (stood name later old over));
+  lost = λ name later over gone.
+      let old = rows.back later over.there in
+      let was = stood name later old over in
+      elim (loses name old.0 later was old.1.1 over.there gone) [
+        | inl unsettled_before ↦ as_before name old.0 later old.1.1 (h.lost name old.0 was unsettled_before)
+        | inr cause ↦ as_before name old.0 later old.1.1 cause
+      ];
+  states = λ name what found is_open. subst (λ st. IsOfState st what) (sym (state_same name))
+      (h.states name what (subst (λ fs. content_in fs name ≡ Some what) files found)
+      (λ row over under.
+      let after = stands name row over in
+      is_open after.0 after.1.0 (still_under row.id after.0.id after.1.1.id under)));
+  formatted = λ name is.
+      let row = h.formatted name (sym (state_same name) ∙ is) in
+      let after = stands name row.0 row.1 in (after.0, after.1.0);
+  writing = grown_writing s now (IsThere s.table) NoRow NoEdge grow
+      (record {
+        names = named;
+        names_new = λ name r never. absurd never;
+        known = λ name over under f is known. subst (λ fs. content_in fs name ≡ Some Unknown) (sym files) known;
+        known_new = λ name over under f never. absurd never;
+        bytes = λ node here some. subst (λ ds. IsSome (find (λ d. d.node == node) ds)) (sym disks) some;
+        bytes_new = λ r never. absurd never;
+        left = subst (All (IsUsedUp now)) (sym left)
+            (All-weaker (IsUsedUp s) (IsUsedUp now) (λ l used. left_still s now (IsThere s.table) NoRow NoEdge grow l
+            (ap (λ fs. option_map (λ r. r.state) (find (λ r. bytes_eq r.name l.file) fs)) states ∙ used.used)
+            (λ r never. absurd never) (λ e r never. absurd never) used) s.left h.writing.left);
+        written = λ node name here entered of known. subst (λ fs. content_in fs name ≡ Some Unknown) (sym files) known;
+        emptied = λ node name here entered of none. subst (All (λ l. l.file ≢ name)) (sym left) none;
+        devices = same_devices s now devices (λ g. ap (child_of (Guest g) Drive) edges);
+        drives = λ g node is. drive_there s.table h.table.edges g node is;
+      })
+      h.table.apart h.writing;
+}
+  where
+    grow : Grows s.table now.table (IsThere s.table) NoRow NoEdge
+    grow = rows_grow s.table now.table rows edges h.table
+
+    stood : (name : List ℕ) (later : NodeRecord) (old : (r : NodeRecord) × (Contains s.table.nodes r × IsLike r later)) → StandsFor now.table name later
+        → StandsFor s.table name old.0
+    stood name later old over = record { there = old.1.0; filename = sym old.1.1.filename ∙ over.filename }
+
+    stands : (name : List ℕ) (row : NodeRecord) → StandsFor s.table name row
+        → (later : NodeRecord) × (StandsFor now.table name later × IsLike row later)
+    stands name row over =
+        let after = rows.forth row over.there in
+        (after.0, (record { there = after.1.0; filename = after.1.1.filename ∙ over.filename }, after.1.1))
+
+    state_same : (name : List ℕ) → file_state now.table name ≡ file_state s.table name
+    state_same name = ap (λ fs. option_map (λ r. r.state) (find (λ r. bytes_eq r.name name) fs)) states
+
+    still_under : (node later : ℕ) → later ≡ node → IsUnder s.table.edges node → IsUnder now.table.edges later
+    still_under node later same under =
+        subst (λ es. IsUnder es later) (sym edges) (subst (IsUnder s.table.edges) (sym same) under)
+
+    as_before : (name : List ℕ) (row later : NodeRecord) → IsLike row later → IsLostBy s.table name row → IsLostBy now.table name later
+    as_before name row later like (inl used) = inl (state_same name ∙ used)
+    as_before name row later like (inr (inl image)) = inr (inl (state_same name ∙ image))
+    as_before name row later like (inr (inr under)) = inr (inr (still_under row.id later.id like.id under))
+
+-- neither rows nor edges nor devices nor files change, and what was named is
+named_stand : (s now : State) → now.table.nodes ≡ s.table.nodes → now.table.edges ≡ s.table.edges → now.table.guests ≡ s.table.guests
+    → now.table.devices ≡ s.table.devices → now.table.files ≡ s.table.files → now.files ≡ s.files → now.disks ≡ s.disks
+    → now.left ≡ s.left → ((name : List ℕ) → has_name name s.named ≡ true → has_name name now.named ≡ true) → Stands s → Stands now
+named_stand s now nodes edges guests devices states files disks left named h =
+    rows_stand s now (rows-same s.table now.table nodes h.table.apart) edges guests devices states files disks left named
+    (λ name row later over like there gone. inl (subst (λ r. r.is_settled ≡ false)
+    (same_row s.table h.table.apart row later over.there (subst (λ ns. Contains ns later) nodes there) like.id) gone)) h
+
 still_stands : (s now : State) → now.table.nodes ≡ s.table.nodes → now.table.edges ≡ s.table.edges → now.table.guests ≡ s.table.guests
     → now.table.devices ≡ s.table.devices → now.table.files ≡ s.table.files → now.files ≡ s.files → now.disks ≡ s.disks
     → now.left ≡ s.left → now.named ≡ s.named → Stands s → Stands now
 still_stands s now nodes edges guests devices states files disks left named h =
-    table_stands s now nodes (λ file under. subst (λ es. IsUnder es file) (sym edges) under) states files
-    (rows_table s.table now.table rows edges guests devices h.table)
-    (grown_writing s now (IsThere s.table) NoRow NoEdge grow
-    (record {
-      names = λ name is. subst (λ ns. has_name name ns ≡ true) (sym named) is;
-      names_new = λ name r never. absurd never;
-      known = λ name over under f is known. subst (λ fs. content_in fs name ≡ Some Unknown) (sym files) known;
-      known_new = λ name over under f never. absurd never;
-      bytes = λ node here some. subst (λ ds. IsSome (find (λ d. d.node == node) ds)) (sym disks) some;
-      bytes_new = λ r never. absurd never;
-      left = subst (All (IsUsedUp now)) (sym left)
-          (All-weaker (IsUsedUp s) (IsUsedUp now) (λ l used. left_still s now (IsThere s.table) NoRow NoEdge grow l
-          (ap (λ fs. option_map (λ r. r.state) (find (λ r. bytes_eq r.name l.file) fs)) states ∙ used.used)
-          (λ r never. absurd never) (λ e r never. absurd never) used) s.left h.writing.left);
-      written = λ node name here entered of known. subst (λ fs. content_in fs name ≡ Some Unknown) (sym files) known;
-      emptied = λ node name here entered of none. subst (All (λ l. l.file ≢ name)) (sym left) none;
-      devices = same_devices s now devices (λ g. ap (child_of (Guest g) Drive) edges);
-      drives = λ g node is. drive_there s.table h.table.edges g node is;
-    })
-    h.table.apart h.writing) h
-  where
-    rows : SameRows s.table now.table
-    rows = rows-same s.table now.table nodes h.table.apart
+    named_stand s now nodes edges guests devices states files disks left (λ name is. subst (λ ns. has_name name ns ≡ true) (sym named) is) h
 
-    grow : Grows s.table now.table (IsThere s.table) NoRow NoEdge
-    grow = rows_grow s.table now.table rows edges h.table
+-- ---- jobs
+
+unsettle_stands : (s : State) (node : ℕ) → UnsettleSuits s.table node → Stands s → Stands (stepped s (change.Unsettle node))
+unfolding changed
+unsettle_stands s node suits h =
+    rows_stand s now (rows-mapped s.table now.table (node_changed node unsettled) (like_unsettled node) refl h.table.apart)
+    refl refl refl refl refl refl refl (λ name is. is)
+    (λ name row later over like there gone. elim (cases_eq row.id node) [
+      | inl same ↦ inr (suits name row over same)
+      | inr differ ↦
+          let is : later ≡ node_changed node unsettled row =
+          changed_row s.table (node_changed node unsettled) (like_unsettled node) h.table.apart row later over.there there like.id in
+          inl (subst (λ r. r.is_settled ≡ false) (is ∙ kept_unsettled node row differ) gone)
+    ]) h
+  where
+    now : State
+    now = stepped s (change.Unsettle node)
+
+-- a commit names the file of an overlay
+start_stands : (s : State) (row : JobRecord) → Stands s → Stands (stepped s (change.StartJob row))
+unfolding changed
+start_stands s row h = by_name (overlay_file s.table row row.kind)
+  where
+    t : RunTable
+    t = changed s.table (change.StartJob row)
+
+    by_name : (name : Option (List ℕ)) → Stands (record (name_if name s) { table = t })
+    by_name None = still_stands s (record s { table = t }) refl refl refl refl refl refl refl refl refl h
+    by_name (Some name) =
+        named_stand s (record (name_file name s) { table = t }) refl refl refl refl refl refl refl refl (λ n is. has_name-grows name n s.named is) h
+
+over_stands : (s : State) (number slot : ℕ) (drops : Bool) → Stands s → Stands (stepped s (change.EndJob number slot drops))
+unfolding changed
+over_stands s number slot drops h =
+    table_stands s now refl (λ file under. under-kept s now es file under) refl refl
+    (over_table s.table now.table slot refl es.kinds refl h.table refl refl) (over_writing s number slot drops h) h
+  where
+    now : State
+    now = stepped s (change.EndJob number slot drops)
+
+    es : HasEdges s now
+    es = record {
+      kinds = kinds_of s.table.nodes;
+      before = without_parent (Job slot) s.table.edges;
+      derived = refl;
+      keeps = λ e there over.
+          let of = h.table.single e there over in
+          let apart : same_parent e.parent (Job slot) ≡ false = rw of.1.0 refl in
+          filter-keeps (λ x. not (same_parent x.parent (Job slot))) s.table.edges e (ap not apart) there;
+    }
+
+node_used_stands : (s : State) (slot : ℕ) (what : JobUse) (node : ℕ) → IsPlainNode s.table node → Stands s
+    → Stands (stepped s (change.UseNode slot what node))
+unfolding changed
+node_used_stands s slot what node plain h =
+    table_stands s now refl (λ file under. under-kept s now es file under) refl refl
+    (use_table s.table now.table slot what node plain refl es.kinds refl h.table refl refl) (use_writing s slot what node plain h) h
+  where
+    now : State
+    now = stepped s (change.UseNode slot what node)
+
+    es : HasEdges s now
+    es = record {
+      kinds = kinds_of s.table.nodes;
+      before = with_edge (job_edge slot what node) s.table.edges;
+      derived = refl;
+      keeps = λ e there over.
+          let of = h.table.single e there over in
+          with_edge-keeps (job_edge slot what node) s.table.edges e
+          (apart-parents (job_edge slot what node) e (λ same. (let from = same ∙ of.1.0 in cc))) there;
+    }
 
 -- ---- a node that goes
 
@@ -516,12 +646,20 @@ stands_keep s (change.AddFormat row file backing) suits h = format_node_stands s
 stands_keep s (change.AddFilter row child) suits h = filter_stands s row child suits h
 stands_keep s (change.RemoveNode node) suits h = remove_stands s node suits h
 stands_keep s (change.AddDevice device node) suits h = device_stands s device node suits h
-stands_keep s (change.Unsettle id) suits h = suits
+stands_keep s (change.Unsettle id) suits h = unsettle_stands s id suits h
 stands_keep s (change.MakeWritable id) suits h = suits
 stands_keep s (change.PutFilter row node) suits h = suits
-stands_keep s (change.UseNode slot what node) suits h = suits
-stands_keep s (change.StartJob row) suits h = suits
-stands_keep s (change.AskJob number asked) suits h = suits
+stands_keep s (change.UseNode slot what node) suits h = node_used_stands s slot what node suits h
+stands_keep s (change.StartJob row) suits h = start_stands s row h
+stands_keep s (change.AskJob number asked) suits h =
+    still_stands s (stepped s (change.AskJob number asked)) refl refl refl refl refl refl refl refl refl h
+stands_keep s (change.ReadyJob number) suits h =
+    still_stands s (stepped s (change.ReadyJob number)) refl refl refl refl refl refl refl refl refl h
+stands_keep s (change.EndJob number slot drops) suits h = over_stands s number slot drops h
+stands_keep s (change.PullFilter filter) suits h = suits
+stands_keep s (change.Rebase node backing) suits h = suits
+stands_keep s (change.Settle node disk) suits h = suits
+stands_keep s (change.MakeReadOnly id) suits h = suits
 stands_keep s (change.RemoveDevice number) suits h = device_gone_stands s number h
 stands_keep s (change.Attach overlay node) suits h = suits
 stands_keep s (change.Move from to but) suits h = suits

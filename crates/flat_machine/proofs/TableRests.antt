@@ -47,6 +47,7 @@ use Rattle.flat_machine.proofs.Rows.{SameRows, rows-same, rows-mapped, like_lost
 use Rattle.flat_machine.proofs.Wired.{OldRow, Grows, NoRow, NoEdge, at_with, with_at}
 use Rattle.flat_machine.proofs.TablesKept.{IsOther, rows_grow, rows_table, file_grow, file_table, IsNewEdge, format_grow, format_table, is_under, IsNewFilterEdge, filter_grow, filter_table, removed_grow, removed_table, IsDriveEdge, device_grow, device_table}
 use Rattle.flat_machine.proofs.DevicesGone.{gone_grow, gone_table}
+use Rattle.flat_machine.proofs.JobEdges.{over_table, use_table}
 use Rattle.flat_machine.proofs.Asked.{none-both, NoneHolds, none-holds, found-named, lone-node}
 use Rattle.flat_machine.proofs.Accepted.{no_edge}
 use Rattle.flat_machine.proofs.TableSuited.{named-row, add-table, device-table}
@@ -78,12 +79,25 @@ table_keeps t (change.RemoveNode node) suits h =
     removed_table t (changed t (change.RemoveNode node)) node suits refl (kinds_of (without_record node t.nodes)) refl h refl refl
 table_keeps t (change.AddDevice device node) suits h =
     device_table t (changed t (change.AddDevice device node)) device node suits refl (kinds_of t.nodes) refl h refl refl
-table_keeps t (change.Unsettle id) suits h = suits
+table_keeps t (change.Unsettle id) suits h =
+    let now : RunTable = changed t (change.Unsettle id) in
+    rows_table t now (rows-mapped t now (node_changed id unsettled) (like_unsettled id) refl h.apart) refl refl refl h
 table_keeps t (change.MakeWritable id) suits h = suits
 table_keeps t (change.PutFilter row node) suits h = suits
-table_keeps t (change.UseNode slot what node) suits h = suits
-table_keeps t (change.StartJob row) suits h = suits
-table_keeps t (change.AskJob number asked) suits h = suits
+table_keeps t (change.UseNode slot what node) suits h =
+    use_table t (changed t (change.UseNode slot what node)) slot what node suits refl (kinds_of t.nodes) refl h refl refl
+table_keeps t (change.StartJob row) suits h =
+    rows_table t (changed t (change.StartJob row)) (rows-same t (changed t (change.StartJob row)) refl h.apart) refl refl refl h
+table_keeps t (change.AskJob number asked) suits h =
+    rows_table t (changed t (change.AskJob number asked)) (rows-same t (changed t (change.AskJob number asked)) refl h.apart) refl refl refl h
+table_keeps t (change.ReadyJob number) suits h =
+    rows_table t (changed t (change.ReadyJob number)) (rows-same t (changed t (change.ReadyJob number)) refl h.apart) refl refl refl h
+table_keeps t (change.EndJob number slot drops) suits h =
+    over_table t (changed t (change.EndJob number slot drops)) slot refl (kinds_of t.nodes) refl h refl refl
+table_keeps t (change.PullFilter filter) suits h = suits
+table_keeps t (change.Rebase node backing) suits h = suits.stands
+table_keeps t (change.Settle node disk) suits h = suits
+table_keeps t (change.MakeReadOnly id) suits h = suits
 table_keeps t (change.RemoveDevice number) suits h =
     gone_table t (changed t (change.RemoveDevice number)) number refl (kinds_of t.nodes) refl h refl refl
 table_keeps t (change.Attach overlay node) suits h = suits.stands

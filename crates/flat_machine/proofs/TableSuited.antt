@@ -29,7 +29,7 @@ use Rattle.qmp_rules.specs.Changes.{changed}
 use Rattle.qmp_rules.specs.Edits.{free_id, next_free_id, place_from, unused_from, file_row, format_row, inline_row, image_row, raw_record, length_told, size_by_name, raw_edits, qcow2_edits, added_edits, add_edits, file_uses, new_device, device_add_edits}
 use Rattle.qmp_asks.specs.Naming.{is_name}
 use Rattle.qmp_asks.specs.NodeAsks.{device_add_asks, add_asks, add_names, add_values, file_names, added_names, is_read_only, added_rest, raw_rest, qcow2_rest, copy_on_read_rest, is_added, backing_name}
-use Rattle.qmp_rules.specs.Asks.{id_or, holds, takes, is_file}
+use Rattle.qmp_rules.specs.Asks.{id_or, holds, lends, takes, is_file}
 use Rattle.flat_machine.specs.Wiring.{IsNumberBy, TableStands}
 use Rattle.flat_machine.specs.Suiting.{IsThere, IsAlone, IsUnderNoFormat, SuitsFile, SuitsBacking, SuitsDevice, AllTableSuit}
 use Rattle.flat_machine.proofs.Finds.{bytes_eq-same, same-bytes_eq}
@@ -119,7 +119,11 @@ module _ (t : RunTable) (told : Told) (h : TableStands t) where
   pub writable-node : (name : List ℕ) (row : NodeRecord) → node_named t name ≡ Some row → holds t told (ask.Writable name) ≡ None
       → row.read_only ≡ false
   unfolding holds
-  writable-node name row found quiet = not-refused _ _ (rw found at quiet)
+  writable-node name row found quiet = by_flags row.read_only (list_any (lends row.id) t.jobs) (not-refused _ _ (rw found at quiet))
+    where
+      by_flags : (a b : Bool) → (a || b) ≡ false → a ≡ false
+      by_flags false b e = refl
+      by_flags true b e = absurd cc
 
   pub writable-with : (name : List ℕ) (own : Option (List ℕ)) (ok : Bool) → holds t told (ask.WritableWith name own ok) ≡ None → ok ≡ true
   unfolding holds

@@ -78,7 +78,7 @@ rows_grow t now rows edges h = record {
   goes = λ node below role here is. goes_there t h.edges node below role is;
 }
 
-same_numbers : (t now : RunTable) → now.guests ≡ t.guests → now.devices ≡ t.devices → AreNumbered t → AreNumbered now
+pub same_numbers : (t now : RunTable) → now.guests ≡ t.guests → now.devices ≡ t.devices → AreNumbered t → AreNumbered now
 same_numbers t now guests devices h device there =
     subst (λ gs. HasDeviceNumber gs device) (sym guests) (h device (subst (λ ds. Contains ds device) devices there))
 

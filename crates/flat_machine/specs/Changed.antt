@@ -1,5 +1,5 @@
 -- What each kind of change of the table does to disks, files and bitmaps.
-use Rattle.std.specs.Prelude.{ℕ, ◌==◌, ◌&&◌, not, if◌then◌else◌, List, [], ◌∷◌, ◌++◌, filter, replicate, bytes_eq, codes, Option, Some, None, is_none, option_map, option_and_then}
+use Rattle.std.specs.Prelude.{ℕ, ◌==◌, ◌&&◌, not, Bool, if◌then◌else◌, List, [], ◌∷◌, ◌++◌, filter, replicate, bytes_eq, codes, Option, Some, None, is_none, option_map, option_and_then}
 use Rattle.q2_format.specs.Contents.{raw_disk}
 use Rattle.q2_format.specs.Created.{creation_of}
 use Rattle.blk_graph.specs.declared.kind.Kind.{Kind}
@@ -12,16 +12,20 @@ use Rattle.qmp_codec.specs.declared.event.JobKind.TheVariants.{Commit}
 use Rattle.qmp_rules.specs.declared.rows.NodeRecord.{NodeRecord}
 use Rattle.qmp_rules.specs.declared.rows.JobRecord.{JobRecord}
 use Rattle.qmp_rules.specs.declared.rows.BitmapRow.{BitmapRow}
+use Rattle.qmp_rules.specs.declared.change.NewDisk.{NewDisk}
+use Rattle.qmp_rules.specs.declared.change.NewDisk.TheVariants.{OfNode, OfStart}
+use Rattle.qmp_rules.specs.declared.rows.UsedBitmap.{UsedBitmap}
 use Rattle.qmp_rules.specs.declared.change.Change.{Change}
 use Rattle.qmp_rules.specs.declared.change.Change.TheVariants as change
-use Rattle.qmp_rules.specs.Table.{RunTable, node_by_id, child}
+use Rattle.qmp_rules.specs.Table.{RunTable, node_by_id, job_at, child}
 use Rattle.qmp_rules.specs.Changes.{changed}
 use Rattle.qmp_rules.specs.Queries.{bytes_of_node}
 use Rattle.qmp_rules.specs.Asks.{name_of_file}
 use Rattle.blk_history.specs.Fold.{run}
-use Rattle.flat_machine.specs.State.{State, Disk, Left, Content, Bytes, Unknown, Mapped, bytes_in, bytes_at_node, content_in, filename_of}
+use Rattle.flat_machine.specs.State.{State, Disk, Dirty, Left, Content, Bytes, Unknown, Mapped, bytes_in, bytes_at_node, content_in, filename_of}
 use Rattle.flat_machine.specs.Contents.{with_content, formatted, mapped_in, file_bytes, image_bytes}
-use Rattle.flat_machine.specs.Marking.{clean, made_clean, is_dirty_of, dirty_at, where_dirty, merge_from}
+use Rattle.flat_machine.specs.Marking.{clean, made_clean, is_dirty_of, dirty_at, where_dirty, merge_from, taken_back}
+use Rattle.flat_machine.specs.Begun.{begun_of, copy_bytes}
 
 -- ---- rows
 
@@ -103,6 +107,10 @@ own_filename t row Raw = option_and_then (filename_of t) (child t row.id File)
 own_filename t row Qcow2 = option_and_then (filename_of t) (child t row.id File)
 own_filename t row kind = None
 
+-- the file that a node writes
+abbrev pub written_file : RunTable → ℕ → Option (List ℕ)
+written_file t node = option_and_then (λ row. own_filename t row row.kind) (node_by_id t node)
+
 -- a settled node without a backing node leaves its disk in its file
 abbrev pub left_in : List Disk → NodeRecord → List ℕ → Left
 left_in disks row file = record {
@@ -149,6 +157,20 @@ overlay_file t row Commit = over_file row.read
     over_file (overlay ∷ rest) = option_and_then (filename_of t) (child t overlay File)
 overlay_file t row kind = None
 
+-- what is settled reads so
+abbrev pub new_bytes : State → NewDisk → List ℕ
+new_bytes s (OfNode node) = bytes_at_node s node
+new_bytes s (OfStart job) = copy_bytes (begun_of s.begun job)
+
+-- the bitmap that a job copied by has its granules back, or those alone that were written since
+abbrev pub back_of : ℕ → Option UsedBitmap → Bool → List Dirty → List Dirty
+back_of source None drops ds = ds
+back_of source (Some used) drops ds = where_dirty (is_dirty_of source used.name) (taken_back drops) ds
+
+abbrev pub back_by : Option JobRecord → Bool → List Dirty → List Dirty
+back_by None drops ds = ds
+back_by (Some row) drops ds = back_of row.source row.bitmap drops ds
+
 -- ---- each kind of change
 
 abbrev pub format_name : ImageFormat → List ℕ
@@ -177,6 +199,9 @@ beside s (change.ClearBitmap node name) =
     record s { dirty = where_dirty (is_dirty_of node name) made_clean s.dirty }
 beside s (change.MergeBitmap node name source_node source) =
     record s { dirty = merge_from (dirty_at s.dirty source_node source) node name s.dirty }
+beside s (change.EndJob number slot drops) =
+    record s { dirty = back_by (job_at s.table number) drops s.dirty }
+beside s (change.Settle node disk) = put node (new_bytes s disk) s
 beside s other = s
 
 abbrev pub stepped : State → Change → State

@@ -55,6 +55,11 @@ abbrev pub StayInFiles : RunTable → RunTable → Type 0
 StayInFiles t now = (node : ℕ) (name : List ℕ) → is_qcow2_at t node ≡ true
     → written_file now node ≡ Some name → written_file t node ≡ Some name
 
+-- A filter goes: it is no image, and parents that move stay over their files.
+pub record PullKeepsImages (t : RunTable) (filter : ℕ) : Type 0 where
+  pub other : is_qcow2_at t filter ≡ false
+  pub file : StayInFiles t (changed t (change.PullFilter filter))
+
 -- A file in which there is an image isn't spoiled, and parents of nodes that move stay over their
 -- files where they are images. Of every other kind of change nothing more is asked.
 abbrev pub KeepsImages : State → Change → Type 0
@@ -63,6 +68,7 @@ KeepsImages s (change.PutFilter row node) =
     StayInFiles s.table (changed s.table (change.PutFilter row node))
 KeepsImages s (change.Move from to but) =
     StayInFiles s.table (changed s.table (change.Move from to but))
+KeepsImages s (change.PullFilter filter) = PullKeepsImages s.table filter
 KeepsImages s c = Unit {0}
 
 abbrev pub AllKeepImages : State → List Change → Type 0

@@ -1,6 +1,7 @@
 pub mod State
 pub mod Contents
 pub mod Marking
+pub mod Begun
 pub mod Changed
 pub mod Sights
 pub mod Replies

@@ -1,19 +1,23 @@
 -- What a change of the table is in the world: when it can be made, and what it does to nodes and files.
-use Rattle.std.specs.Prelude.{◌≡◌, ℕ, max, List, [], ◌∷◌, length, replicate, Option, Some, None, IsSome, option_map, unwrap_or}
+use Rattle.std.specs.Prelude.{◌≡◌, ◌≢◌, ℕ, true, All, max, List, [], ◌∷◌, length, replicate, Option, Some, None, IsSome, option_map, unwrap_or}
 use Rattle.q2_format.specs.Contents.{file_disk, raw_disk, image_disk}
+use Rattle.q2_format.specs.Header.{header_of}
 use Rattle.q2_format.specs.Created.{Creation, CanBeCreated, IsCreated, created_length, creation_of}
-use Rattle.blk_graph.specs.declared.edge.Role.TheVariants.{Backing}
+use Rattle.blk_graph.specs.declared.edge.Role.TheVariants.{File, Backing}
+use Rattle.qmp_rules.specs.declared.change.NewDisk.{NewDisk}
+use Rattle.qmp_rules.specs.declared.change.NewDisk.TheVariants.{OfNode, OfStart}
 use Rattle.blk_graph.specs.declared.kind.Kind.{Kind}
 use Rattle.blk_graph.specs.declared.kind.Kind.TheVariants.{Protocol, Raw, Qcow2}
 use Rattle.qmp_rules.specs.declared.rows.NodeRecord.{NodeRecord}
 use Rattle.qmp_rules.specs.declared.change.Change.{Change}
 use Rattle.qmp_rules.specs.declared.change.Change.TheVariants as change
-use Rattle.qmp_rules.specs.Table.{node_by_id, child}
+use Rattle.qmp_rules.specs.Table.{node_by_id, child, has_name}
 use Rattle.qmp_rules.specs.Chains.{filter_role}
 use Rattle.qmp_rules.specs.Asks.{name_of_file}
 use Rattle.blk_history.specs.Fold.{With}
-use Rattle.flat_machine.specs.State.{State, Content, Bytes, Blank, content_in, filename_of}
-use Rattle.flat_machine.specs.Changed.{content_under, own_filename, format_name, stepped}
+use Rattle.flat_machine.specs.State.{State, Content, Bytes, Blank, Unknown, content_in, filename_of}
+use Rattle.flat_machine.specs.Contents.{maps_none}
+use Rattle.flat_machine.specs.Changed.{content_under, own_filename, written_file, format_name, new_bytes, stepped}
 use Rattle.flat_machine.specs.Final.{IsDiskIn}
 use Rattle.flat_machine.specs.Agreement.{Contents, HasDisk}
 
@@ -59,12 +63,30 @@ pub record CanAddFilter (s : State) (row : NodeRecord) : Type 0 where
   pub fresh : IsNewNode s row
   pub filter : IsSome (filter_role row.kind)
 
+-- The header of an image may be written: of its file nothing is known, no disk is left in it, and it was named for that; the
+-- `file` node under it has no disk.
+pub record CanRewrite (s : State) (node : ℕ) : Type 0 where
+  pub under : (file : ℕ) (row : NodeRecord) → child s.table node File ≡ Some file
+      → node_by_id s.table file ≡ Some row → HasDisk row → ⊥
+  pub known : (name : List ℕ) → written_file s.table node ≡ Some name
+      → content_in s.files name ≡ Some Unknown
+  pub left : (name : List ℕ) → written_file s.table node ≡ Some name
+      → All (λ l. l.file ≢ name) s.left
+  pub named : (name : List ℕ) → written_file s.table node ≡ Some name → has_name name s.named ≡ true
+
+-- what a node reads as that is settled like another one is a disk
+abbrev pub IsSettledLike : State → NewDisk → Type 0
+IsSettledLike s (OfNode source) = With (node_by_id s.table source) HasDisk
+IsSettledLike s (OfStart job) = Unit {0}
+
 abbrev pub Can : State → Change → Type 0
 Can s (change.AddFile row) = CanAddFile s row
 Can s (change.AddFormat row file backing) = CanAddFormat s row file backing
 Can s (change.AddFilter row child) = CanAddFilter s row
 Can s (change.PutFilter row node) = CanAddFilter s row
 Can s (change.Attach overlay node) = With (node_by_id s.table node) HasDisk
+Can s (change.Rebase node backing) = CanRewrite s node
+Can s (change.Settle node disk) = IsSettledLike s disk
 Can s c = Unit {0}
 
 -- ---- what it does
@@ -124,6 +146,20 @@ format_as s c row file backing Qcow2 =
     image_disk (held_bytes c (unwrap_or (filename_of s.table file) [])) (backing_reads c backing)
 format_as s c row file backing driver = []
 
+-- a header is rewritten, no disk is another one, and the image maps a cluster where it did
+pub record Rewrites (s : State) (node : ℕ) (old new : Contents) : Type 0 where
+  pub nodes : ReadSame (λ other. child s.table node File ≡ Some other) old new
+  pub files : HeldSame (λ name. written_file s.table node ≡ Some name) old new
+  pub mapping : (name after : List ℕ) → written_file s.table node ≡ Some name
+      → new.held name ≡ Some after
+      → With (old.held name) (λ before. maps_none after (header_of after)
+      ≡ maps_none before (header_of before))
+
+-- what a node that is settled has to read as
+abbrev pub settled_as : State → Contents → NewDisk → List ℕ
+settled_as s c (OfNode source) = c.reads source
+settled_as s c (OfStart job) = new_bytes s (OfStart job)
+
 abbrev pub Performed : State → Change → Contents → Contents → Type 0
 Performed s (change.AddFile row) old new =
     Puts row.id (file_disk row.size (held_bytes old (name_of_file row))) old new
@@ -142,6 +178,8 @@ Performed s (change.FormatFile node name size backing_file backing_fmt) old new 
 Performed s (change.SpoilFile name) old new =
     ChangesFileAlone (λ node. filename_of s.table node ≡ Some name) name old new
 Performed s (change.Attach overlay node) old new = Puts overlay (old.reads node) old new
+Performed s (change.Rebase node backing) old new = Rewrites s node old new
+Performed s (change.Settle node disk) old new = Puts node (settled_as s old disk) old new
 Performed s c old new = IsQuiet old new
 
 -- ---- changes in turn

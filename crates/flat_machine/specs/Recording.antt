@@ -6,7 +6,8 @@ use Rattle.trace_codec.specs.declared.op.Op.{Op}
 use Rattle.trace_codec.specs.declared.op.Op.TheVariants.{Write, Zero}
 use Rattle.qmp_rules.specs.declared.change.Change.{Change}
 use Rattle.qmp_rules.specs.declared.change.Change.TheVariants as change
-use Rattle.qmp_rules.specs.Table.{RunTable}
+use Rattle.qmp_rules.specs.Table.{RunTable, job_at}
+use Rattle.flat_machine.specs.Changed.{back_by}
 use Rattle.qmp_rules.specs.Changes.{changed}
 use Rattle.qmp_rules.specs.Queries.{bytes_of_node}
 use Rattle.flat_machine.specs.State.{Dirty}
@@ -22,6 +23,7 @@ dirty_beside t ds (change.ClearBitmap node name) = where_dirty (is_dirty_of node
 dirty_beside t ds (change.MergeBitmap node name source_node source) =
     merge_from (dirty_at ds source_node source) node name ds
 dirty_beside t ds (change.RemoveNode node) = filter (λ d. not (d.node == node)) ds
+dirty_beside t ds (change.EndJob number slot drops) = back_by (job_at t number) drops ds
 dirty_beside t ds c = ds
 
 -- changes in turn

@@ -10,6 +10,7 @@ keeps_nodes (change.AddFormat row file backing) = false
 keeps_nodes (change.AddFilter row child) = false
 keeps_nodes (change.RemoveNode node) = false
 keeps_nodes (change.PutFilter row node) = false
+keeps_nodes (change.PullFilter filter) = false
 keeps_nodes c = true
 
 abbrev pub AllKeepNodes : List Change → Type 0

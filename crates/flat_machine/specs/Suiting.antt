@@ -16,7 +16,7 @@ use Rattle.qmp_rules.specs.Changes.{changed}
 use Rattle.flat_machine.specs.State.{State, content_in}
 use Rattle.flat_machine.specs.Changed.{stepped}
 use Rattle.flat_machine.specs.Wiring.{StandsFor, IsUnder, HasDeviceNumber, HasOwnName, TableStands}
-use Rattle.flat_machine.specs.Standing.{MayGuestWrite, Stands}
+use Rattle.flat_machine.specs.Standing.{IsLostBy, MayGuestWrite, Stands}
 
 abbrev pub IsThere : RunTable → ℕ → Type 0
 IsThere t node = IsSome (node_by_id t node)
@@ -34,6 +34,13 @@ abbrev pub IsUnderNoFormat : RunTable → ℕ → Type 0
 IsUnderNoFormat t node =
     (row : NodeRecord) → node_by_id t node ≡ Some row → IsSome row.filename → IsUnder t.edges node
     → ⊥
+
+-- a node that is no filter, and no `file` node under a format node
+pub record IsPlainNode (t : RunTable) (node : ℕ) : Type 0 where
+  pub row : NodeRecord
+  pub there : node_by_id t node ≡ Some row
+  pub own : filter_role row.kind ≡ None
+  pub free : IsUnderNoFormat t node
 
 -- ---- tables
 
@@ -106,7 +113,12 @@ pub record SuitsMove (t : RunTable) (from to but : ℕ) : Type 0 where
   pub free : IsUnderNoFormat t from
   pub stands : TableStands (changed t (change.Move from to but))
 
--- Of the other kinds that jobs bring it is asked that they leave it.
+-- a node gets another backing node of its size, or none
+pub record SuitsRebase (t : RunTable) (node : ℕ) (backing : Option ℕ) : Type 0 where
+  pub sizes : (base : ℕ) → backing ≡ Some base → HaveOneSize t node base
+  pub stands : TableStands (changed t (change.Rebase node backing))
+
+-- Of the kinds by which filters come and go and nodes are settled or may be written or not, it is asked that they leave it.
 abbrev pub TableSuits : RunTable → Change → Type 0
 TableSuits t change.Negotiate = Unit {0}
 TableSuits t (change.KeepId id) = Unit {0}
@@ -119,10 +131,17 @@ TableSuits t (change.AddFile row) = SuitsFile t row
 TableSuits t (change.AddFormat row file backing) = SuitsFormat t row file backing
 TableSuits t (change.AddFilter row child) = SuitsFilter t row child
 TableSuits t (change.RemoveNode node) = IsAlone t node
+TableSuits t (change.Unsettle node) = Unit {0}
+TableSuits t (change.UseNode slot what node) = IsPlainNode t node
+TableSuits t (change.StartJob row) = Unit {0}
+TableSuits t (change.AskJob number asked) = Unit {0}
+TableSuits t (change.ReadyJob number) = Unit {0}
+TableSuits t (change.EndJob number slot drops) = Unit {0}
 TableSuits t (change.AddDevice device node) = SuitsDevice t device node
 TableSuits t (change.RemoveDevice number) = Unit {0}
 TableSuits t (change.Attach overlay node) = SuitsAttach t overlay node
 TableSuits t (change.Move from to but) = SuitsMove t from to but
+TableSuits t (change.Rebase node backing) = SuitsRebase t node backing
 TableSuits t (change.AddBitmap row) = Unit {0}
 TableSuits t (change.RemoveBitmap node name) = Unit {0}
 TableSuits t (change.TurnBitmap node name on) = Unit {0}
@@ -160,6 +179,12 @@ pub record RemovalSuits (t : RunTable) (node : ℕ) : Type 0 where
       → Contains t.edges edge → edge.parent ≡ Node node
       → edge.role ≡ File → edge.child ≡ row.id → file_state t name ≡ Some Used
 
+-- a `file` node loses its disk for a cause
+abbrev pub UnsettleSuits : RunTable → ℕ → Type 0
+UnsettleSuits t node =
+    (name : List ℕ) (row : NodeRecord) → StandsFor t name row → row.id ≡ node
+    → IsLostBy t name row
+
 -- the node stands for the file, and has no parent
 pub record FormattingSuits (t : RunTable) (node : ℕ) (name : List ℕ) : Type 0 where
   pub row : NodeRecord
@@ -186,6 +211,12 @@ Suits s (change.AddFile row) = FileSuits s row
 Suits s (change.AddFormat row file backing) = FormatSuits s row file backing
 Suits s (change.AddFilter row child) = SuitsFilter s.table row child
 Suits s (change.RemoveNode node) = RemovalSuits s.table node
+Suits s (change.Unsettle node) = UnsettleSuits s.table node
+Suits s (change.UseNode slot what node) = IsPlainNode s.table node
+Suits s (change.StartJob row) = Unit {0}
+Suits s (change.AskJob number asked) = Unit {0}
+Suits s (change.ReadyJob number) = Unit {0}
+Suits s (change.EndJob number slot drops) = Unit {0}
 Suits s (change.AddDevice device node) = DeviceSuits s device node
 Suits s (change.RemoveDevice number) = Unit {0}
 Suits s (change.AddBitmap row) = Unit {0}

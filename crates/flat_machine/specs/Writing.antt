@@ -1,5 +1,5 @@
 -- What a piece of a guest's request does to nodes and files.
-use Rattle.std.specs.Prelude.{◌≡◌, ◌≢◌, ◌⊎◌, ℕ, true, ◌==◌, List, All, find, Option, Some, IsSome, option_and_then}
+use Rattle.std.specs.Prelude.{◌≡◌, ◌≢◌, ◌⊎◌, ℕ, true, ◌==◌, List, All, find, Option, Some, IsSome}
 use Rattle.blk_base.specs.Pieces.{Extent}
 use Rattle.blk_graph.specs.declared.edge.Role.TheVariants.{File}
 use Rattle.trace_codec.specs.declared.op.Op.{Op}
@@ -11,16 +11,12 @@ use Rattle.qmp_rules.specs.Chains.{disk_node, is_over}
 use Rattle.blk_history.specs.Disk.{done_in}
 use Rattle.blk_history.specs.Machine.{done_by}
 use Rattle.flat_machine.specs.State.{State, Unknown, content_in}
-use Rattle.flat_machine.specs.Changed.{own_filename}
+pub use Rattle.flat_machine.specs.Changed.{written_file}
 use Rattle.flat_machine.specs.Machine.{copies_through}
 use Rattle.flat_machine.specs.Agreement.{Contents, HasDisk}
 use Rattle.flat_machine.specs.Performing.{ReadSame, HeldSame, IsQuiet}
 
 -- ---- the node that is written
-
--- the file that it writes
-abbrev pub written_file : RunTable → ℕ → Option (List ℕ)
-written_file t node = option_and_then (λ row. own_filename t row row.kind) (node_by_id t node)
 
 -- A node that a guest may write: it has a flat disk, the `file` node under it has none, and of its file nothing is known, no
 -- disk is left in it, and a command named it.

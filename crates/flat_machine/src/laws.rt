@@ -28,6 +28,9 @@ ghost use Rattle.flat_machine.specs.State.{State, drive_of};
 ghost use Rattle.flat_machine.specs.Opening.{start};
 ghost use Rattle.flat_machine.specs.Suiting.{AllSuit};
 ghost use Rattle.flat_machine.specs.declared.opening.Opening.{Opening};
+ghost use Rattle.blk_history.specs.declared.entry.JobEnd.{JobEnd};
+ghost use Rattle.qmp_rules.specs.declared.rows.JobRecord.{JobRecord};
+ghost use Rattle.flat_machine.specs.Jobs.{changes_at_end, noted_end};
 ghost use Rattle.flat_machine.specs.Changed.{stepped, all_stepped};
 ghost use Rattle.flat_machine.specs.Sights.{IsTold, expected};
 ghost use Rattle.flat_machine.specs.Machine.{with_part, replay};
@@ -50,6 +53,14 @@ pub fn changes_keep_disks()
     ensures changes { (opening : List ℕ → Option (List ℕ)) (changes : List Change) (s : State)
         (old new : Contents) → AllCan s changes → AllPerformed s changes old new
         → Agrees opening s old → Agrees opening (all_stepped s changes) new }
+{}
+
+/// So it is behind the end of a job, whose changes are one list by its row and by how it ends: each can be made, and was performed.
+pub fn ends_keep_disks()
+    ensures { (opening : List ℕ → Option (List ℕ)) (s : State) (row : JobRecord) (why : JobEnd)
+        (old new : Contents) → AllCan s (changes_at_end s row why)
+        → AllPerformed s (changes_at_end s row why) old new
+        → Agrees opening s old → Agrees opening (noted_end s row why) new }
 {}
 
 /// Where nothing that may be told refuses a command, its changes can be made, one after another.

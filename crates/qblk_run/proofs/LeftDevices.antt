@@ -19,12 +19,14 @@ use Rattle.qmp_rules.specs.declared.rows.NodeRecord.{NodeRecord}
 use Rattle.qmp_rules.specs.declared.told.Told.{Told}
 use Rattle.qmp_rules.specs.Answers.{actions_edits, command_edits, group_of, left_by}
 use Rattle.qmp_rules.specs.Changes.{all_changed, changed}
-use Rattle.qmp_rules.specs.Edits.{action_edits, added_edits, ask_edits, asked_by_cancel, backup_job, base_edits, commit_edits, commit_job, commit_unsettles, commit_uses, copy_edits, created_change, device_uses, edits_of, filter_edits, filter_row, file_below, file_under, file_used, goes_with_node, is_base, merges, mirror_job, of_row, qcow2_edits, raw_edits, reads_one_of, row_gone, spoiled, stream_edits, stream_job, target_edits, under_top, file_uses, uses_as, uses_target, with_inline, writable_if}
+use Rattle.qmp_rules.specs.Edits.{action_edits, added_edits, ask_edits, asked_by_cancel, backup_job, base_edits, commit_job, commit_unsettles, commit_uses, copy_edits, created_change, device_uses, edits_by_kind, edits_of, filter_edits, filter_row, file_below, file_under, file_used, goes_with_node, merges, mirror_job, of_row, qcow2_edits, raw_edits, reads_one_of, row_gone, spoiled, start_edits, stream_job, target_edits, under_top, file_uses, uses_as, uses_target, with_inline, writable_if}
 use Rattle.qmp_rules.specs.Table.{RunTable, job_named, node_by_id, node_named}
-use Rattle.qmp_rules.specs.Asks.{is_file}
+use Rattle.qmp_rules.specs.Asks.{is_base, is_file}
 use Rattle.qmp_asks.specs.NodeAsks.{backing_name, is_read_only}
 use Rattle.qmp_asks.specs.Values.{flag_or_false}
 use Rattle.qmp_rules.specs.declared.rows.AskedEnd.TheVariants as asked
+use Rattle.qmp_codec.specs.declared.event.JobKind.{JobKind}
+use Rattle.qmp_codec.specs.declared.event.JobKind.TheVariants as job_kind
 use Rattle.blk_graph.specs.declared.kind.Kind.{Kind}
 use Rattle.blk_graph.specs.declared.kind.Kind.TheVariants as kind
 use Rattle.blk_graph.specs.declared.kind.JobUse.TheVariants.{CommitTop, CommitBetween, CommitBase, StreamTop, StreamBelow}
@@ -63,6 +65,12 @@ change-leaves t (change.PutFilter row node) leaves = record { devices = refl; gu
 change-leaves t (change.UseNode slot what node) leaves = record { devices = refl; guests = refl }
 change-leaves t (change.StartJob row) leaves = record { devices = refl; guests = refl }
 change-leaves t (change.AskJob number new) leaves = record { devices = refl; guests = refl }
+change-leaves t (change.ReadyJob number) leaves = record { devices = refl; guests = refl }
+change-leaves t (change.EndJob number slot drops) leaves = record { devices = refl; guests = refl }
+change-leaves t (change.PullFilter filter) leaves = record { devices = refl; guests = refl }
+change-leaves t (change.Rebase node backing) leaves = record { devices = refl; guests = refl }
+change-leaves t (change.Settle node disk) leaves = record { devices = refl; guests = refl }
+change-leaves t (change.MakeReadOnly id) leaves = record { devices = refl; guests = refl }
 change-leaves t (change.AddDevice device node) leaves = absurd leaves
 change-leaves t (change.RemoveDevice number) leaves = absurd leaves
 change-leaves t (change.Attach overlay node) leaves = record { devices = refl; guests = refl }
@@ -173,9 +181,8 @@ leave-writable true (Some id) = (tt, tt)
 leave-writable true None = tt
 leave-writable false _ = tt
 
-leave-commit : (t : RunTable) (c : _) → AllLeave (commit_edits t c)
-leave-commit t c =
-    let job : JobRecord = commit_job t c in
+leave-commit : (t : RunTable) (job : JobRecord) → AllLeave (edits_by_kind t job job_kind.Commit)
+leave-commit t job =
     let a = leave-used t job.target in
     let b = leave-map (λ (row : NodeRecord). change.Unsettle row.id) (λ row. tt) (filter (reads_one_of t job.source (under_top job)) t.nodes) in
     let d = leave-both (writable_if job.made_writable.file (file_below t job.target)) (writable_if job.made_writable.base job.target)
@@ -188,16 +195,26 @@ leave-commit t c =
     (leave-both (file_used t job.target ++ commit_unsettles t job) (base_edits t job) (leave-both (file_used t job.target) (commit_unsettles t job) a b) d) e)
     (tt, (tt, f))
 
-leave-stream : (t : RunTable) (c : _) → AllLeave (stream_edits t c)
-leave-stream t c =
-    let job : JobRecord = stream_job t c in
+leave-stream : (t : RunTable) (job : JobRecord) → AllLeave (edits_by_kind t job job_kind.Stream)
+leave-stream t job =
     leave-both (file_used t job.target) (change.StartJob job ∷ change.UseNode job.slot StreamTop job.source ∷ uses_as job.slot StreamBelow job.read)
     (leave-used t job.target) (tt, (tt, leave-map (change.UseNode job.slot StreamBelow) (λ node. tt) job.read))
+
+leave-kind : (t : RunTable) (job : JobRecord) (what : JobKind) → AllLeave (edits_by_kind t job what)
+leave-kind t job job_kind.Stream = leave-stream t job
+leave-kind t job job_kind.Commit = leave-commit t job
+leave-kind t job job_kind.Mirror = leave-copy t kind.Mirror job
+leave-kind t job job_kind.Backup = leave-copy t kind.BeforeWrite job
+
+-- of the start of a job
+leave-start : (t : RunTable) (job : JobRecord) → AllLeave (start_edits t job)
+unfolding start_edits
+leave-start t job = leave-kind t job job.kind
 
 leave-action : (t : RunTable) (group : Option ℕ) (a : Act) → AllLeave (action_edits t group a)
 unfolding action_edits
 leave-action t group (action.Snapshot c) = (tt, (tt, tt))
-leave-action t group (action.Backup c) = leave-copy t kind.BeforeWrite (backup_job t group c)
+leave-action t group (action.Backup c) = leave-start t (backup_job t group c)
 leave-action t group (action.BitmapAdd c) = (tt, tt)
 leave-action t group (action.BitmapRemove c) = (tt, tt)
 leave-action t group (action.BitmapClear c) = (tt, tt)
@@ -228,10 +245,10 @@ leave-command t told (command.BlockdevDel name) other = leave-row (row_gone t) (
 leave-command t told (command.DeviceAdd c) other = absurd (other tt)
 leave-command t told (command.DeviceDel id) other = absurd (other tt)
 leave-command t told (command.BlockdevSnapshot c) other = (tt, (tt, tt))
-leave-command t told (command.BlockStream c) other = leave-stream t c
-leave-command t told (command.BlockCommit c) other = leave-commit t c
-leave-command t told (command.BlockdevMirror c) other = leave-copy t kind.Mirror (mirror_job t c)
-leave-command t told (command.BlockdevBackup c) other = leave-copy t kind.BeforeWrite (backup_job t None c)
+leave-command t told (command.BlockStream c) other = leave-start t (stream_job t c)
+leave-command t told (command.BlockCommit c) other = leave-start t (commit_job t c)
+leave-command t told (command.BlockdevMirror c) other = leave-start t (mirror_job t c)
+leave-command t told (command.BlockdevBackup c) other = leave-start t (backup_job t None c)
 leave-command t told (command.BlockJobCancel job force) other = leave-ask t job (asked_by_cancel (flag_or_false force))
 leave-command t told (command.BlockJobComplete job) other = leave-ask t job (λ j. asked.Complete)
 leave-command t told (command.BitmapAdd c) other = (tt, tt)

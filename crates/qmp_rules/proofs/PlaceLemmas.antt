@@ -16,7 +16,7 @@ use Rattle.qmp_rules.specs.Table.{RunTable, job_id, node_by_id, node_named, id_n
 use Rattle.qmp_rules.specs.Chains.{is_listed, holder, keeper, is_settled}
 use Rattle.qmp_rules.specs.Refusals.{refused, or_else, place_of}
 use Rattle.qmp_asks.specs.Asking.{Asking, Nodes1, place}
-use Rattle.qmp_rules.specs.Asks.{if_named, if_there, holds, held_by, clash, first_clash, not_below, not_in_chain, differ, sizes, sizes_differ, first_reached, in_the_way, in_use, in_use_at, id_or, mirrored, takes, file_node, name_of_file, lost, busy, part_begins, part_ends, part_too_long, top_of, job_base, held_nodes, read_nodes, looked_at}
+use Rattle.qmp_rules.specs.Asks.{is_guarded, if_named, if_there, holds, held_by, clash, first_clash, not_below, not_in_chain, differ, sizes, sizes_differ, first_reached, in_the_way, in_use, in_use_at, id_or, mirrored, takes, file_node, name_of_file, lost, busy, part_begins, part_ends, part_too_long, top_of, job_base, held_nodes, read_nodes, looked_at}
 use Rattle.qmp_rules.specs.Places.{IsOfTable, HasPlace}
 
 -- a look whose refusals have one place
@@ -153,7 +153,7 @@ has_place t told (ask.Free nodes) h =
 has_place t told (ask.BitmapFree node name) h =
     at_there 20 (busy t) (option_and_then (bitmap_named t node) name) (λ row. at_busy_by t row row.busy)
 has_place t told (ask.Writable node) h =
-    at_there 21 (λ row. refused row.read_only (refusal.ReadOnly row.name)) (node_named t node) (λ row. at_refused 21 _ _ refl)
+    at_there 21 (λ row. refused (is_guarded t row) (refusal.ReadOnly row.name)) (node_named t node) (λ row. at_refused 21 _ _ refl)
 has_place t told (ask.WritableUnder file read_only) h =
     at_there 21 (λ row. refused (row.read_only && not read_only) (refusal.ReadOnly row.name)) (node_named t file)
     (λ row. at_refused 21 _ _ refl)

@@ -93,6 +93,18 @@ in_use_at t name id = in_use t name (first_into id t.edges)
 abbrev pub held_by : RunTable → ℕ → Option JobRecord → Option Refusal
 held_by t id job = option_map (λ row. refusal.JobHolds (name_at t id) row.id) job
 
+abbrev pub is_base : Option ℕ → ℕ → Bool
+is_base None id = false
+is_base (Some base) id = base == id
+
+-- a commit made it writable, and may give it back
+abbrev pub lends : ℕ → JobRecord → Bool
+lends id job = job.made_writable.base && is_base job.target id
+
+-- it may not be written, or only while a job runs
+abbrev pub is_guarded : RunTable → NodeRecord → Bool
+is_guarded t row = row.read_only || list_any (lends row.id) t.jobs
+
 abbrev pub sizes_differ : NodeRecord → NodeRecord → Option Refusal
 sizes_differ a b = refused (not (a.size == b.size)) (refusal.SizeDiffers a.name b.name)
 
@@ -298,7 +310,7 @@ holds t told (ask.Free nodes) =
 holds t told (ask.BitmapFree node name) =
     if_there (busy t) (option_and_then (bitmap_named t node) name)
 holds t told (ask.Writable node) =
-    if_there (λ row. refused row.read_only (refusal.ReadOnly row.name)) (node_named t node)
+    if_there (λ row. refused (is_guarded t row) (refusal.ReadOnly row.name)) (node_named t node)
 holds t told (ask.WritableUnder file read_only) =
     if_there (λ row. refused (row.read_only && not read_only) (refusal.ReadOnly row.name))
     (node_named t file)

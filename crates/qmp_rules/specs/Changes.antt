@@ -1,9 +1,9 @@
 -- What each kind of change makes of the table: a line each.
 use Rattle.std.specs.Prelude.{ℕ, ◌+◌, ◌==◌, Bool, true, false, not, ◌&&◌, if◌then◌else◌, List, [], ◌∷◌, ◌++◌, map, filter, bytes_eq, Option, Some, None}
 use Rattle.blk_graph.specs.declared.edge.Edge.{Edge}
-use Rattle.blk_graph.specs.declared.edge.Parent.TheVariants.{Node, Guest}
+use Rattle.blk_graph.specs.declared.edge.Parent.TheVariants.{Node, Guest, Job}
 use Rattle.blk_graph.specs.declared.edge.Role.TheVariants.{File, Backing}
-use Rattle.blk_graph.specs.Edits.{with_edge, with_filter, with_replaced, without_parent}
+use Rattle.blk_graph.specs.Edits.{with_edge, with_filter, with_replaced, without_edge, without_filter, without_parent}
 use Rattle.blk_graph.specs.Permissions.{idle_uses, node_edge, drive_edge, job_edge}
 use Rattle.blk_graph.specs.Refreshed.{refreshed}
 use Rattle.qmp_rules.specs.declared.change.Change.{Change}
@@ -47,6 +47,18 @@ stands_over name (Some filename) = bytes_eq filename name
 abbrev pub lost_with : List ℕ → NodeRecord → NodeRecord
 lost_with name row = if stands_over name row.filename then unsettled row else row
 
+abbrev pub settled : NodeRecord → NodeRecord
+settled row = record row { is_settled = true }
+
+abbrev pub with_settled : ℕ → List NodeRecord → List NodeRecord
+with_settled id nodes = map (node_changed id settled) nodes
+
+abbrev pub kept_from_writes : NodeRecord → NodeRecord
+kept_from_writes row = record row { read_only = true }
+
+abbrev pub with_read_only : ℕ → List NodeRecord → List NodeRecord
+with_read_only id nodes = map (node_changed id kept_from_writes) nodes
+
 abbrev pub without_record : ℕ → List NodeRecord → List NodeRecord
 without_record id nodes = filter (λ row. not (row.id == id)) nodes
 
@@ -54,6 +66,11 @@ without_record id nodes = filter (λ row. not (row.id == id)) nodes
 abbrev pub with_backing_edge : ℕ → Option ℕ → List Edge → List Edge
 with_backing_edge id None edges = edges
 with_backing_edge id (Some backing) edges = with_edge (node_edge id Backing backing) edges
+
+-- another backing node in the place of the one that there is, or none
+abbrev pub with_backing : ℕ → Option ℕ → List Edge → List Edge
+with_backing id None edges = without_edge (Node id) Backing edges
+with_backing id (Some backing) edges = with_edge (node_edge id Backing backing) edges
 
 abbrev pub with_format_edges : ℕ → ℕ → Option ℕ → List Edge → List Edge
 with_format_edges id file backing edges =
@@ -96,6 +113,20 @@ followed old new = new
 abbrev pub asked_for : ℕ → AskedEnd → JobRecord → JobRecord
 asked_for number new job =
     if job.number == number then record job { asked = followed job.asked new } else job
+
+abbrev pub ready_for : ℕ → JobRecord → JobRecord
+ready_for number job = if job.number == number then record job { is_ready = true } else job
+
+abbrev pub without_job : ℕ → List JobRecord → List JobRecord
+without_job number jobs = filter (λ job. not (job.number == number)) jobs
+
+-- no bitmap is in the use of a job that is over
+abbrev pub is_used_by : ℕ → Option ℕ → Bool
+is_used_by number None = false
+is_used_by number (Some job) = job == number
+
+abbrev pub given_back : ℕ → BitmapRow → BitmapRow
+given_back number row = if is_used_by number row.busy then record row { busy = None } else row
 
 -- ---- devices and ids
 
@@ -142,6 +173,17 @@ changed t (change.StartJob row) = record t {
   bitmaps = busy_by row.number row.bitmap row.source t.bitmaps;
 }
 changed t (change.AskJob number new) = record t { jobs = map (asked_for number new) t.jobs }
+changed t (change.ReadyJob number) = record t { jobs = map (ready_for number) t.jobs }
+changed t (change.EndJob number slot drops) =
+    record (rewired t.nodes (without_parent (Job slot) t.edges) t) {
+      jobs = without_job number t.jobs;
+      bitmaps = map (given_back number) t.bitmaps;
+    }
+changed t (change.PullFilter filter) =
+    rewired (without_record filter t.nodes) (without_filter filter t.edges) t
+changed t (change.Rebase node backing) = rewired t.nodes (with_backing node backing t.edges) t
+changed t (change.Settle node disk) = record t { nodes = with_settled node t.nodes }
+changed t (change.MakeReadOnly id) = rewired (with_read_only id t.nodes) t.edges t
 changed t (change.AddDevice device node) =
     record (rewired t.nodes (with_edge (device_edge device node) t.edges) t) {
       devices = t.devices

@@ -53,7 +53,7 @@ use Rattle.qmp_asks.specs.Naming.{inline_name}
 use Rattle.qmp_rules.specs.Table.{RunTable, node_named, node_by_id, id_named, device_named, job_named, child}
 use Rattle.qmp_rules.specs.Chains.{disk_node, is_settled, is_listed, chain}
 use Rattle.qmp_asks.specs.Asking.{Nodes1}
-use Rattle.qmp_rules.specs.Asks.{id_or, name_of_file, is_file, top_of, job_base, held_nodes, read_nodes}
+use Rattle.qmp_rules.specs.Asks.{id_or, name_of_file, is_base, is_file, top_of, job_base, held_nodes, read_nodes}
 use Rattle.qmp_asks.specs.JobAsks.{stream_nodes, commit_nodes}
 use Rattle.qmp_asks.specs.NodeAsks.{is_read_only, backing_name}
 use Rattle.qmp_asks.specs.BitmapAsks.{source_node, source_name}
@@ -353,35 +353,14 @@ filter_edits t driver job =
 abbrev pub file_used : RunTable → Option ℕ → List Change
 file_used t node = of_row device_uses (option_and_then (node_by_id t) node)
 
--- ---- block-stream: the top, and the nodes below it down to the base
+-- ---- what the start of a job makes of the table, by the row that it gets
 
 abbrev pub uses_as : ℕ → JobUse → List ℕ → List Change
 uses_as slot what nodes = map (UseNode slot what) nodes
 
-abbrev pub stream_job : RunTable → StreamCommand (List ℕ) → JobRecord
-stream_job t c =
-    record (new_job t None c.job_id job_kind.Stream (stream_nodes c)) {
-      backing_file = c.backing_file;
-    }
-
-abbrev pub stream_edits : RunTable → StreamCommand (List ℕ) → List Change
-stream_edits t c =
-    let job : JobRecord = stream_job t c in
-    file_used t job.target ++ StartJob job ∷ UseNode job.slot StreamTop job.source
-    ∷ uses_as job.slot StreamBelow job.read
-
--- ---- block-commit
-
 -- A base that is read-only may be written while the job runs, with the `file` node under it.
-abbrev pub reads_only : RunTable → Option ℕ → Bool
-reads_only t node =
-    unwrap_or (option_map (λ row. row.read_only) (option_and_then (node_by_id t) node)) false
-
 abbrev pub file_below : RunTable → Option ℕ → Option ℕ
 file_below t base = option_and_then (λ id. child t id File) base
-
-abbrev pub to_be_written : RunTable → Option ℕ → MadeWritable
-to_be_written t base = record { base = reads_only t base; file = reads_only t (file_below t base) }
 
 abbrev pub writable_if : Bool → Option ℕ → List Change
 writable_if true (Some id) = MakeWritable id ∷ []
@@ -411,30 +390,12 @@ abbrev pub commit_unsettles : RunTable → JobRecord → List Change
 commit_unsettles t job =
     map (λ row. Unsettle row.id) (filter (reads_one_of t job.source (under_top job)) t.nodes)
 
-abbrev pub is_base : Option ℕ → ℕ → Bool
-is_base None id = false
-is_base (Some base) id = base == id
-
 abbrev pub commit_uses : JobRecord → List Change
 commit_uses job =
     map (λ id. UseNode job.slot (if is_base job.target id then CommitBase else CommitBetween) id)
     (under_top job)
 
-abbrev pub commit_job : RunTable → CommitCommand (List ℕ) → JobRecord
-commit_job t c =
-    let job : JobRecord = new_job t None c.job_id job_kind.Commit (commit_nodes c) in
-    filtered_job t
-    (record job { made_writable = to_be_written t job.target; backing_file = c.backing_file })
-
-abbrev pub commit_edits : RunTable → CommitCommand (List ℕ) → List Change
-commit_edits t c =
-    let job : JobRecord = commit_job t c in
-    file_used t job.target ++ commit_unsettles t job ++ base_edits t job
-    ++ filter_edits t kind.Commit job
-    ++ StartJob job ∷ UseNode job.slot CommitTop job.source ∷ commit_uses job
-
--- ---- blockdev-mirror and blockdev-backup: the target has no flat disk from then on
-
+-- the target of a backup or mirror has no flat disk from then on
 abbrev pub target_edits : RunTable → Option ℕ → List Change
 target_edits t None = []
 target_edits t (Some target) = file_used t (Some target) ++ Unsettle target ∷ []
@@ -448,11 +409,43 @@ copy_edits t driver job =
     target_edits t job.target ++ filter_edits t driver job ++ StartJob job
     ∷ uses_target job job.target
 
+abbrev pub edits_by_kind : RunTable → JobRecord → JobKind → List Change
+edits_by_kind t job job_kind.Stream =
+    file_used t job.target ++ StartJob job ∷ UseNode job.slot StreamTop job.source
+    ∷ uses_as job.slot StreamBelow job.read
+edits_by_kind t job job_kind.Commit =
+    file_used t job.target ++ commit_unsettles t job ++ base_edits t job
+    ++ filter_edits t kind.Commit job
+    ++ StartJob job ∷ UseNode job.slot CommitTop job.source ∷ commit_uses job
+edits_by_kind t job job_kind.Mirror = copy_edits t kind.Mirror job
+edits_by_kind t job job_kind.Backup = copy_edits t kind.BeforeWrite job
+
+unfoldable pub start_edits : RunTable → JobRecord → List Change
+start_edits t job = edits_by_kind t job job.kind
+
+-- ---- the rows of jobs, by the commands that begin them
+
+abbrev pub stream_job : RunTable → StreamCommand (List ℕ) → JobRecord
+stream_job t c =
+    record (new_job t None c.job_id job_kind.Stream (stream_nodes c)) {
+      backing_file = c.backing_file;
+    }
+
+abbrev pub reads_only : RunTable → Option ℕ → Bool
+reads_only t node =
+    unwrap_or (option_map (λ row. row.read_only) (option_and_then (node_by_id t) node)) false
+
+abbrev pub to_be_written : RunTable → Option ℕ → MadeWritable
+to_be_written t base = record { base = reads_only t base; file = reads_only t (file_below t base) }
+
+abbrev pub commit_job : RunTable → CommitCommand (List ℕ) → JobRecord
+commit_job t c =
+    let job : JobRecord = new_job t None c.job_id job_kind.Commit (commit_nodes c) in
+    filtered_job t
+    (record job { made_writable = to_be_written t job.target; backing_file = c.backing_file })
+
 abbrev pub mirror_job : RunTable → Mirror (List ℕ) → JobRecord
 mirror_job t c = filtered_job t (new_job t None c.job_id job_kind.Mirror (Copy c.device c.target))
-
-abbrev pub mirror_edits : RunTable → Mirror (List ℕ) → List Change
-mirror_edits t c = copy_edits t kind.Mirror (mirror_job t c)
 
 abbrev pub used_bitmap : RunTable → Backup (List ℕ) → List ℕ → UsedBitmap
 used_bitmap t c name = record {
@@ -466,9 +459,6 @@ backup_job t group c =
     record (filtered_job t (new_job t group c.job_id job_kind.Backup (Copy c.device c.target))) {
       bitmap = option_map (used_bitmap t c) c.bitmap;
     }
-
-abbrev pub backup_edits : RunTable → Option ℕ → Backup (List ℕ) → List Change
-backup_edits t group c = copy_edits t kind.BeforeWrite (backup_job t group c)
 
 -- ---- block-job-cancel and block-job-complete
 
@@ -508,10 +498,10 @@ edits_of t told (command.BlockdevDel name) = del_edits t name
 edits_of t told (command.DeviceAdd c) = device_add_edits t c
 edits_of t told (command.DeviceDel id) = device_del_edits t id
 edits_of t told (command.BlockdevSnapshot c) = snapshot_edits t c
-edits_of t told (command.BlockStream c) = stream_edits t c
-edits_of t told (command.BlockCommit c) = commit_edits t c
-edits_of t told (command.BlockdevMirror c) = mirror_edits t c
-edits_of t told (command.BlockdevBackup c) = backup_edits t None c
+edits_of t told (command.BlockStream c) = start_edits t (stream_job t c)
+edits_of t told (command.BlockCommit c) = start_edits t (commit_job t c)
+edits_of t told (command.BlockdevMirror c) = start_edits t (mirror_job t c)
+edits_of t told (command.BlockdevBackup c) = start_edits t (backup_job t None c)
 edits_of t told (command.BlockJobCancel job force) = cancel_edits t job force
 edits_of t told (command.BlockJobComplete job) = complete_edits t job
 edits_of t told (command.BitmapAdd c) = bitmap_add_edits t c
@@ -525,7 +515,7 @@ edits_of t told _ = []
 -- an action's, of a transaction whose jobs have this group
 unfoldable pub action_edits : RunTable → Option ℕ → Act → List Change
 action_edits t group (action.Snapshot c) = snapshot_edits t c
-action_edits t group (action.Backup c) = backup_edits t group c
+action_edits t group (action.Backup c) = start_edits t (backup_job t group c)
 action_edits t group (action.BitmapAdd c) = bitmap_add_edits t c
 action_edits t group (action.BitmapRemove c) = bitmap_remove_edits t c
 action_edits t group (action.BitmapClear c) = bitmap_clear_edits t c

@@ -1,6 +1,7 @@
 -- Changes that may be made to a table: numbers of guests and of jobs are small, and a filter is put over no edge of its own.
-use Rattle.std.specs.Prelude.{ℕ, ◌<◌, nat_lt, Bool, true, false, List, [], ◌∷◌}
-use Rattle.blk_graph.specs.Edits.{IsLone}
+use Rattle.std.specs.Prelude.{ℕ, ◌<◌, nat_lt, Bool, true, false, not, ◌&&◌, List, [], ◌∷◌}
+use Rattle.std.specs.List.{list_any}
+use Rattle.blk_graph.specs.Edits.{IsLone, touches}
 use Rattle.qmp_rules.specs.declared.change.Change.{Change}
 use Rattle.qmp_rules.specs.declared.change.Change.TheVariants.{AddDevice, UseNode, PutFilter}
 use Rattle.qmp_rules.specs.Changes.{changed}
@@ -23,3 +24,15 @@ fits_always (AddDevice device node) = nat_lt device.number 80
 fits_always (UseNode slot what node) = nat_lt slot 16
 fits_always (PutFilter row node) = false
 fits_always _ = true
+
+-- it fits the table: a filter has no edge yet
+abbrev pub fits : RunTable → Change → Bool
+fits t (AddDevice device node) = nat_lt device.number 80
+fits t (UseNode slot what node) = nat_lt slot 16
+fits t (PutFilter row node) = not (list_any (touches row.id) t.edges)
+fits t _ = true
+
+-- each in the table as the ones before it leave it
+abbrev pub all_fit : RunTable → List Change → Bool
+all_fit t [] = true
+all_fit t (change ∷ changes) = fits t change && all_fit (changed t change) changes

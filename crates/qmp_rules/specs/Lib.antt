@@ -4,6 +4,7 @@ pub mod Refusals
 pub mod Asks
 pub mod Changes
 pub mod Edits
+pub mod Ends
 pub mod Headers
 pub mod Answers
 pub mod Queries

@@ -1,15 +1,17 @@
 //! What each kind of change makes of the table. No memory is taken.
-ghost use Rattle.std.specs.Prelude.{◌≡◌, ◌<◌, ℕ, List, Option, length};
+ghost use Rattle.std.specs.Prelude.{◌≡◌, ◌<◌, ℕ, Bool, List, OnOk, Option, length, true};
 ghost use Rattle.qmp_codec.specs.declared.words.ImageFormat.{ImageFormat};
-ghost use Rattle.qmp_rules.specs.Changes.{all_changed, with_backing_edge, changed};
+ghost use Rattle.qmp_rules.specs.Changes.{all_changed, changed, with_backing, with_backing_edge};
 ghost use Rattle.blk_graph.specs.Edits.{IsLone};
-ghost use Rattle.qmp_rules.specs.Fitting.{AllChangesFit, ChangeFits};
+ghost use Rattle.qmp_rules.specs.Fitting.{AllChangesFit, ChangeFits, all_fit, fits};
 ghost use Rattle.qmp_rules.specs.Room.{HasRoomForChanges, TakesLittle};
 
 use crate::change::{Change, Edits};
 use crate::edges::{ALL, NOTHING, drive_edge, job_edge, node_edge};
+use crate::find;
 use crate::rows::{DeviceRow, FileState, JobRecord, NodeRecord};
 use crate::table::Names;
+use blk_base::NoMemory;
 use blk_graph::{JobUse, MOST_NODES, NodeId, Parent, Role};
 use qmp_asks::Name;
 
@@ -120,6 +122,59 @@ impl Names {
     }
 
     #[tactic(auto, unfolding(crate::specs::Changes::changed))]
+    fn end_job(&mut self, number: u32, slot: u32)
+        ensures table { (drops : Bool)
+            → self.new.table ≡ changed self.old.table (Change.EndJob number slot drops) }
+        ensures little { TakesLittle self.old self.new }
+    {
+        self.drop_edges_of(Parent::Job(slot));
+        self.refresh();
+        self.drop_job(number);
+        self.give_back_bitmaps(number);
+    }
+
+    #[tactic(auto, unfolding(crate::specs::Changes::changed))]
+    fn pull_filter(&mut self, filter: NodeId)
+        ensures table { self.new.table ≡ changed self.old.table (Change.PullFilter filter) }
+        ensures little { TakesLittle self.old self.new }
+    {
+        self.drop_node(filter);
+        self.drop_filter(filter);
+        self.refresh();
+    }
+
+    /// Puts the edge to another backing node in its place, or takes it away.
+    fn set_backing(&mut self, node: NodeId, backing: Option<NodeId>)
+        ensures table { self.new.table
+            ≡ record self.old.table { edges = with_backing node backing self.old.table.edges } }
+        ensures spare { self.new.spare ≡ self.old.spare }
+    {
+        prove!(node.index() < MOST_NODES);
+        match backing {
+            Some(backing) => self.put_edge(node_edge(node, Role::Backing, backing)),
+            None => self.drop_edge(Parent::Node(node), Role::Backing),
+        }
+    }
+
+    #[tactic(auto, unfolding(crate::specs::Changes::changed))]
+    fn rebase(&mut self, node: NodeId, backing: Option<NodeId>)
+        ensures table { self.new.table ≡ changed self.old.table (Change.Rebase node backing) }
+        ensures little { TakesLittle self.old self.new }
+    {
+        self.set_backing(node, backing);
+        self.refresh();
+    }
+
+    #[tactic(auto, unfolding(crate::specs::Changes::changed))]
+    fn close_for_writing(&mut self, id: NodeId)
+        ensures table { self.new.table ≡ changed self.old.table (Change.MakeReadOnly id) }
+        ensures little { TakesLittle self.old self.new }
+    {
+        self.make_read_only(id);
+        self.refresh();
+    }
+
+    #[tactic(auto, unfolding(crate::specs::Changes::changed))]
     fn add_device(&mut self, device: DeviceRow, node: NodeId)
         requires room { HasRoomForChanges 1 self.old }
         requires number { device.number < 80 }
@@ -210,6 +265,12 @@ impl Names {
             Change::UseNode { slot, what, node } => self.use_node(slot, what, node),
             Change::StartJob(row) => self.start_job(row),
             Change::AskJob { number, asked } => self.ask_job(number, asked),
+            Change::ReadyJob(number) => self.ready_job(number),
+            Change::EndJob { number, slot, .. } => self.end_job(number, slot),
+            Change::PullFilter(filter) => self.pull_filter(filter),
+            Change::Rebase { node, backing } => self.rebase(node, backing),
+            Change::Settle { node, .. } => self.settle(node),
+            Change::MakeReadOnly(id) => self.close_for_writing(id),
             Change::AddDevice { device, node } => self.add_device(device, node),
             Change::RemoveDevice(number) => self.remove_device(number),
             Change::Attach { overlay, node } => self.attach(overlay, node),
@@ -219,6 +280,34 @@ impl Names {
             Change::TurnBitmap { node, name, on } => self.turn_bitmap(node, name.as_str(), on),
             Change::ClearBitmap { .. } | Change::MergeBitmap { .. } => {}
         }
+    }
+
+    /// Whether a change fits the table.
+    fn change_fits(&self, change: &Change) -> bool
+        ensures { result ≡ fits self.now.table change.now }
+    {
+        match change {
+            Change::AddDevice { device, .. } => device.number < 80,
+            Change::UseNode { slot, .. } => *slot < 16,
+            Change::PutFilter { row, .. } => !find::is_touched(self.edges(), row.id),
+            _ => true,
+        }
+    }
+
+    /// Makes changes, one after another, as far as they fit. Where one doesn't, the table is of no use any more.
+    #[tactic(auto, using(crate::proofs::FitLemmas::fits_here, crate::proofs::FitLemmas::fits_then))]
+    pub(crate) fn apply_fitting(&mut self, mut edits: Edits) -> Result<(), NoMemory>
+        requires { HasRoomForChanges (length edits) self.old }
+        ensures table { OnOk result (self.new.table ≡ all_changed self.old.table edits) }
+        ensures fit { OnOk result (all_fit self.old.table edits ≡ true) }
+    {
+        while let Some(change) = edits.next() {
+            if !self.change_fits(&change) {
+                return Err(NoMemory);
+            }
+            self.change(change);
+        }
+        Ok(())
     }
 
     /// Makes changes, one after another.

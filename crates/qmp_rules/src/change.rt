@@ -7,6 +7,23 @@ use qmp_asks::Name;
 use qmp_codec::ImageFormat;
 use std::marker::Model;
 
+/// What a node reads as from then on: as another node, or as what the start of a job found.
+#[derive(Clone, Copy)]
+pub enum NewDisk {
+    OfNode(NodeId),
+    OfStart(u32),
+}
+
+/// How a job ends.
+#[derive(Clone, Copy)]
+pub enum JobOutcome {
+    Completed,
+    Pivoted,
+    Copied,
+    /// It failed, or was cancelled.
+    Stopped,
+}
+
 /// A change of the table.
 #[derive(Drop)]
 pub enum Change {
@@ -70,6 +87,29 @@ pub enum Change {
         number: u32,
         asked: AskedEnd,
     },
+    /// The job of this number is ready.
+    ReadyJob(u32),
+    /// The job of this number and slot is over: its row and its edges are gone, and no bitmap is in its use. What it put aside
+    /// of the bitmap is dropped, or is dirty again.
+    EndJob {
+        number: u32,
+        slot: u32,
+        drops: bool,
+    },
+    /// A job's filter goes: all that used it use its child.
+    PullFilter(NodeId),
+    /// Another node, or none, becomes the backing node. The node reads the same.
+    Rebase {
+        node: NodeId,
+        backing: Option<NodeId>,
+    },
+    /// The node has this flat disk again.
+    Settle {
+        node: NodeId,
+        disk: NewDisk,
+    },
+    /// The node may not be written any more.
+    MakeReadOnly(NodeId),
     /// A device is there, and uses the node as its drive.
     AddDevice {
         device: DeviceRow,

@@ -1,6 +1,6 @@
 //! The edits of lists of rows, each made in place.
 ghost use Rattle.std.specs.Prelude.{◌≡◌, ◌<◌, ◌≤◌, ◌+◌, [], Some, map, length, vec_capacity, vec_len};
-ghost use Rattle.qmp_rules.specs.Changes.{asked_for, bitmap_changed, bitmaps_but_of, followed, lost_with, node_changed, stands_over, with_recording, unsettled, with_turned, with_unsettled, with_writable, without_bitmap, without_device, without_name, without_record, writable};
+ghost use Rattle.qmp_rules.specs.Changes.{asked_for, bitmap_changed, bitmaps_but_of, followed, given_back, is_used_by, kept_from_writes, lost_with, node_changed, ready_for, settled, stands_over, with_read_only, with_recording, with_settled, unsettled, with_turned, with_unsettled, with_writable, without_bitmap, without_device, without_job, without_name, without_record, writable};
 ghost use Rattle.qmp_rules.specs.Table.{has_file, row_in_state, kind_of_record, kinds_of, with_file};
 
 use crate::find;
@@ -69,6 +69,42 @@ pub(crate) fn make_writable(rows: &mut Vec<NodeRecord>, id: NodeId)
 {
     for i in 0..rows.len() {
         make_writable_one(&mut rows[i], id);
+    }
+}
+
+fn settle_one(row: &mut NodeRecord, id: NodeId)
+    ensures { row.new ≡ node_changed id settled row.old }
+{
+    if row.id == id {
+        row.is_settled = true;
+    }
+}
+
+pub(crate) fn settle(rows: &mut Vec<NodeRecord>, id: NodeId)
+    ensures items { rows.new.items ≡ with_settled id rows.old.items }
+    ensures count { vec_len rows.new ≡ vec_len rows.old }
+    ensures capacity { vec_capacity rows.new ≡ vec_capacity rows.old }
+{
+    for i in 0..rows.len() {
+        settle_one(&mut rows[i], id);
+    }
+}
+
+fn make_read_only_one(row: &mut NodeRecord, id: NodeId)
+    ensures { row.new ≡ node_changed id kept_from_writes row.old }
+{
+    if row.id == id {
+        row.read_only = true;
+    }
+}
+
+pub(crate) fn make_read_only(rows: &mut Vec<NodeRecord>, id: NodeId)
+    ensures items { rows.new.items ≡ with_read_only id rows.old.items }
+    ensures count { vec_len rows.new ≡ vec_len rows.old }
+    ensures capacity { vec_capacity rows.new ≡ vec_capacity rows.old }
+{
+    for i in 0..rows.len() {
+        make_read_only_one(&mut rows[i], id);
     }
 }
 
@@ -155,6 +191,34 @@ pub(crate) fn take_bitmap(rows: &mut Vec<BitmapRow>, node: NodeId, name: &str, j
     }
 }
 
+fn is_used_by(row: &BitmapRow, job: u32) -> bool
+    ensures { result ≡ is_used_by job row.now.busy }
+{
+    match row.busy {
+        Some(other) => other == job,
+        None => false,
+    }
+}
+
+fn give_back_one(row: &mut BitmapRow, job: u32)
+    ensures { row.new ≡ given_back job row.old }
+{
+    if is_used_by(row, job) {
+        row.busy = None;
+    }
+}
+
+/// No bitmap is used by the job any more.
+pub(crate) fn give_back_bitmaps(rows: &mut Vec<BitmapRow>, job: u32)
+    ensures items { rows.new.items ≡ map (given_back job) rows.old.items }
+    ensures count { vec_len rows.new ≡ vec_len rows.old }
+    ensures capacity { vec_capacity rows.new ≡ vec_capacity rows.old }
+{
+    for i in 0..rows.len() {
+        give_back_one(&mut rows[i], job);
+    }
+}
+
 pub(crate) fn drop_bitmap(rows: &mut Vec<BitmapRow>, node: NodeId, name: &str)
     ensures items { rows.new.items ≡ without_bitmap node name.now rows.old.items }
     ensures count { vec_len rows.new ≤ vec_len rows.old }
@@ -204,6 +268,32 @@ pub(crate) fn ask_job(rows: &mut Vec<JobRecord>, number: u32, asked: AskedEnd)
     for i in 0..rows.len() {
         ask_one(&mut rows[i], number, asked);
     }
+}
+
+fn ready_one(row: &mut JobRecord, number: u32)
+    ensures { row.new ≡ ready_for number row.old }
+{
+    if row.number == number {
+        row.is_ready = true;
+    }
+}
+
+pub(crate) fn ready_job(rows: &mut Vec<JobRecord>, number: u32)
+    ensures items { rows.new.items ≡ map (ready_for number) rows.old.items }
+    ensures count { vec_len rows.new ≡ vec_len rows.old }
+    ensures capacity { vec_capacity rows.new ≡ vec_capacity rows.old }
+{
+    for i in 0..rows.len() {
+        ready_one(&mut rows[i], number);
+    }
+}
+
+pub(crate) fn drop_job(rows: &mut Vec<JobRecord>, number: u32)
+    ensures items { rows.new.items ≡ without_job number rows.old.items }
+    ensures count { vec_len rows.new ≤ vec_len rows.old }
+    ensures capacity { vec_capacity rows.new ≡ vec_capacity rows.old }
+{
+    rows.retain(|job| job.number != number);
 }
 
 fn set_one(row: &mut FileRow, name: &str, state: FileState)

@@ -177,7 +177,11 @@ fn seen_name(name: &Option<Name>) -> Option<&str>
 }
 
 /// That a guest on a file node uses its file.
-fn put_device_uses(alloc: Global, edits: &mut Vec<Change>, row: &NodeRecord) -> Result<(), NoMemory>
+pub(crate) fn put_device_uses(
+    alloc: Global,
+    edits: &mut Vec<Change>,
+    row: &NodeRecord,
+) -> Result<(), NoMemory>
     ensures { OnOk result (edits.new.items ≡ edits.old.items ++ device_uses row.now) }
 {
     if takes(Drivers::File, row.kind) {

@@ -2,12 +2,13 @@
 ghost use Rattle.std.specs.Prelude.{◌≡◌, ◌==◌, ◌&&◌, bytes_eq, find};
 ghost use Rattle.std.specs.List.{list_any};
 ghost use Rattle.std.specs.Option.{option_copied, option_map};
-ghost use Rattle.qmp_rules.specs.Asks.{stands_for};
+ghost use Rattle.blk_graph.specs.Edits.{touches};
+ghost use Rattle.qmp_rules.specs.Asks.{is_base, lends, stands_for};
 ghost use Rattle.qmp_rules.specs.Chains.{holds_any, holds_so};
 ghost use Rattle.qmp_rules.specs.Table.{first_into, has_name, is_bitmap};
 
 use crate::rows::{BitmapRow, DeviceRow, FileRow, FileState, JobRecord, NodeRecord};
-use blk_graph::{Edge, NodeId};
+use blk_graph::{Edge, NodeId, Parent};
 use qmp_asks::Name;
 
 pub(crate) fn node_named<'x>(rows: &'x [NodeRecord], name: &str) -> Option<&'x NodeRecord>
@@ -89,6 +90,42 @@ pub(crate) fn first_into(edges: &[Edge], id: NodeId) -> Option<&Edge>
     ensures { option_copied result ≡ first_into id edges.now }
 {
     edges.iter().find(|edge| edge.child == id)
+}
+
+fn touches(edge: &Edge, id: NodeId) -> bool
+    ensures { result ≡ touches id edge.now }
+{
+    edge.child == id || edge.parent == Parent::Node(id)
+}
+
+/// Whether an edge enters or leaves a node.
+pub(crate) fn is_touched(edges: &[Edge], id: NodeId) -> bool
+    ensures { result ≡ list_any (touches id) edges.now }
+{
+    edges.iter().any(|edge| touches(edge, id))
+}
+
+/// Whether a job has the node as its target or base.
+pub(crate) fn is_base(base: Option<NodeId>, id: NodeId) -> bool
+    ensures { result ≡ is_base base id }
+{
+    match base {
+        Some(base) => base == id,
+        None => false,
+    }
+}
+
+/// A commit made the node writable, and may give it back.
+fn lends(job: &JobRecord, id: NodeId) -> bool
+    ensures { result ≡ lends id job.now }
+{
+    job.made_writable.base && is_base(job.target, id)
+}
+
+pub(crate) fn is_lent(jobs: &[JobRecord], id: NodeId) -> bool
+    ensures { result ≡ list_any (lends id) jobs.now }
+{
+    jobs.iter().any(|job| lends(job, id))
 }
 
 /// Whether a node stands for the file.

@@ -353,7 +353,7 @@ impl Names {
         }
     }
 
-    fn maybe_at(&self, id: Option<NodeId>) -> Option<&NodeRecord>
+    pub(crate) fn maybe_at(&self, id: Option<NodeId>) -> Option<&NodeRecord>
         ensures { option_copied result ≡ option_and_then (node_by_id self.now.table) id }
     {
         match id {

@@ -1,5 +1,5 @@
 //! Why a command is refused, and what it changes.
-ghost use Rattle.std.specs.Prelude.{◌≡◌, IfErr, IfOk, None, length, true};
+ghost use Rattle.std.specs.Prelude.{◌≡◌, IfErr, IfOk, None, OnOk, length, true};
 ghost use Rattle.std.specs.List.{list_all};
 ghost use Rattle.qmp_codec.specs.Commands.{seen_command};
 ghost use Rattle.qmp_codec.specs.Nodes.{seen_added, seen_created};
@@ -161,7 +161,7 @@ fn fits_always(edit: &Change) -> bool
     }
 }
 
-fn all_fit(edits: &[Change]) -> bool
+fn fit_always(edits: &[Change]) -> bool
     ensures { result ≡ list_all fits_always edits.now }
 {
     edits.iter().all(|edit| fits_always(edit))
@@ -191,19 +191,25 @@ impl Names {
         }
     }
 
+    /// The table after changes, as a copy. Each has to fit the table as the ones before leave it.
+    #[tactic(auto, using(crate::proofs::FitLemmas::steps_fit))]
+    fn drafted(&self, alloc: Global, edits: Vec<Change>) -> Result<Names, NoMemory>
+        ensures table { IfOk result
+            (λ draft. draft.table ≡ all_changed self.now.table edits.items) }
+        ensures fit { IfOk result (λ _. AllChangesFit self.now.table edits.items) }
+    {
+        let mut draft = self.copied(alloc)?;
+        draft.reserve(edits.len())?;
+        draft.apply_fitting(Edits::new(edits))?;
+        Ok(draft)
+    }
+
     /// Refuses changes after which the edges break the rule. They are made on a copy.
-    #[tactic(auto, using(crate::proofs::FitLemmas::all_fit))]
     fn conflict_by(&self, alloc: Global, edits: Vec<Change>) -> Found
         ensures { IfOk result
             (λ found. found ≡ conflict_in (all_changed self.now.table edits.items)) }
     {
-        if !all_fit(edits.as_slice()) {
-            return Err(NoMemory);
-        }
-        let mut draft = self.copied(alloc)?;
-        draft.reserve(edits.len())?;
-        draft.apply(Edits::new(edits));
-        draft.conflict(alloc)
+        self.drafted(alloc, edits)?.conflict(alloc)
     }
 
     /// What a command changes where nothing is told.
@@ -293,6 +299,45 @@ impl Names {
         self.refusal(alloc, &Told::nothing(alloc), command)
     }
 
+    /// Looks whether the changes of a command fit, where one may not.
+    #[tactic(auto, using(crate::proofs::FitLemmas::all_fit_always))]
+    fn look_at_fit(
+        &self,
+        alloc: Global,
+        told: &Told,
+        command: &Command,
+        edits: &[Change],
+    ) -> Result<(), NoMemory>
+        requires built { is_built (seen_command command.now) ≡ true }
+        requires edits { edits.now
+            ≡ edits_of self.now.table told.now (seen_command command.now) }
+        ensures { OnOk result (AllChangesFit self.now.table edits.now) }
+    {
+        if fit_always(edits) {
+            return Ok(());
+        }
+        let same = self.edits_of(alloc, told, command)?;
+        self.drafted(alloc, same)?;
+        Ok(())
+    }
+
+    /// What a command that is carried out changes, where that fits.
+    fn fitting_edits(
+        &self,
+        alloc: Global,
+        told: &Told,
+        command: &Command,
+    ) -> Result<Vec<Change>, NoMemory>
+        requires { is_built (seen_command command.now) ≡ true }
+        ensures edits { IfOk result (λ edits. edits.items
+            ≡ edits_of self.now.table told.now (seen_command command.now)) }
+        ensures fit { IfOk result (λ edits. AllChangesFit self.now.table edits.items) }
+    {
+        let edits = self.edits_of(alloc, told, command)?;
+        self.look_at_fit(alloc, told, command, edits.as_slice())?;
+        Ok(edits)
+    }
+
     /// What a command changes, where nothing refuses it.
     #[tactic(auto, using(crate::proofs::JudgeLemmas::edits_built, crate::proofs::JudgeLemmas::built_unless))]
     fn accepted_edits(
@@ -305,26 +350,24 @@ impl Names {
             (λ _. refusal_to self.now.table told.now (seen_command command.now) ≡ None) }
         ensures edits { IfOk result (λ edits. edits.items
             ≡ command_edits self.now.table told.now (seen_command command.now)) }
+        ensures fit { IfOk result (λ edits. AllChangesFit self.now.table edits.items) }
         ensures refused { IfErr result
             (IsStoppedFor (refusal_to self.now.table told.now (seen_command command.now))) }
     {
         match self.refusal(alloc, told, command)? {
             Some(refusal) => Err(PrepareStop::Refused(refusal)),
-            None => Ok(self.edits_of(alloc, told, command)?),
+            None => Ok(self.fitting_edits(alloc, told, command)?),
         }
     }
 
     /// Takes the memory for changes. The table stays.
-    #[tactic(auto, using(crate::proofs::FitLemmas::all_fit))]
     fn with_room(&mut self, edits: Vec<Change>) -> Result<Edits, NoMemory>
+        requires { AllChangesFit self.old.table edits.items }
         ensures edits { IfOk result (λ same. same ≡ edits.items) }
         ensures room { IfOk result (λ same. HasRoomForChanges (length same) self.new) }
         ensures fit { IfOk result (λ same. AllChangesFit self.new.table same) }
         ensures table { self.new.table ≡ self.old.table }
     {
-        if !all_fit(edits.as_slice()) {
-            return Err(NoMemory);
-        }
         self.reserve(edits.len())?;
         Ok(Edits::new(edits))
     }
@@ -353,6 +396,7 @@ impl Names {
     }
 
     /// Takes the memory for what a creation leaves of which a call failed. The table stays.
+    #[tactic(auto, using(crate::proofs::FitLemmas::spoiled_fit))]
     pub fn prepare_spoiled(&mut self, alloc: Global, options: &Created) -> Result<Edits, NoMemory>
         ensures edits { IfOk result
             (λ edits. edits ≡ spoiled self.old.table (seen_created options.now)) }

@@ -24,7 +24,7 @@ mod text;
 mod told;
 mod unmet;
 
-pub use change::{Change, Edits};
+pub use change::{Change, Edits, JobOutcome, NewDisk};
 pub use judge::PrepareStop;
 pub use laws::{refusals_have_the_place_of_their_ask, told_refusals_have_the_place_of_their_look};
 pub use refusal::{Crowd, FileFault, Refusal};

@@ -128,6 +128,12 @@ impl NodeList {
         NodeList { ids }
     }
 
+    pub fn as_slice(&self) -> &[NodeId]
+        ensures { result.now ≡ self.now }
+    {
+        self.ids.as_slice()
+    }
+
     pub fn has(&self, id: NodeId) -> bool
         ensures { result ≡ is_listed id self.now }
     {

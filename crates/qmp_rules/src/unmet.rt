@@ -1,7 +1,7 @@
 //! What each ask looks at, and the refusal where it is not met.
 ghost use Rattle.std.specs.Prelude.{◌≡◌, ◌&&◌, ◌||◌, IfOk, not, nat_le, nat_lt, ◌+◌, false, length, bytes_eq, is_none, is_some, option_and_then};
 ghost use Rattle.std.specs.Option.{option_copied};
-ghost use Rattle.qmp_rules.specs.Asks.{busy, differ, file_node, held_by, if_named, if_there, in_use, in_use_at, is_lost, lost, name_of_file, part_begins, part_ends, part_too_long, sizes_differ, takes, told_at};
+ghost use Rattle.qmp_rules.specs.Asks.{busy, differ, file_node, held_by, if_named, if_there, in_use, in_use_at, is_guarded, is_lost, lost, name_of_file, part_begins, part_ends, part_too_long, sizes_differ, takes, told_at};
 ghost use Rattle.qmp_rules.specs.Chains.{holder, is_settled};
 ghost use Rattle.qmp_asks.specs.Naming.{inline_name, is_file_name, is_name};
 ghost use Rattle.qmp_rules.specs.Refusals.{refused};
@@ -9,6 +9,7 @@ ghost use Rattle.qmp_asks.specs.Seen.{seen_text};
 ghost use Rattle.qmp_rules.specs.Table.{bitmap_named, child, device_named, has_name, id_named, job_named, node_named};
 ghost use Rattle.blk_graph.specs.declared.edge.Role.TheVariants.{Backing};
 
+use crate::find;
 use crate::refusal::{Crowd, FileFault, Refusal};
 use crate::refuse::{self, Found};
 use crate::rows::{BitmapRow, FileState, JobRecord, NodeRecord};
@@ -374,13 +375,20 @@ impl Names {
         }
     }
 
+    /// Whether a node is read-only, or only a commit that runs made it writable.
+    fn is_guarded(&self, row: &NodeRecord) -> bool
+        ensures { result ≡ is_guarded self.now.table row.now }
+    {
+        row.read_only || find::is_lent(self.jobs(), row.id)
+    }
+
     pub(crate) fn writable(&self, alloc: Global, node: &str) -> Found
         ensures { IfOk result (λ found. found ≡ if_there
-            (λ row. refused row.read_only (Refusal.ReadOnly row.name))
+            (λ row. refused (is_guarded self.now.table row) (Refusal.ReadOnly row.name))
             (node_named self.now.table node.now)) }
     {
         match self.node_named(node) {
-            Some(row) => refuse::read_only(alloc, row.read_only, row.name.as_str()),
+            Some(row) => refuse::read_only(alloc, self.is_guarded(row), row.name.as_str()),
             None => Ok(None),
         }
     }

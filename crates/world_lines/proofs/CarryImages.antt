@@ -166,12 +166,14 @@ abbrev leaves_images : Change → Bool
 leaves_images (change.SpoilFile name) = false
 leaves_images (change.PutFilter row node) = false
 leaves_images (change.Move from to but) = false
+leaves_images (change.PullFilter filter) = false
 leaves_images c = true
 
 one-kept : (s : State) (c : Change) → leaves_images c ≡ true → KeepsImages s c
 one-kept s (change.SpoilFile name) is = absurd (let bad : ⊥ = cc is in bad)
 one-kept s (change.PutFilter row node) is = absurd (let bad : ⊥ = cc is in bad)
 one-kept s (change.Move from to but) is = absurd (let bad : ⊥ = cc is in bad)
+one-kept s (change.PullFilter filter) is = absurd (let bad : ⊥ = cc is in bad)
 one-kept s _ is = tt
 
 both-parts : (a b : Bool) → (a && b) ≡ true → (a ≡ true) × (b ≡ true)

@@ -1,15 +1,15 @@
 //! The parts of changes, each made on one list of the table.
 ghost use Rattle.std.specs.Prelude.{◌≡◌, ◌<◌, ◌≤◌, ◌+◌, ◌-◌, ◌^◌, ◌∷◌, ◌++◌, [], IsTrue, Some, map, true};
 ghost use Rattle.blk_graph.specs.Edges.{HasNumber, may_have};
-ghost use Rattle.blk_graph.specs.Edits.{IsLone, with_edge, with_filter, with_replaced, without_parent};
-ghost use Rattle.qmp_rules.specs.Changes.{asked_for, bitmaps_but_of, busy_by, lost_with, rewired, with_turned, with_unsettled, with_writable, without_bitmap, without_device, without_name, without_record};
+ghost use Rattle.blk_graph.specs.Edits.{IsLone, with_edge, with_filter, with_replaced, without_edge, without_filter, without_parent};
+ghost use Rattle.qmp_rules.specs.Changes.{asked_for, bitmaps_but_of, busy_by, given_back, lost_with, ready_for, rewired, with_read_only, with_settled, with_turned, with_unsettled, with_writable, without_bitmap, without_device, without_job, without_name, without_record};
 ghost use Rattle.qmp_rules.specs.Room.{KeepsSpare};
 ghost use Rattle.qmp_rules.specs.Table.{with_file};
 
 use crate::edit;
 use crate::rows::{AskedEnd, BitmapRow, DeviceRow, FileState, JobRecord, NodeRecord, UsedBitmap};
 use crate::table::Names;
-use blk_graph::{Edge, NodeId, Parent, Perms};
+use blk_graph::{Edge, NodeId, Parent, Perms, Role};
 use qmp_asks::Name;
 
 impl Names {
@@ -48,6 +48,22 @@ impl Names {
         edit::make_writable(&mut self.nodes, id);
     }
 
+    pub(crate) fn settle(&mut self, id: NodeId)
+        ensures table { self.new.table
+            ≡ record self.old.table { nodes = with_settled id self.old.table.nodes } }
+        ensures spare { self.new.spare ≡ self.old.spare }
+    {
+        edit::settle(&mut self.nodes, id);
+    }
+
+    pub(crate) fn make_read_only(&mut self, id: NodeId)
+        ensures table { self.new.table
+            ≡ record self.old.table { nodes = with_read_only id self.old.table.nodes } }
+        ensures spare { self.new.spare ≡ self.old.spare }
+    {
+        edit::make_read_only(&mut self.nodes, id);
+    }
+
     pub(crate) fn drop_node(&mut self, id: NodeId)
         ensures table { self.new.table
             ≡ record self.old.table { nodes = without_record id self.old.table.nodes } }
@@ -76,6 +92,23 @@ impl Names {
         ensures spare { self.new.spare ≡ self.old.spare }
     {
         self.edges.put_filter(node, filter, perm, shared);
+    }
+
+    /// Takes a filter from between its child and its parents.
+    pub(crate) fn drop_filter(&mut self, filter: NodeId)
+        ensures table { self.new.table
+            ≡ record self.old.table { edges = without_filter filter self.old.table.edges } }
+        ensures spare { self.new.spare ≡ self.old.spare }
+    {
+        self.edges.drop_filter(filter);
+    }
+
+    pub(crate) fn drop_edge(&mut self, parent: Parent, role: Role)
+        ensures table { self.new.table
+            ≡ record self.old.table { edges = without_edge parent role self.old.table.edges } }
+        ensures spare { self.new.spare ≡ self.old.spare }
+    {
+        self.edges.remove(parent, role);
     }
 
     pub(crate) fn replace_edges(&mut self, from: NodeId, to: NodeId, but: Parent)
@@ -190,6 +223,31 @@ impl Names {
     {
         self.jobs.push_reserved(row);
         self.started += 1;
+    }
+
+    pub(crate) fn drop_job(&mut self, number: u32)
+        ensures table { self.new.table
+            ≡ record self.old.table { jobs = without_job number self.old.table.jobs } }
+        ensures spare { KeepsSpare self.old self.new }
+    {
+        edit::drop_job(&mut self.jobs, number);
+    }
+
+    /// No bitmap is used by the job any more.
+    pub(crate) fn give_back_bitmaps(&mut self, job: u32)
+        ensures table { self.new.table
+            ≡ record self.old.table { bitmaps = map (given_back job) self.old.table.bitmaps } }
+        ensures spare { self.new.spare ≡ self.old.spare }
+    {
+        edit::give_back_bitmaps(&mut self.bitmaps, job);
+    }
+
+    pub(crate) fn ready_job(&mut self, number: u32)
+        ensures table { self.new.table
+            ≡ record self.old.table { jobs = map (ready_for number) self.old.table.jobs } }
+        ensures spare { self.new.spare ≡ self.old.spare }
+    {
+        edit::ready_job(&mut self.jobs, number);
     }
 
     pub(crate) fn ask_job(&mut self, number: u32, asked: AskedEnd)
