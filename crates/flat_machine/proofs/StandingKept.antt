@@ -408,8 +408,8 @@ rows_stand s now rows edges guests devices states files disks left named loses h
   states = λ name what found is_open. subst (λ st. IsOfState st what) (sym (state_same name))
       (h.states name what (subst (λ fs. content_in fs name ≡ Some what) files found)
       (λ row over under.
-          let after = stands name row over in
-          is_open after.0 after.1.0 (still_under row.id after.0.id after.1.1.id under)));
+      let after = stands name row over in
+      is_open after.0 after.1.0 (still_under row.id after.0.id after.1.1.id under)));
   formatted = λ name is.
       let row = h.formatted name (sym (state_same name) ∙ is) in
       let after = stands name row.0 row.1 in (after.0, after.1.0);
