@@ -1,5 +1,5 @@
 -- Edges of jobs that come or go leave what holds of tables, and what guests' writing rests on.
-use Rattle.std.proofs.Common.{◌≡◌, ◌≢◌, ℕ, Bool, true, false, List, refl, sym, ap, subst, ◌∙◌, inl, inr, Some}
+use Rattle.std.proofs.Common.{◌≡◌, ◌≢◌, ℕ, Bool, false, List, refl, sym, ap, subst, ◌∙◌, inl, inr, Some}
 use Rattle.std.specs.Prelude.{◌==◌, not, IsSome}
 use Rattle.std.specs.List.{find, Contains}
 use Rattle.std.proofs.lemmas.List.Elements.{All-weaker}
@@ -21,7 +21,7 @@ use Rattle.blk_graph.proofs.RefreshLemmas.{child_of-refreshed}
 use Rattle.qmp_rules.specs.declared.change.Change.TheVariants as change
 use Rattle.qmp_rules.specs.Table.{RunTable, node_by_id, kinds_of}
 use Rattle.qmp_rules.specs.Changes.{changed}
-use Rattle.flat_machine.specs.State.{State, drive_of}
+use Rattle.flat_machine.specs.State.{State}
 use Rattle.flat_machine.specs.Changed.{stepped}
 use Rattle.flat_machine.specs.Wiring.{TableStands}
 use Rattle.flat_machine.specs.Standing.{IsUsedUp, WritingStands, Stands}

@@ -1,5 +1,5 @@
 -- What a piece of a guest's request does to nodes and files.
-use Rattle.std.specs.Prelude.{◌≡◌, ◌≢◌, ◌⊎◌, ℕ, true, ◌==◌, List, All, find, Option, Some, IsSome}
+use Rattle.std.specs.Prelude.{◌≡◌, ◌≢◌, ◌⊎◌, ℕ, true, ◌==◌, List, All, find, Some, IsSome}
 use Rattle.blk_base.specs.Pieces.{Extent}
 use Rattle.blk_graph.specs.declared.edge.Role.TheVariants.{File}
 use Rattle.trace_codec.specs.declared.op.Op.{Op}
