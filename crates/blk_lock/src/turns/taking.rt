@@ -61,7 +61,8 @@ impl<W: Logged> Turns<W> {
         world
     }
 
-    // The last ticket is never drawn, so that the count of those served fits its word.
+    // A ticket is drawn where the turn is free, so that none is that of a thread that isn't running.
+    // The last is never drawn, so that the count of those served fits its word.
     fn draw<R: Wait>(&self, rt: &R, seat: &mut PassSeat<W>) -> u64
         requires lock { seat.old.table_id ≡ self.now.table.shared.table_id }
         requires rest { seat.old.me.0.stage ≡ Rest }
@@ -71,7 +72,7 @@ impl<W: Logged> Turns<W> {
     {
         for _ in rt.forever() {
             let drawn = self.table.shared.peek(0);
-            if drawn < u64::MAX {
+            if drawn < u64::MAX && self.is_free(drawn) {
                 let found = self
                     .table
                     .shared
@@ -83,6 +84,11 @@ impl<W: Logged> Turns<W> {
             thread::yield_now();
         }
         unreachable!()
+    }
+
+    // Whether so many tickets are served soon: that is looked at a few times, since a turn is mostly shorter than a thread's pause.
+    fn is_free(&self, drawn: u64) -> bool {
+        (0..LOOKS).any(|_| self.table.shared.peek(1) == drawn)
     }
 
     fn watch<R: Wait>(&self, rt: &R, seat: &mut PassSeat<W>, ticket: u64)
@@ -100,7 +106,7 @@ impl<W: Logged> Turns<W> {
         unreachable!()
     }
 
-    // Looks a few times, since a turn is mostly shorter than a thread's pause.
+    // Looks a few times.
     fn is_served(&self, seat: &mut PassSeat<W>, ticket: u64) -> bool
         requires lock { seat.old.table_id ≡ self.now.table.shared.table_id }
         requires waits { seat.old.me.0.stage ≡ Waiting ticket }
