@@ -2,19 +2,13 @@
 
 ghost use Rattle.std.specs.Prelude.{◌↔◌, IsOk};
 
+use crate::qemu_locks::{self, in_use};
+use std::alloc::Global;
 use std::fs::{File, OpenOptions, TryLockError};
 use std::io::{Seek, SeekFrom};
 use std::os::unix::fs::FileTypeExt;
 use std::rt::Files;
 use std::{fs, io};
-
-/// Another open of the file has a lock.
-fn in_use() -> io::Error {
-    io::Error::new(
-        io::ErrorKind::ResourceBusy,
-        "In use: another program holds its lock",
-    )
-}
 
 /// Whether a lock was had.
 fn locked(tried: Result<(), TryLockError>) -> io::Result<()>
@@ -49,28 +43,44 @@ fn is_denied(error: &io::Error) -> bool {
     )
 }
 
-/// Opens a file for reading and writing under its exclusive lock; where writing is denied, for reading under a shared one.
-fn open_locked<R: Files<File = File>>(rt: &R, name: &str) -> io::Result<File> {
-    match OpenOptions::new().read(true).write(true).open(rt, name) {
-        Ok(file) => {
-            locked(file.try_lock())?;
-            Ok(file)
-        }
-        Err(error) if is_denied(&error) => {
-            let file = File::open(rt, name)?;
-            locked(file.try_lock_shared())?;
-            Ok(file)
-        }
-        Err(error) => Err(error),
-    }
+/// A file that is open, its length, and why it may not be written, where that is so.
+#[derive(Drop)]
+pub(crate) struct Opened {
+    pub file: File,
+    pub length: u64,
+    pub denied: Option<io::Error>,
 }
 
-/// Opens a file or a block device, and gives its length with it.
-pub(crate) fn open<R: Files<File = File>>(rt: &R, name: &str) -> io::Result<(File, u64)> {
+fn lock_to_write(file: &File) -> io::Result<()> {
+    locked(file.try_lock())?;
+    qemu_locks::lock_to_write(file)
+}
+
+/// Opens a file for reading alone, under a shared lock.
+fn open_to_read<R: Files<File = File>>(rt: &R, alloc: Global, name: &str) -> io::Result<File> {
+    let file = File::open(rt, name)?;
+    locked(file.try_lock_shared())?;
+    qemu_locks::lock_to_read(rt, alloc, &file)?;
+    Ok(file)
+}
+
+/// Opens a file or a block device, for reading and writing under its exclusive lock; where writing is denied, for reading.
+pub(crate) fn open<R: Files<File = File>>(rt: &R, alloc: Global, name: &str) -> io::Result<Opened> {
     check_kind(rt, name)?;
-    let mut file = open_locked(rt, name)?;
+    let (mut file, denied) = match OpenOptions::new().read(true).write(true).open(rt, name) {
+        Ok(file) => {
+            lock_to_write(&file)?;
+            (file, None)
+        }
+        Err(error) if is_denied(&error) => (open_to_read(rt, alloc, name)?, Some(error)),
+        Err(error) => return Err(error),
+    };
     let length = file.seek(SeekFrom::End(0))?;
-    Ok((file, length))
+    Ok(Opened {
+        file,
+        length,
+        denied,
+    })
 }
 
 /// Makes a file hold that many zero bytes, under its exclusive lock.
@@ -80,7 +90,7 @@ pub(crate) fn create<R: Files<File = File>>(rt: &R, name: &str, len: u64) -> io:
         .write(true)
         .create(true)
         .open(rt, name)?;
-    locked(file.try_lock())?;
+    lock_to_write(&file)?;
     file.set_len(0)?;
     file.set_len(len)
 }

@@ -6,10 +6,13 @@ mod access;
 mod device;
 mod failure;
 mod opening;
+mod qemu_locks;
+mod said;
 mod sink;
 mod store;
 
 pub use device::FileDevice;
 pub use failure::Failure;
+pub use said::{print_failure, print_line};
 pub use sink::OutSink;
 pub use store::FileStore;

@@ -8,7 +8,7 @@ ghost use Rattle.blk_base.specs.Counts.{Rose};
 
 use crate::device::CAPACITY;
 use crate::opening::Opening;
-use crate::{Failure, FileDevice, access};
+use crate::{Failure, FileDevice, access, said};
 use blk_base::{Bytes, Device, DeviceCall, Store, StoreCall, StoreStop, Text};
 use std::alloc::Global;
 use std::fs::File;
@@ -38,12 +38,11 @@ fn read_up_to(alloc: Global, file: &mut File, limit: u64) -> io::Result<Vec<u8>>
     Err(io::Error::from(io::ErrorKind::TimedOut))
 }
 
-/// A call of the store that failed: the file's name, which call it was and what the system said.
+/// A call of the store that failed: the file's name, and which call it was.
 #[derive(Debug, Drop)]
 struct Failed {
     name: Text,
     call: StoreCall,
-    error: io::Error,
 }
 
 /// The files of the system.
@@ -69,7 +68,7 @@ impl<'a, R: Files> Model for FileStore<'a, R> {
     } };
 }
 
-impl<'a, R: Files> FileStore<'a, R> {
+impl<'a, R: Files + Eprint> FileStore<'a, R> {
     /// The files, none of which is open.
     pub fn new(rt: &'a R, alloc: Global) -> Self
         ensures { result ≡ record { opened = []; faults = 0; failed_call = None } }
@@ -117,7 +116,7 @@ impl<'a, R: Files> FileStore<'a, R> {
         }
     }
 
-    /// Counts a failure, and keeps the call and what the system said where there is memory for the name.
+    /// Counts a failure, tells what the system said, and keeps the call where there is memory for the name.
     fn count(&mut self, name: &str, call: StoreCall, error: io::Error)
         ensures rose { Rose self.old.faults self.new.faults }
         ensures faults { self.old.faults ≤ self.new.faults }
@@ -127,8 +126,9 @@ impl<'a, R: Files> FileStore<'a, R> {
             ≡ record self.old { faults = self.new.faults; failed_call = self.new.failed_call } }
     {
         self.faults = self.faults.saturating_add(1);
+        said::print_stop(self.rt, self.alloc, self.faults, name, error);
         self.failed = match Text::copied(self.alloc, name) {
-            Ok(name) => Some(Failed { name, call, error }),
+            Ok(name) => Some(Failed { name, call }),
             Err(_) => None,
         };
     }
@@ -145,23 +145,15 @@ impl<'a, R: Files> FileStore<'a, R> {
         ensures faults { self.old.faults ≤ self.new.faults }
     {
         match error.kind() {
-            io::ErrorKind::NotFound => StoreStop::Absent,
+            // a name that the system can't hold is none of its files'
+            io::ErrorKind::NotFound
+            | io::ErrorKind::NotADirectory
+            | io::ErrorKind::InvalidFilename => StoreStop::Absent,
             io::ErrorKind::OutOfMemory => StoreStop::NoMemory,
             _ => {
                 self.count(name, call, error);
                 StoreStop::Failed
             }
-        }
-    }
-
-    /// What the system said of the store's last call that failed.
-    pub fn failure(&self) -> Option<Failure<'_>> {
-        match &self.failed {
-            Some(failed) => Some(Failure {
-                name: failed.name.as_str(),
-                error: failed.error,
-            }),
-            None => None,
         }
     }
 
@@ -171,7 +163,7 @@ impl<'a, R: Files> FileStore<'a, R> {
     }
 }
 
-impl<R: Files<File = File>> Store for FileStore<'_, R> {
+impl<R: Files<File = File> + Eprint> Store for FileStore<'_, R> {
     type Dev = FileDevice;
 
     ghost files = { λ _. None };
@@ -194,11 +186,14 @@ impl<R: Files<File = File>> Store for FileStore<'_, R> {
         if self.openings.reserve(1).is_err() {
             return Err(StoreStop::NoMemory);
         }
-        let (file, length) = match access::open(self.rt, name) {
+        let opened = match access::open(self.rt, self.alloc, name) {
             Ok(opened) => opened,
             Err(error) => return Err(self.stopped(name, StoreCall::Open, error)),
         };
-        let dev = FileDevice::new(file, length);
+        if let Some(error) = opened.denied {
+            said::print_denied(self.rt, self.alloc, name, error);
+        }
+        let dev = FileDevice::new(opened.file, opened.length);
         self.openings.push_reserved(Opening::new(text, &dev));
         Ok(dev)
     }

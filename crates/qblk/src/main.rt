@@ -5,9 +5,9 @@
 
 mod report;
 
-use crate::report::{print_failure, print_status};
+use crate::report::print_status;
 use blk_base::{FaultFrom, Text};
-use blk_files::{Failure, FileStore, OutSink};
+use blk_files::{Failure, FileStore, OutSink, print_failure};
 pub use qblk_core::{Format, InputWhy, Status, run_io};
 pub use qblk_run::{qblk, run_script};
 use std::alloc::Global;
@@ -33,8 +33,8 @@ fn words_of<R: Env + AllocGlobal>(rt: &R, alloc: Global) -> Result<Vec<Text>, St
     Ok(words)
 }
 
-/// What the system said of the fault that a status names.
-fn failure_of<'a, R: Files, W: Write>(
+/// What the system said of the fault that a status names. Of one of the store it was told when it came.
+fn failure_of<'a, R: Files + Eprint, W: Write>(
     status: &Status,
     store: &'a FileStore<'_, R>,
     out: &OutSink<W>,
@@ -43,7 +43,7 @@ fn failure_of<'a, R: Files, W: Write>(
         return None;
     };
     match from {
-        FaultFrom::Store => store.failure(),
+        FaultFrom::Store => None,
         FaultFrom::Dev(dev) => store.failure_of(dev.0 as usize),
         FaultFrom::Sink => Some(Failure {
             name: "standard output",
@@ -64,7 +64,7 @@ fn run_on_system<R: Files<File = File> + Print + Eprint>(
         print_status(rt, alloc, &status);
     }
     if let Some(failure) = failure_of(&status, &store, &out) {
-        print_failure(rt, alloc, &failure);
+        print_failure(rt, alloc, failure.name, failure.error);
     }
     status
 }
