@@ -2,6 +2,7 @@
 .PHONY: run build test
 
 EXAMPLE = $(CURDIR)/out/example
+FROM = $(or $(PWD),$(CURDIR))
 ARGUMENTS = run 1 $(EXAMPLE)/script.txt vda=$(EXAMPLE)/vda.txt vdb=$(EXAMPLE)/vdb.txt
 
 # two disks, a script that puts a guest on each, and what the guests ask
@@ -19,10 +20,9 @@ out/example/script.txt:
 	  '{"execute":"blockdev-del","arguments":{"node-name":"a"}}' \
 	  'await guest vda 2' > $@
 
-# a script with two guests: the transcript goes to standard output
+# a script with two guests, or what ARGUMENTS say, in the caller's folder: the transcript goes to standard output
 run: out/example/script.txt
-	@echo 'Building and running the program as it is, without proving it: about a minute and a half.'
-	cd crates/qblk && rt try -- $(ARGUMENTS)
+	@cd '$(FROM)' && { '$(CURDIR)/tools/unproved' $(ARGUMENTS) || echo "status $$?"; }
 
 # the proved program, at crates/qblk/out/qblk
 build: out/example/script.txt
