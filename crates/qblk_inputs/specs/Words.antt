@@ -30,11 +30,15 @@ abbrev pub is_inner_name : List ℕ → Bool
 is_inner_name name =
     nat_lt 0 (length name) && nat_lt (length name) 1024 && not (list_any (λ b. b == 0) name)
 
+-- a guest's name: the end of one called `script` would read as the script's
+abbrev pub is_guest_name : List ℕ → Bool
+is_guest_name name = is_name name && not (bytes_eq name (codes "script"))
+
 -- there is an `=`: what stands before it is not the whole word
 abbrev pub is_player : List ℕ → Bool
 is_player word =
     nat_lt (length (player_of word).name) (length word)
-    && (is_name (player_of word).name && is_inner_name (player_of word).trace)
+    && (is_guest_name (player_of word).name && is_inner_name (player_of word).trace)
 
 abbrev pub all_differ : List (List ℕ) → Bool
 all_differ [] = true

@@ -1,7 +1,7 @@
 //! The words of a run.
 ghost use Rattle.std.specs.Prelude.{◌≡◌, ◌==◌, ◌<◌, bytes_eq, map, length, MatchOption};
 ghost use Rattle.std.specs.List.{list_any, list_all, position_or_len, before_first, after_first};
-ghost use Rattle.qblk_inputs.specs.Words.{Cast, IsRunOf, texts_in, is_file_word, is_inner_name, is_player, player_of, player_names, are_players, all_differ, cast_of};
+ghost use Rattle.qblk_inputs.specs.Words.{Cast, IsRunOf, texts_in, is_file_word, is_guest_name, is_inner_name, is_player, player_of, player_names, are_players, all_differ, cast_of};
 
 use blk_base::Text;
 use trace_codec::is_name;
@@ -60,12 +60,19 @@ pub(crate) fn player_of(word: &str) -> (&str, &str)
     }
 }
 
+/// Whether a guest may be called so. The end of one called `script` would read as the script's.
+fn is_guest_name(name: &str) -> bool
+    ensures { result ≡ is_guest_name name.now }
+{
+    is_name(name.as_bytes()) && name != "script"
+}
+
 /// Whether a word is `GUEST=TRACE`.
 fn is_player(word: &str) -> bool
     ensures { result ≡ is_player word.now }
 {
     let (name, trace) = player_of(word);
-    name.len() < word.len() && is_name(name.as_bytes()) && is_inner_name(trace)
+    name.len() < word.len() && is_guest_name(name) && is_inner_name(trace)
 }
 
 /// Whether the words name guests of different names.
