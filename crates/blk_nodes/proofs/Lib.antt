@@ -7,6 +7,8 @@ pub mod Disks
 mod Additions
 pub mod KeptDisks
 mod Unfolding
+pub mod Through
+pub mod Commits
 mod Drawn
 mod OverlayAdded
 pub mod Dropped

@@ -2,6 +2,7 @@ pub mod Nodes
 pub mod Contents
 pub mod Sources
 pub mod Walk
+pub mod Through
 pub mod Joined
 pub mod Reading
 pub mod Found

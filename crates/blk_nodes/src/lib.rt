@@ -8,6 +8,7 @@ mod copying;
 mod devices;
 mod found;
 mod handing;
+mod laws;
 mod nodes;
 mod opening;
 mod part;
@@ -19,5 +20,6 @@ mod zeros;
 
 pub use backing::Backing;
 pub use handing::DevicesLeft;
+pub use laws::base_leaves_top;
 pub use nodes::{NodeUse, Nodes};
 pub use stop::{AddStop, FormatStop};
