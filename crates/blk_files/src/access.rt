@@ -51,16 +51,17 @@ pub(crate) struct Opened {
     pub denied: Option<io::Error>,
 }
 
-fn lock_to_write(file: &File) -> io::Result<()> {
+/// Locks a file that is open for writing, where no running QEMU is against it.
+fn lock_to_write<R: Files<File = File>>(rt: &R, alloc: Global, file: &File) -> io::Result<()> {
     locked(file.try_lock())?;
-    qemu_locks::lock_to_write(file)
+    qemu_locks::check_free(rt, alloc, file, true)
 }
 
 /// Opens a file for reading alone, under a shared lock.
 fn open_to_read<R: Files<File = File>>(rt: &R, alloc: Global, name: &str) -> io::Result<File> {
     let file = File::open(rt, name)?;
     locked(file.try_lock_shared())?;
-    qemu_locks::lock_to_read(rt, alloc, &file)?;
+    qemu_locks::check_free(rt, alloc, &file, false)?;
     Ok(file)
 }
 
@@ -69,7 +70,7 @@ pub(crate) fn open<R: Files<File = File>>(rt: &R, alloc: Global, name: &str) -> 
     check_kind(rt, name)?;
     let (mut file, denied) = match OpenOptions::new().read(true).write(true).open(rt, name) {
         Ok(file) => {
-            lock_to_write(&file)?;
+            lock_to_write(rt, alloc, &file)?;
             (file, None)
         }
         Err(error) if is_denied(&error) => (open_to_read(rt, alloc, name)?, Some(error)),
@@ -84,13 +85,18 @@ pub(crate) fn open<R: Files<File = File>>(rt: &R, alloc: Global, name: &str) -> 
 }
 
 /// Makes a file hold that many zero bytes, under its exclusive lock.
-pub(crate) fn create<R: Files<File = File>>(rt: &R, name: &str, len: u64) -> io::Result<()> {
+pub(crate) fn create<R: Files<File = File>>(
+    rt: &R,
+    alloc: Global,
+    name: &str,
+    len: u64,
+) -> io::Result<()> {
     let file = OpenOptions::new()
         .read(true)
         .write(true)
         .create(true)
         .open(rt, name)?;
-    lock_to_write(&file)?;
+    lock_to_write(rt, alloc, &file)?;
     file.set_len(0)?;
     file.set_len(len)
 }

@@ -205,7 +205,7 @@ impl<R: Files<File = File> + Eprint> Store for FileStore<'_, R> {
         if len > CAPACITY {
             return Err(StoreStop::TooLong);
         }
-        match access::create(self.rt, name, len) {
+        match access::create(self.rt, self.alloc, name, len) {
             Ok(()) => Ok(()),
             Err(error) => {
                 self.count(name, StoreCall::Create { len }, error);
