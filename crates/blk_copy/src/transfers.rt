@@ -1,4 +1,4 @@
-ghost use Rattle.std.specs.Prelude.{◌≡◌, ◌<◌, ◌++◌, ◌∷◌, [], false, length, IfOk, vec_capacity};
+ghost use Rattle.std.specs.Prelude.{◌≡◌, ◌<◌, ◌==◌, ◌++◌, ◌∷◌, [], false, length, IfOk, vec_capacity};
 ghost use Rattle.blk_copy.specs.Rows.{has_row, is_in_flight, without_row};
 
 use blk_base::NoMemory;
@@ -64,12 +64,32 @@ impl Transfers {
         ensures closed { self.new
             ≡ record self.old { rows = without_row job cluster self.old.rows } }
     {
-        let found = self
-            .rows
-            .iter()
-            .any(|row| row.job == job && row.cluster == cluster);
+        let found = self.has_row(job, cluster);
         remove_row(&mut self.rows, job, cluster);
         found
+    }
+
+    /// Whether a transfer of a job and cluster is in flight.
+    pub fn has_row(&self, job: u32, cluster: u64) -> bool
+        ensures { result ≡ has_row job cluster self.now.rows }
+    {
+        self.rows
+            .iter()
+            .any(|row| row.job == job && row.cluster == cluster)
+    }
+
+    /// Whether no transfer is in flight.
+    pub fn is_empty(&self) -> bool
+        ensures { result ≡ (length self.now.rows == 0) }
+    {
+        self.rows.is_empty()
+    }
+
+    /// Ends all transfers.
+    pub fn clear(&mut self)
+        ensures { self.new ≡ record self.old { rows = [] } }
+    {
+        self.rows.clear();
     }
 }
 
