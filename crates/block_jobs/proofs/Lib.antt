@@ -1,3 +1,4 @@
 pub mod Ahead
 pub mod PartLemmas
+pub mod Steps
 pub mod WorkLemmas

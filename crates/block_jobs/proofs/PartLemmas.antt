@@ -1,8 +1,8 @@
 -- Parts of a disk and the blocks that they lie in.
-use Rattle.std.proofs.Common.{◌≡◌, ◌⊎◌, ◌↔◌, ℕ, zero, suc, ◌+◌, ◌-◌, ◌*◌, ◌/◌, ◌%◌, ◌^◌, ◌<◌, ◌≤◌, Bool, true, false, not, ◌&&◌, ◌||◌, List, [], ◌∷◌, length, map, find, Option, Some, None, cond, refl, sym, ◌∙◌, ap, subst, arith, inl, inr}
+use Rattle.std.proofs.Common.{◌≡◌, ◌↔◌, ℕ, zero, suc, ◌+◌, ◌-◌, ◌*◌, ◌/◌, ◌^◌, ◌<◌, ◌≤◌, Bool, true, false, not, ◌&&◌, ◌||◌, List, [], ◌∷◌, length, map, find, Some, None, cond, refl, sym, ◌∙◌, ap, subst, arith, inl, inr}
 use Rattle.std.specs.List.{range_with_len, list_any}
 use Rattle.std.proofs.Math.Nat.{div-lt_iff_lt-mul, mul-le-mul_left, mul_assoc, mul_comm, pow-le-pow_right}
-use Rattle.std.proofs.lemmas.Bool.{cases_lt, cases_eq, cases_Bool, false≢true}
+use Rattle.std.proofs.lemmas.Bool.{cases_lt, cases_eq, false≢true}
 use Rattle.std.specs.Simd.Lanes.{mask_l}
 use Rattle.std.proofs.lemmas.Simd.{mask_l-lt}
 use Rattle.std.proofs.lemmas.List.{get_or_past}
@@ -34,6 +34,21 @@ find_first p a (suc n) b from less is none = elim (cases_eq a b) [
 pub find_none : (p : ℕ → Bool) (a n : ℕ) → ((k : ℕ) → a ≤ k → k < a + n → p k ≡ false) → find p (range_with_len a n) ≡ None
 find_none p a zero none = refl
 find_none p a (suc n) none = rw (none a (omega arith) (omega arith)) (find_none p (a + 1) n (λ k above below. none k (omega (arith, above)) (omega (arith, below))))
+
+-- and what is so of the number that was found
+pub find_found : (p : ℕ → Bool) (a n b : ℕ) → find p (range_with_len a n) ≡ Some b → (b < a + n) × (p b ≡ true)
+find_found p a zero b is = absurd (differ is)
+  where
+    differ : None ≡ Some b → ⊥
+    differ e = cc
+find_found p a (suc n) b is = by_test (p a) refl is (λ rest. find_found p (a + 1) n b rest)
+  where
+    by_test : (t : Bool) → p a ≡ t → cond t (Some a) (find p (range_with_len (a + 1) n)) ≡ Some b
+        → (find p (range_with_len (a + 1) n) ≡ Some b → (b < a + 1 + n) × (p b ≡ true)) → (b < a + suc n) × (p b ≡ true)
+    by_test true t found rest =
+        let same : a ≡ b = cc in
+        (omega (arith, same), subst (λ (k : ℕ). p k ≡ true) same t)
+    by_test false t found rest = let more = rest found in (omega (arith, more.0), more.1)
 
 pub any_at : (p : ℕ → Bool) (a n b : ℕ) → a ≤ b → b < a + n → p b ≡ true → list_any p (range_with_len a n) ≡ true
 any_at p a zero b from less is = absurd (omega (arith, from, less))
@@ -191,7 +206,7 @@ module _ (work : JobWork) (is : IsJobWork work) where
   seen_within seen k least = omega (arith, block_within k (member_below work.left k least.member))
 
 -- a set with a member, and one without
-has_at : (set : List Bool) (k : ℕ) → contains set k ≡ true → list_any (λ part. part) set ≡ true
+pub has_at : (set : List Bool) (k : ℕ) → contains set k ≡ true → list_any (λ part. part) set ≡ true
 has_at [] k is = absurd (false≢true is)
 has_at (b ∷ set) zero is = rw is refl
 has_at (b ∷ set) (suc k) is = or_true b (has_at set k is)
@@ -210,3 +225,14 @@ has_no (b ∷ set) none = rw (none 0 (omega arith)) (has_no set (λ k _. none (s
 pub bit_most : (b : Bool) → cond b 1 0 ≤ 1
 bit_most true = omega arith
 bit_most false = omega arith
+
+-- the next block is on the disk, and no copy of it is in flight
+pub next_is : (work : JobWork) (block : ℕ) → next_block work ≡ Some block → (block < block_count work.size) × (has_open work block ≡ false)
+next_is work block is =
+    let found = find_found (is_next work) 0 (block_count work.size) block is in
+    (omega (arith, found.0), shut (has_left work block) (has_open work block) found.1)
+  where
+    shut : (a b : Bool) → (a && not b) ≡ true → b ≡ false
+    shut a false e = refl
+    shut true true e = absurd (false≢true e)
+    shut false true e = absurd (false≢true e)

@@ -1,11 +1,11 @@
 -- Copies in flight, and work that stays in order.
-use Rattle.std.proofs.Common.{◌≡◌, ℕ, zero, suc, ◌+◌, ◌<◌, ◌≤◌, ◌==◌, Bool, true, false, not, ◌&&◌, ◌||◌, List, [], ◌∷◌, ◌++◌, length, map, filter, cond, refl, sym, ◌∙◌, ap, subst, ◌-◌, ◌*◌, ◌/◌, ◌%◌, ◌^◌, replicate, None, arith, eqb, eq-eqb, eqb-true, length-append}
+use Rattle.std.proofs.Common.{◌≡◌, ℕ, ◌<◌, ◌≤◌, ◌==◌, Bool, true, false, not, ◌&&◌, ◌||◌, List, [], ◌∷◌, ◌++◌, length, map, cond, refl, sym, ◌∙◌, subst, ◌*◌, ◌/◌, ◌%◌, ◌^◌, replicate, None, arith, eqb, eq-eqb, eqb-true, length-append}
 use Rattle.std.specs.List.{list_any, AllByRecursion, IsDistinct}
 use Rattle.std.proofs.lemmas.Bool.{false≢true}
 use Rattle.std.proofs.lemmas.Map.Keys.{IsDistinct-cons}
 use Rattle.std.proofs.lemmas.Map.Steps.{length-le_from_distinct_below}
 use Rattle.std.proofs.lemmas.List.{length-map, length-replicate}
-use Rattle.blk_copy.specs.Rows.{is_of, has_row, without_row}
+use Rattle.blk_copy.specs.Rows.{is_of, is_in_flight, has_row, without_row}
 use Rattle.blk_copy.specs.declared.transfers.Transfer.{Transfer}
 use Rattle.blk_base.specs.Pieces.{block_size}
 use Rattle.blk_bitmaps.specs.Rows.{granule_count}
@@ -13,11 +13,11 @@ use Rattle.blk_copy.specs.Table.{Table}
 use Rattle.block_jobs.specs.Work.{JobWork, AreCopiesOf, HasRoomForAll, IsJobWork, begun, block_count, has_open, part_bytes, room_for, sector_size}
 use Rattle.qmp_codec.specs.declared.event.JobKind.{JobKind}
 
-left_false : (a b : Bool) → (a || b) ≡ false → a ≡ false
+pub left_false : (a b : Bool) → (a || b) ≡ false → a ≡ false
 left_false true b e = e
 left_false false b e = refl
 
-right_false : (a b : Bool) → (a || b) ≡ false → b ≡ false
+pub right_false : (a b : Bool) → (a || b) ≡ false → b ≡ false
 right_false true b e = absurd (false≢true (sym e))
 right_false false b e = e
 
@@ -44,10 +44,10 @@ copies_fewer job size block (row ∷ rows) are = by_test (is_of job block row) (
 
 -- one more
 
-is_of_own : (job c : ℕ) (row : Transfer) → row.job ≡ job → is_of job c row ≡ (row.cluster == c)
+pub is_of_own : (job c : ℕ) (row : Transfer) → row.job ≡ job → is_of job c row ≡ (row.cluster == c)
 is_of_own job c row own = rw (eq-eqb row.job job own) refl
 
-flip : (a b : ℕ) → (a == b) ≡ false → (b == a) ≡ false
+pub flip : (a b : ℕ) → (a == b) ≡ false → (b == a) ≡ false
 flip a b apart = by_test (b == a) refl
   where
     by_test : (t : Bool) → (b == a) ≡ t → t ≡ false
@@ -151,3 +151,22 @@ pub begun_is : (kind : JobKind) (job size g part count room : ℕ) (left : List 
     → left ≡ replicate count false → room ≡ room_for kind size → table ≡ record { rows = []; room = room }
     → (let work : JobWork = record { job = job; size = size; part = part; left = left; rows = table.rows; room = table.room; met = None } in work) ≡ begun kind job size g
 begun_is kind job size g part count room left table a b c d e = rw (e, c, b, d, a) refl
+
+-- a copy in flight is of a block of the disk
+pub in_flight_within : (job size : ℕ) (t : Transfer) (rows : List Transfer) → AreCopiesOf job size rows → is_in_flight t rows ≡ true → t.cluster < block_count size
+in_flight_within job size t [] are there = absurd (false≢true there)
+in_flight_within job size t (row ∷ rows) are there =
+    by_test (is_of t.job t.cluster row && (row.position == t.position)) refl there (λ more. in_flight_within job size t rows are.3 more)
+  where
+    middle : (a b c : Bool) → ((a && b) && c) ≡ true → b ≡ true
+    middle true true c e = refl
+    middle true false c e = absurd (false≢true e)
+    middle false b c e = absurd (false≢true e)
+
+    by_test : (b : Bool) → (is_of t.job t.cluster row && (row.position == t.position)) ≡ b → (b || is_in_flight t rows) ≡ true
+        → (is_in_flight t rows ≡ true → t.cluster < block_count size) → t.cluster < block_count size
+    by_test true is there rest =
+        let same : row.cluster ≡ t.cluster
+        = eqb-true row.cluster t.cluster (middle (row.job == t.job) (row.cluster == t.cluster) (row.position == t.position) is) in
+        subst (λ (n : ℕ). n < block_count size) same are.1
+    by_test false is there rest = rest there

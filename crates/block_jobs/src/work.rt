@@ -1,7 +1,8 @@
-ghost use Rattle.std.specs.Prelude.{◌≡◌, ◌<◌, ◌≤◌, ◌+◌, ◌*◌, ◌^◌, ◌==◌, not, true, false, length, IfOk, None, if◌then◌else◌};
+ghost use Rattle.std.specs.Prelude.{◌≡◌, ◌<◌, ◌≤◌, ◌+◌, ◌*◌, ◌^◌, ◌==◌, not, true, length, IfOk, None, Some, if◌then◌else◌};
 ghost use Rattle.std.specs.List.{list_any};
 ghost use Rattle.blk_bitmaps.specs.Rows.{granule_count};
-ghost use Rattle.block_jobs.specs.Work.{IsJobWork, HasRoomForAll, block_count, has_left, has_open, is_left, next_block, sectors_left, part_bytes, room_for, begun, all_left, granules_left, left_again, without_block, with_transfer, after_take, after_settle, after_copy, failed_by};
+ghost use Rattle.blk_copy.specs.Rows.{is_in_flight};
+ghost use Rattle.block_jobs.specs.Work.{IsJobWork, HasRoomForAll, block_count, next_block, sectors_left, part_bytes, room_for, begun, all_left, granules_left, left_again, without_block, after_take, after_settle, after_copy, failed_by};
 
 use crate::parts::{empty, fill, has_any, holds, mark, take_off};
 use blk_base::{Fault, NoMemory, PIECE, Span};
@@ -31,9 +32,25 @@ impl Model for JobWork {
 
     ghost Value = { Seen };
 
-    ghost view = { λ w. record { job = w.job; size = w.size; part = w.part; left = w.left; rows = w.copies.rows; room = w.copies.room; met = w.met } };
+    ghost view = { λ w. record {
+      job = w.job;
+      size = w.size;
+      part = w.part;
+      left = w.left;
+      rows = w.copies.rows;
+      room = w.copies.room;
+      met = w.met;
+    } };
 
-    ghost invariant = { λ w. IsJobWork (record { job = w.job; size = w.size; part = w.part; left = w.left; rows = w.copies.rows; room = w.copies.room; met = w.met }) };
+    ghost invariant = { λ w. IsJobWork (record {
+      job = w.job;
+      size = w.size;
+      part = w.part;
+      left = w.left;
+      rows = w.copies.rows;
+      room = w.copies.room;
+      met = w.met;
+    }) };
 }
 
 impl JobWork {
@@ -154,18 +171,32 @@ impl JobWork {
         }
     }
 
-    /// A block was read, and is to be written.
-    pub fn begin(&mut self, kind: JobKind, t: Transfer)
-        requires job { t.job ≡ self.old.job }
-        requires within { t.cluster < block_count self.old.size }
-        requires apart { has_open self.old t.cluster ≡ false }
+    /// The next block was read behind `position` entries of the history, and is to be written.
+    pub fn begin(&mut self, kind: JobKind, block: u64, position: u64) -> Transfer
+        requires next { next_block self.old ≡ Some block }
         requires room { HasRoomForAll self.old }
-        ensures { self.new ≡ after_take kind t self.old }
+        ensures transfer { result
+            ≡ record { job = self.old.job; cluster = block; position = position } }
+        ensures work { self.new ≡ after_take kind result self.old }
     {
+        let t = Transfer {
+            job: self.job,
+            cluster: block,
+            position,
+        };
         self.copies.enter(t);
         if let JobKind::Mirror = kind {
-            self.take_block_off(t.cluster);
+            self.take_block_off(block);
         }
+        t
+    }
+
+    /// Whether just this copy is in flight.
+    pub fn is_in_flight(&self, t: Transfer) -> bool
+        ensures flies { result ≡ is_in_flight t self.now.rows }
+        ensures within { result ≡ true → t.cluster < block_count self.now.size }
+    {
+        self.copies.find(t)
     }
 
     /// A block that was read has been written.

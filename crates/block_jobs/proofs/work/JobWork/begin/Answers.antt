@@ -1,12 +1,38 @@
-use Rattle.std.proofs.Common.{◌≡◌, ◌<◌, ap, sym, subst, List, false}
+use Rattle.std.proofs.Common.{◌≡◌, ◌<◌, ap, refl, sym, subst, List, Some, false}
 use Rattle.blk_copy.specs.declared.transfers.Transfer.{Transfer}
 use Rattle.blk_copy.specs.Table.{Table}
-use Rattle.block_jobs.specs.Work.{JobWork, AreCopiesOf, HasRoomForAll, block_count, has_open}
+use Rattle.block_jobs.specs.Work.{JobWork, AreCopiesOf, HasRoomForAll, block_count, has_open, next_block}
+use Rattle.block_jobs.proofs.PartLemmas.{next_is}
 use Rattle.block_jobs.proofs.WorkLemmas.{copies_more, room_for_one}
 use Rattle.block_jobs.proofs.work.JobWork.begin.Goals as goal
 
-abbrev CanBegin : Transfer → JobWork → Type 0
-CanBegin t w = (t.job ≡ w.job) × (t.cluster < block_count w.size) × (has_open w t.cluster ≡ false) × HasRoomForAll w
+pub enter-requires-clause-apart : goal.enter-requires-clause-apart
+enter-requires-clause-apart c =
+    let w : JobWork = record {
+      job = c.self.inside.job;
+      size = c.self.inside.size;
+      part = c.self.inside.part;
+      left = c.self.inside.left;
+      rows = c.self.inside.copies.rows;
+      room = c.self.inside.copies.room;
+      met = c.self.inside.met;
+    } in
+    let next : next_block w ≡ Some c.args.block = subst (λ (x : JobWork). next_block x ≡ Some c.args.block) (sym c.self.view_is) c.requires.next in
+    (next_is w c.args.block next).1
+
+pub take_block_off-requires : goal.take_block_off-requires
+take_block_off-requires c =
+    let w : JobWork = record {
+      job = c.self.inside.job;
+      size = c.self.inside.size;
+      part = c.self.inside.part;
+      left = c.self.inside.left;
+      rows = c.self.inside.copies.rows;
+      room = c.self.inside.copies.room;
+      met = c.self.inside.met;
+    } in
+    let next : next_block w ≡ Some c.args.block = subst (λ (x : JobWork). next_block x ≡ Some c.args.block) (sym c.self.view_is) c.requires.next in
+    (next_is w c.args.block next).0
 
 pub enter-requires-clause-room : goal.enter-requires-clause-room
 enter-requires-clause-room c =
@@ -19,9 +45,11 @@ enter-requires-clause-room c =
       room = c.self.inside.copies.room;
       met = c.self.inside.met;
     } in
-    let can : CanBegin c.args.t w
-    = subst (λ (x : JobWork). CanBegin c.args.t x) (sym c.self.view_is) (c.requires.job, c.requires.within, c.requires.apart, c.requires.room) in
-    room_for_one w c.args.t can.0 can.1 can.2 can.3 c.self.invariant.copies
+    let next : next_block w ≡ Some c.args.block = subst (λ (x : JobWork). next_block x ≡ Some c.args.block) (sym c.self.view_is) c.requires.next in
+    let can : (c.args.block < block_count w.size) × (has_open w c.args.block ≡ false) = next_is w c.args.block next in
+    let room : HasRoomForAll w = subst (λ (x : JobWork). HasRoomForAll x) (sym c.self.view_is) c.requires.room in
+    let t : Transfer = record { job = c.self.inside.job; cluster = c.args.block; position = c.args.position } in
+    room_for_one w t refl can.0 can.1 room c.self.invariant.copies
 
 pub invariant_of-self : goal.invariant_of-self
 invariant_of-self c =
@@ -35,8 +63,9 @@ invariant_of-self c =
       room = c.self.inside.copies.room;
       met = c.self.inside.met;
     } in
-    let can : CanBegin c.args.t w
-    = subst (λ (x : JobWork). CanBegin c.args.t x) (sym c.self.view_is) (c.requires.job, c.requires.within, c.requires.apart, c.requires.room) in
+    let next : next_block w ≡ Some c.args.block = subst (λ (x : JobWork). next_block x ≡ Some c.args.block) (sym c.self.view_is) c.requires.next in
+    let can : (c.args.block < block_count w.size) × (has_open w c.args.block ≡ false) = next_is w c.args.block next in
+    let t : Transfer = record { job = c.self.inside.job; cluster = c.args.block; position = c.args.position } in
     record {
       size = is.size;
       some = is.some;
@@ -44,7 +73,7 @@ invariant_of-self c =
       blocks = is.blocks;
       left = is.left;
       copies = subst (λ (rows : List Transfer). AreCopiesOf c.self.inside.job c.self.inside.size rows) (sym (ap (λ (t : Table). t.rows) c.enter.ensures))
-          (copies_more c.self.inside.job c.self.inside.size c.self.inside.copies.rows c.args.t can.0 can.1 can.2 is.copies);
+          (copies_more c.self.inside.job c.self.inside.size c.self.inside.copies.rows t refl can.0 can.1 is.copies);
     }
 
 pub invariant_of-self-in_default : goal.invariant_of-self-in_default
@@ -59,8 +88,9 @@ invariant_of-self-in_default c =
       room = c.self.inside.copies.room;
       met = c.self.inside.met;
     } in
-    let can : CanBegin c.args.t w
-    = subst (λ (x : JobWork). CanBegin c.args.t x) (sym c.self.view_is) (c.requires.job, c.requires.within, c.requires.apart, c.requires.room) in
+    let next : next_block w ≡ Some c.args.block = subst (λ (x : JobWork). next_block x ≡ Some c.args.block) (sym c.self.view_is) c.requires.next in
+    let can : (c.args.block < block_count w.size) × (has_open w c.args.block ≡ false) = next_is w c.args.block next in
+    let t : Transfer = record { job = c.self.inside.job; cluster = c.args.block; position = c.args.position } in
     record {
       size = is.size;
       some = is.some;
@@ -68,5 +98,5 @@ invariant_of-self-in_default c =
       blocks = is.blocks;
       left = is.left;
       copies = subst (λ (rows : List Transfer). AreCopiesOf c.self.inside.job c.self.inside.size rows) (sym (ap (λ (t : Table). t.rows) c.enter.ensures))
-          (copies_more c.self.inside.job c.self.inside.size c.self.inside.copies.rows c.args.t can.0 can.1 can.2 is.copies);
+          (copies_more c.self.inside.job c.self.inside.size c.self.inside.copies.rows t refl can.0 can.1 is.copies);
     }

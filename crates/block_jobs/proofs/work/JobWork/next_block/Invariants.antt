@@ -1,4 +1,4 @@
-use Rattle.std.proofs.Common.{◌≡◌, ◌<◌, ◌≤◌, ◌-◌, ◌/◌, ℕ, false}
+use Rattle.std.proofs.Common.{◌≡◌, ◌<◌, ◌≤◌, ◌-◌, ℕ, false}
 use Rattle.block_jobs.specs.Work.{block_count, is_next}
 use Rattle.block_jobs.proofs.work.JobWork.next_block.Given as goal
 
