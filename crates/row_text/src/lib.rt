@@ -10,10 +10,14 @@
 
 mod bytes;
 mod entry;
+mod play;
 mod report;
+mod row;
 mod stop;
 
 pub use bytes::{read_bytes, read_number};
 pub use entry::{Entry, Line, entries};
+pub use play::{Player, play_files};
 pub use report::{Difference, Report, first_difference};
+pub use row::{Row, named};
 pub use stop::Stop;
