@@ -19,5 +19,5 @@ pub use bytes::{read_bytes, read_number};
 pub use entry::{Entry, Line, entries};
 pub use play::{Player, play_files};
 pub use report::{Difference, Report, first_difference};
-pub use row::{Row, named};
+pub use row::{Row, RowStop, named};
 pub use stop::Stop;

@@ -1,6 +1,6 @@
 //! Files of rows of one line, played one behind the other.
 
-use crate::{Difference, Report, Row, Stop, entries};
+use crate::{Difference, Report, Row, RowStop, Stop, entries};
 use std::alloc::{AllocError, Global};
 use std::rt::{Env, Files};
 use std::{env, fs, io};
@@ -8,7 +8,7 @@ use std::{env, fs, io};
 /// What plays rows.
 pub trait Player {
     /// What is answered to a row.
-    fn answer_to(&mut self, row: &Row) -> Result<String, Stop>;
+    fn answer_to(&mut self, row: &Row) -> Result<String, RowStop>;
 }
 
 /// What came of a row otherwise than it says.
@@ -35,7 +35,7 @@ fn play_row<R: Print + AllocGlobal, P: Player>(
     match player.answer_to(row) {
         Ok(came) if row.is_right(came.as_str()) => report.tell(rt, &[]),
         Ok(came) => report.tell(rt, &[difference(rt.alloc(), row, came)?]),
-        Err(stop) => report.tell_stop(rt, row.line, stop),
+        Err(stop) => report.tell_stop(rt, row.line, Stop::Unread(row.line, stop.text())),
     }
 }
 

@@ -1,6 +1,55 @@
 //! Rows of one line: what is done, and what is answered.
 
-use crate::{Entry, Stop, read_number};
+use crate::{Entry, read_bytes, read_number};
+use blk_base::NoMemory;
+use std::alloc::{AllocError, AllocFailed, Global};
+
+/// Why a row isn't played.
+#[derive(Clone, Copy, Debug)]
+pub enum RowStop {
+    NoMemory,
+    /// A word is missing.
+    Missing,
+    /// A word is none of those that may stand there.
+    Word,
+    /// A word is no number, or too large a one.
+    Number,
+    /// The words are no bytes.
+    Bytes,
+    /// No such call may be made.
+    Call,
+}
+
+impl RowStop {
+    pub fn text(self) -> &'static str {
+        match self {
+            RowStop::NoMemory => "want of memory",
+            RowStop::Missing => "a word is missing",
+            RowStop::Word => "a word is none of those that may stand there",
+            RowStop::Number => "a word is no number, or too large a one",
+            RowStop::Bytes => "the words are no bytes",
+            RowStop::Call => "no such call may be made",
+        }
+    }
+}
+
+impl From<NoMemory> for RowStop {
+    fn from(_: NoMemory) -> Self {
+        RowStop::NoMemory
+    }
+}
+
+impl From<AllocError> for RowStop {
+    fn from(_: AllocError) -> Self {
+        RowStop::NoMemory
+    }
+}
+
+impl<T: Drop> From<AllocFailed<T>> for RowStop {
+    fn from(_: AllocFailed<T>) -> Self {
+        RowStop::NoMemory
+    }
+}
 
 /// A row of one line: its key, the words behind it, and behind `=` what is to be answered, which is `ok` where the line
 /// doesn't say it. A row behind the key `wrong` is one whose answer is to be another.
@@ -51,46 +100,59 @@ impl<'a> Row<'a> {
         (answer == self.expected) != self.is_wrong
     }
 
-    /// Why it can't be played.
-    pub fn unread(&self, why: &'static str) -> Stop {
-        Stop::Unread(self.line, why)
-    }
-
     /// Whether a word stands behind the key.
     pub fn has(&self, word: &str) -> bool {
         self.words.split_whitespace().any(|other| other == word)
     }
 
     /// The word at a place, counted from 0; `""` stands for the empty word.
-    pub fn word(&self, place: usize) -> Result<&'a str, Stop> {
+    pub fn word(&self, place: usize) -> Result<&'a str, RowStop> {
         match self.words.split_whitespace().nth(place) {
             Some("\"\"") => Ok(""),
             Some(word) => Ok(word),
-            None => Err(self.unread("a word is missing")),
+            None => Err(RowStop::Missing),
         }
     }
 
     /// What the word at a place stands for in a table.
-    pub fn named<T: Copy>(&self, place: usize, table: &[(&str, T)]) -> Result<T, Stop> {
+    pub fn named<T: Copy>(&self, place: usize, table: &[(&str, T)]) -> Result<T, RowStop> {
         match named(table, self.word(place)?) {
             Some(thing) => Ok(thing),
-            None => Err(self.unread("a word is none of those that may stand there")),
+            None => Err(RowStop::Word),
         }
     }
 
     /// The number at a place.
-    pub fn number(&self, place: usize) -> Result<u64, Stop> {
+    pub fn number(&self, place: usize) -> Result<u64, RowStop> {
         match read_number(self.word(place)?) {
             Some(number) => Ok(number),
-            None => Err(self.unread("a word is no number")),
+            None => Err(RowStop::Number),
+        }
+    }
+
+    /// What stands behind so many words.
+    fn behind(&self, words: usize) -> &'a str {
+        let mut rest = self.words;
+        for _ in 0..words {
+            let (_, more) = first_word(rest);
+            rest = more;
+        }
+        rest
+    }
+
+    /// The bytes that all words from a place on say.
+    pub fn bytes(&self, alloc: Global, place: usize) -> Result<Vec<u8>, RowStop> {
+        match read_bytes(alloc, self.behind(place))? {
+            Some(bytes) => Ok(bytes),
+            None => Err(RowStop::Bytes),
         }
     }
 
     /// The number at a place, which is below 2^32.
-    pub fn short(&self, place: usize) -> Result<u32, Stop> {
+    pub fn short(&self, place: usize) -> Result<u32, RowStop> {
         match u32::try_from(self.number(place)?) {
             Ok(number) => Ok(number),
-            Err(_) => Err(self.unread("a number is too large")),
+            Err(_) => Err(RowStop::Number),
         }
     }
 }
