@@ -56,7 +56,7 @@ rows_after_call rows (Merge node target sources) = with_sources rows node target
 rows_after_call rows (NoteWrite node span) = where_so (records node) (written span) rows
 rows_after_call rows (NoteAll node) = where_so (records node) filled rows
 rows_after_call rows (Freeze node name job) = with_first (is_named node name) (used job) rows
-rows_after_call rows (Release job success) = where_so (is_used_by job) (use_ended success) rows
+rows_after_call rows (Release job drops) = where_so (is_used_by job) (use_ended drops) rows
 
 -- the rows after the calls in turn
 abbrev pub after_all : List Bitmap → List Call → List Bitmap

@@ -74,11 +74,18 @@ merged_row source row =
           row.dirty source.dirty;
     }
 
+-- the set of what is written from now on, once a job uses the row: nothing yet
+abbrev pub spare_of : Bitmap → List Bool
+spare_of row = replicate (length row.dirty) false
+
+abbrev pub IsSpareOf : List Bool → Bitmap → Type 0
+IsSpareOf spare row = spare ≡ spare_of row
+
 -- a job uses the row: what was dirty is put aside, and what is written from now on is dirty
 abbrev pub used : ℕ → Bitmap → Bitmap
 used job row = record row {
   busy = Some job;
-  dirty = replicate (length row.dirty) false;
+  dirty = spare_of row;
   frozen = Some row.dirty;
 }
 
@@ -87,11 +94,11 @@ abbrev pub with_frozen : List Bool → Option (List Bool) → List Bool
 with_frozen set None = set
 with_frozen set (Some old) = those_below (length set) (λ k. contains set k || contains old k)
 
--- the use ends: after a success what was put aside is dropped, else it is dirty again
+-- the use ends: what was put aside is dropped, or is dirty again
 abbrev pub use_ended : Bool → Bitmap → Bitmap
-use_ended success row = record row {
+use_ended drops row = record row {
   busy = None;
-  dirty = if success then row.dirty else with_frozen row.dirty row.frozen;
+  dirty = if drops then row.dirty else with_frozen row.dirty row.frozen;
   frozen = None;
 }
 

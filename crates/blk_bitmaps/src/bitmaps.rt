@@ -1,6 +1,6 @@
 //! The table and its calls.
-ghost use Rattle.std.specs.Prelude.{◌≡◌, ◌<◌, ◌==◌, [], ◌∷◌, ◌++◌, filter, vec_capacity, IfOk, IsOk, IfErr, OnOk, OnErr, Err, MatchOption, option_copied, length, nat_le, not, Some, None, if◌then◌else◌, is_some};
-ghost use Rattle.blk_bitmaps.specs.Rows.{added, is_named, granule_count, IsCountable};
+ghost use Rattle.std.specs.Prelude.{◌≡◌, ◌<◌, ◌==◌, [], ◌∷◌, ◌++◌, filter, vec_capacity, IfOk, IfSome, IsOk, IfErr, OnOk, OnErr, Err, MatchOption, option_copied, length, nat_le, not, Some, None, if◌then◌else◌, is_some};
+ghost use Rattle.blk_bitmaps.specs.Rows.{added, is_named, granule_count, IsCountable, IsSpareOf};
 ghost use Rattle.blk_bitmaps.specs.Refusals.{find, add_refusal, use_refusal, merge_refusal};
 ghost use Rattle.blk_bitmaps.specs.Calls.{rows_after_call, with_source, Add, Remove, RemoveAll, Enable, Disable, Clear, Merge, NoteWrite, NoteAll, Freeze, Release};
 
@@ -205,15 +205,36 @@ impl Bitmaps {
             (self.new ≡ rows_after_call self.old (Freeze node name.now job)) }
         ensures refused { OnErr result (self.new ≡ self.old) }
     {
-        change::freeze(self.rows.as_mut_slice(), self.alloc, node, name, job)
+        let spare = self.spare_set(node, name)?;
+        self.freeze_with(node, name, job, spare);
+        Ok(())
     }
 
-    /// A job ends its use of bitmaps: after a success they keep what was written since then alone, else what was put
-    /// aside as well.
-    pub fn release(&mut self, job: u32, success: bool)
-        ensures { self.new ≡ rows_after_call self.old (Release job success) }
+    /// The memory that a use of the bitmap by a job takes.
+    pub fn spare_set(&self, node: NodeId, name: &str) -> Result<DirtySet, BitmapStop>
+        ensures answer { MatchOption (use_refusal (find self.now node name.now))
+            (IfErr result (λ stop. stop ≡ BitmapStop.NoMemory)) (λ stop. result ≡ Err stop) }
+        ensures spare { IfOk result
+            (λ spare. IfSome (find self.now node name.now) (IsSpareOf spare)) }
     {
-        change::release(self.rows.as_mut_slice(), job, success);
+        change::spare(self.rows.as_slice(), self.alloc, node, name)
+    }
+
+    /// As `freeze`, with memory that was taken before, and whether or not a job uses the bitmap. Where no bitmap has the
+    /// name, nothing changes.
+    pub fn freeze_with(&mut self, node: NodeId, name: &str, job: u32, spare: DirtySet)
+        requires { IfSome (find self.old node name.now) (IsSpareOf spare) }
+        ensures { self.new ≡ rows_after_call self.old (Freeze node name.now job) }
+    {
+        change::freeze(self.rows.as_mut_slice(), node, name, job, spare);
+    }
+
+    /// A job ends its use of bitmaps: what was put aside is dropped, and what was written since then is kept alone, or
+    /// both are dirty again.
+    pub fn release(&mut self, job: u32, drops: bool)
+        ensures { self.new ≡ rows_after_call self.old (Release job drops) }
+    {
+        change::release(self.rows.as_mut_slice(), job, drops);
     }
 }
 

@@ -1,7 +1,7 @@
 //! One bitmap.
 ghost use Rattle.std.specs.Prelude.{◌≡◌, ◌*◌, ◌-◌, ◌^◌, ℕ, ◌<◌, ◌≤◌, min, length, replicate, false, true, Some, None, IfOk, OnOk, OnErr, if◌then◌else◌, ◌||◌};
 ghost use Rattle.blk_bits.specs.Granules.{in_span, contains, those_below};
-ghost use Rattle.blk_bitmaps.specs.Rows.{is_named, records, is_used_by, switched, emptied, filled, written, merged_row, used, use_ended, span_touches, is_dirty, dirty_below};
+ghost use Rattle.blk_bitmaps.specs.Rows.{is_named, records, is_used_by, switched, emptied, filled, written, merged_row, spare_of, used, use_ended, span_touches, is_dirty, dirty_below};
 
 use crate::granularity::Granularity;
 use blk_base::{NoMemory, Span, Text};
@@ -115,25 +115,31 @@ impl Bitmap {
         self.dirty.merge_from(&source.dirty, ratio);
     }
 
-    pub(crate) fn freeze(&mut self, alloc: Global, job: u32) -> Result<(), NoMemory>
-        ensures done { OnOk result (self.new ≡ used job self.old) }
-        ensures failed { OnErr result (self.new ≡ self.old) }
+    /// An empty set for what is written once a job uses the bitmap.
+    pub(crate) fn spare(&self, alloc: Global) -> Result<DirtySet, NoMemory>
+        ensures { IfOk result (λ set. set ≡ spare_of self.now) }
     {
-        let fresh = DirtySet::new(alloc, self.dirty.granules())?;
-        let old = mem::replace(&mut self.dirty, fresh);
-        self.frozen = Some(old);
-        self.busy = Some(job);
-        Ok(())
+        DirtySet::new(alloc, self.dirty.granules())
     }
 
-    pub(crate) fn release(&mut self, job: u32, success: bool)
+    /// A job begins to use it. Takes no memory.
+    pub(crate) fn freeze(&mut self, job: u32, spare: DirtySet)
+        requires { spare ≡ spare_of self.old }
+        ensures { self.new ≡ used job self.old }
+    {
+        let old = mem::replace(&mut self.dirty, spare);
+        self.frozen = Some(old);
+        self.busy = Some(job);
+    }
+
+    pub(crate) fn release(&mut self, job: u32, drops: bool)
         ensures { self.new
-            ≡ (if is_used_by job self.old then use_ended success self.old else self.old) }
+            ≡ (if is_used_by job self.old then use_ended drops self.old else self.old) }
     {
         if self.busy == Some(job) {
             self.busy = None;
             if let Some(frozen) = self.frozen.take() {
-                if !success {
+                if !drops {
                     unite(&mut self.dirty, &frozen);
                 }
             }

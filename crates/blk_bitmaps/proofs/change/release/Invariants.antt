@@ -4,4 +4,4 @@ use Rattle.blk_bitmaps.specs.Calls.{where_so}
 use Rattle.blk_bitmaps.proofs.change.release.Given as goal
 
 abbrev pub invariant-loop-place : goal.invariant-loop-place
-invariant-loop-place l = l.rows ≡ where_so (is_used_by l.job) (use_ended l.success) (take l.place l.initial.rows) ++ drop l.place l.initial.rows
+invariant-loop-place l = l.rows ≡ where_so (is_used_by l.job) (use_ended l.drops) (take l.place l.initial.rows) ++ drop l.place l.initial.rows
