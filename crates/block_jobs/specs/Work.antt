@@ -1,6 +1,6 @@
 -- What a job keeps of its copying: which parts of its disk are left to copy, the copies in flight, and the first fault; and what
 -- each step makes of it.
-use Rattle.std.specs.Prelude.{◌≡◌, ℕ, ◌+◌, ◌*◌, ◌/◌, ◌%◌, ◌^◌, ◌<◌, ◌≤◌, ◌==◌, Bool, true, false, not, ◌&&◌, ◌||◌, if◌then◌else◌, List, [], ◌∷◌, ◌++◌, length, replicate, find, Option, Some, None, is_some}
+use Rattle.std.specs.Prelude.{◌≡◌, ℕ, ◌+◌, ◌*◌, ◌/◌, ◌%◌, ◌^◌, ◌<◌, ◌≤◌, ◌==◌, Bool, true, false, not, ◌&&◌, ◌||◌, if◌then◌else◌, List, [], ◌∷◌, ◌++◌, length, replicate, find, Option, Some, None, is_some, unwrap_or}
 use Rattle.std.specs.List.{range_with_len, list_any}
 use Rattle.std.specs.Simd.Lanes.{mask_l}
 use Rattle.blk_base.specs.Pieces.{Extent, block_size}
@@ -135,10 +135,13 @@ after_settle kind block work = without_transfer block (without_block block work)
 abbrev pub after_copy : ℕ → JobWork → JobWork
 after_copy block work = without_transfer block (without_block block work)
 
--- nothing is left to do from then on
+-- Nothing is left to do from then on; copies in flight stay so. The first fault is kept.
 abbrev pub failed_by : Fault → JobWork → JobWork
 failed_by fault work =
-    record work { left = replicate (length work.left) false; rows = []; met = Some fault }
+    record work {
+      left = replicate (length work.left) false;
+      met = Some (unwrap_or work.met fault);
+    }
 
 -- What holds of it always.
 
