@@ -28,7 +28,7 @@ use Rattle.flat_machine.specs.Contents.{file_bytes, image_bytes, formatted, leng
 use Rattle.flat_machine.specs.Changed.{new_bytes, put, make, name_file, name_if, stepped, all_stepped, content_under, bytes_below, bytes_by_format, format_name, know_if, note_image, with_bytes_of, leave, left_in, left_disk, own_filename, written_file, overlay_file}
 use Rattle.flat_machine.specs.Final.{IsDiskIn}
 use Rattle.flat_machine.specs.Agreement.{Contents, HasDisk, ReadAsDisks, IsBlank, IsAsKnown, AreAsKnown, AreAbsent, IsLeftAs, Agrees}
-use Rattle.flat_machine.specs.Performing.{ReadSame, HeldSame, Nothing, IsQuiet, Puts, Removes, ChangesFileAlone, IsWholly, IsReadable, CanFileBeRead, IsBacking, CanAddFile, CanAddFormat, CanAddFilter, Can, Performed, AllCan, AllPerformed, IsSettledLike, settled_as, CanRewrite, Rewrites, held_bytes, backing_reads, format_as, IsFormatted}
+use Rattle.flat_machine.specs.Performing.{ReadSame, HeldSame, Nothing, IsQuiet, Pulls, Puts, Removes, ChangesFileAlone, IsWholly, IsReadable, CanFileBeRead, IsBacking, CanAddFile, CanAddFormat, CanAddFilter, Can, Performed, AllCan, AllPerformed, IsSettledLike, settled_as, CanRewrite, Rewrites, held_bytes, backing_reads, format_as, IsFormatted}
 use Rattle.flat_machine.proofs.Finds.{find-map, bytes_eq-same, cases_found}
 use Rattle.flat_machine.proofs.Agreeing.{RowsBut, rows_same, rows_pushed, rows_filter, rows_mapped, rows_dropped, less_unsettled, same_unsettled, less_writable, same_writable, less_read_only, same_read_only, rows_settled, disks_kept, disks_but, disks_put, disks_dropped, known_kept, known_put, absent_kept, absent_put, unchanged_kept, unchanged_named, left_kept, left_forgot}
 
@@ -537,6 +537,20 @@ module _ (opening : List ℕ → Option (List ℕ)) where
   unfolding changed
   pulled s filter node row found disk = inr (rows_dropped s (stepped s (change.PullFilter filter)) filter refl node row found disk).1
 
+  pull_keeps : (s : State) (filter : ℕ) (old new : Contents) → Pulls filter old new → Agrees opening s old
+      → Agrees opening (stepped s (change.PullFilter filter)) new
+  unfolding changed
+  pull_keeps s filter old new did h =
+      let now : State = stepped s (change.PullFilter filter) in
+      record {
+        disks = disks_but s now old new (λ node. node ≡ filter) (pulled s filter)
+            (λ node row found disk. (rows_dropped s now filter refl node row found disk).0) refl did.nodes h.disks;
+        known = known_kept s now old new refl did.files h.known;
+        absent = absent_kept s now old new refl did.files h.absent;
+        left = left_kept s now old new refl did.files h.left;
+        unchanged = unchanged_kept s now old new opening refl did.files h.unchanged;
+      }
+
   -- a node has a disk again: what it reads as
   settle_keeps : (s : State) (node : ℕ) (disk : NewDisk) (old new : Contents) → IsSettledLike s disk
       → Puts node (settled_as s old disk) old new → Agrees opening s old → Agrees opening (stepped s (change.Settle node disk)) new
@@ -618,7 +632,7 @@ module _ (opening : List ℕ → Option (List ℕ)) where
   change_keeps s (change.EndJob number slot drops) old new can did h =
       still_keeps s (stepped s (change.EndJob number slot drops)) old new refl refl refl refl refl did h
   change_keeps s (change.PullFilter filter) old new can did h =
-      quiet_keeps s (stepped s (change.PullFilter filter)) old new (pulled s filter) refl refl refl refl did h
+      pull_keeps s filter old new did h
   change_keeps s (change.Rebase node backing) old new can did h = rewrite_keeps s node backing old new can did h
   change_keeps s (change.Settle node disk) old new can did h = settle_keeps s node disk old new can did h
   change_keeps s (change.MakeReadOnly id) old new can did h =

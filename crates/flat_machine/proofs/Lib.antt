@@ -37,5 +37,6 @@ pub mod Histories
 mod OneHistory
 pub mod Recorded
 pub mod BitmapRows
+pub mod InUse
 pub mod RowKinds
 pub mod Redrawn

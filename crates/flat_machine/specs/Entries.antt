@@ -1,11 +1,11 @@
 -- Which entries one event makes.
-use Rattle.std.specs.Prelude.{◌≡◌, ◌≢◌, ℕ, ◌-◌, if◌then◌else◌, List, [], ◌∷◌, ◌++◌, map, Contains, AllPairs, Option, Some, None}
+use Rattle.std.specs.Prelude.{◌≡◌, ℕ, ◌-◌, if◌then◌else◌, List, [], ◌∷◌, ◌++◌, filter, map, Option, Some, None}
 use Rattle.std.specs.List.{range_with_len}
-use Rattle.qmp_rules.specs.declared.rows.JobRecord.{JobRecord}
 use Rattle.qmp_rules.specs.Table.{RunTable, job_at}
 use Rattle.blk_history.specs.Fold.{With}
 use Rattle.flat_machine.specs.State.{State}
 use Rattle.flat_machine.specs.Replies.{replied, is_accepted}
+use Rattle.flat_machine.specs.Jobs.{in_group}
 use Rattle.flat_machine.specs.Machine.{replay}
 use Rattle.blk_history.specs.declared.event.Event.{Event}
 use Rattle.blk_history.specs.declared.event.Event.TheVariants.{Reply, Start, End}
@@ -24,13 +24,10 @@ abbrev pub ended_job : Event → Option ℕ
 ended_job (End job outcome offset) = Some job
 ended_job e = None
 
--- the ends of all members of a group, each once
-pub record AreEndsOf (t : RunTable) (group : ℕ) (es : List Event) : Type 0 where
-  pub ends : (e : Event) → Contains es e
-      → With (ended_job e) (λ job. With (job_at t job) (λ row. row.group ≡ Some group))
-  pub all : (row : JobRecord) → Contains t.jobs row → row.group ≡ Some group
-      → Contains (map ended_job es) (Some row.number)
-  pub once : AllPairs (λ a b. a ≢ b) (map ended_job es)
+-- the ends of all members of a group, in the order of their starts
+abbrev pub AreEndsOf : RunTable → ℕ → List Event → Type 0
+AreEndsOf t group es =
+    map ended_job es ≡ map (λ row. Some row.number) (filter (in_group group) t.jobs)
 
 -- the end of a job without a group, or those of all members of its group side by side
 abbrev pub AreEnds : RunTable → Option ℕ → List Event → Type 0

@@ -128,7 +128,7 @@ pub record MayMeet (t : RunTable) (sources : Sources) (deed : Deed) (opened now 
   pub device : ReachesDevice t sources node (device_at_fault fault).0
   pub cause : HasFaultCause opened now would_pass fault
 
--- A job that met a fault fails with it, or ends with its group; no other end hides a fault.
+-- a job that met a fault fails with it, or is cancelled with its group
 abbrev pub EndsAsMet : Sources → ℕ → JobEnd → Type 0
 EndsAsMet sources job (Failed fault) = sources.met_by job ≡ Some fault
 EndsAsMet sources job (Cancelled Group) = Unit {0}

@@ -27,4 +27,5 @@ pub mod Suiting
 pub mod Imaging
 pub mod Recording
 pub mod Bitmaps
+pub mod InUse
 pub mod Rewiring

@@ -1,4 +1,4 @@
--- The causes of faults: each one named is a rise of its count, and no rise is named twice.
+-- The causes of faults: each one named is a rise of its count, and no rise is named twice, but where the count is at its last value.
 use Rattle.std.specs.Prelude.{◌≡◌, ℕ, ◌+◌, ◌-◌, ◌*◌, ◌≤◌, ◌==◌, if◌then◌else◌, List, [], ◌∷◌, slice_get, drop, fold, codes, nat_eq, AllPairs, All, Option, Some, None, option_and_then}
 use Rattle.std.specs.List.{slice_split, starts_with, filter_map}
 use Rattle.std.specs.Str.{bytes_eq}

@@ -106,6 +106,11 @@ pub record IsQuiet (old new : Contents) : Type 0 where
   pub nodes : ReadSame Nothing old new
   pub files : HeldSame Nothing old new
 
+-- a filter goes, and with it what it read as
+pub record Pulls (filter : ℕ) (old new : Contents) : Type 0 where
+  pub nodes : ReadSame (λ node. node ≡ filter) old new
+  pub files : HeldSame Nothing old new
+
 -- one node, which may be new, reads so from then on
 pub record Puts (node : ℕ) (bytes : List ℕ) (old new : Contents) : Type 0 where
   pub nodes : ReadSame (λ other. other ≡ node) old new
@@ -178,6 +183,7 @@ Performed s (change.FormatFile node name size backing_file backing_fmt) old new 
 Performed s (change.SpoilFile name) old new =
     ChangesFileAlone (λ node. filename_of s.table node ≡ Some name) name old new
 Performed s (change.Attach overlay node) old new = Puts overlay (old.reads node) old new
+Performed s (change.PullFilter filter) old new = Pulls filter old new
 Performed s (change.Rebase node backing) old new = Rewrites s node old new
 Performed s (change.Settle node disk) old new = Puts node (settled_as s old disk) old new
 Performed s c old new = IsQuiet old new
