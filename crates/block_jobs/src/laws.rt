@@ -40,7 +40,7 @@ pub fn both_are_written()
         (with_bytes made at xs) }
 {}
 
-/// Once nothing is owed, the result is made.
+/// Once nothing is owed, the result is made where every place is due.
 pub fn result_is_made()
     ensures { (due owed : ℕ → Bool) (source goal made : List ℕ) → ((i : ℕ) → due i ≡ true)
         → ((i : ℕ) → owed i ≡ false) → IsAhead due owed source goal made → made ≡ goal }

@@ -349,7 +349,7 @@ abbrev pub filter_edits : RunTable → Kind → JobRecord → List Change
 filter_edits t driver job =
     of_row (λ row. PutFilter (filter_row t driver job.id row) row.id ∷ []) (node_by_id t job.source)
 
--- a job on a file node uses its file
+-- a job's target or base that is a `file` node has its file used
 abbrev pub file_used : RunTable → Option ℕ → List Change
 file_used t node = of_row device_uses (option_and_then (node_by_id t) node)
 

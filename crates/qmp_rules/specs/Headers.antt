@@ -39,7 +39,6 @@ renamed_node row job_kind.Stream = Some row.source
 renamed_node row job_kind.Commit = first_of row.read
 renamed_node row what = None
 
--- What that header says after an end without error: the base, or no backing file where there is no base. No other event
--- changes the backing name of a node.
+-- what that header is to say after an end without error: the base, or no backing file where there is no base
 abbrev pub new_backing : RunTable → JobRecord → Option BackingName
 new_backing t row = option_map (named_for t row) (option_and_then (node_by_id t) row.target)
