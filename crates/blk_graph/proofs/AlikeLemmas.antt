@@ -45,10 +45,10 @@ edge-same a b same perm shared =
     ∙ ap (λ x. let e : Edge = record { parent = b.parent; role = b.role; child = b.child; perm = x; shared = a.shared } in e) perm
     ∙ ap (λ x. let e : Edge = record { parent = b.parent; role = b.role; child = b.child; perm = b.perm; shared = x } in e) shared
 
-alike-refl : (e : Edge) → IsEdgeAlike e e
+pub alike-refl : (e : Edge) → IsEdgeAlike e e
 alike-refl e = record { same = record { parent = refl; role = refl; child = refl }; set = λ none. refl }
 
-all_alike : (edges : List Edge) → AreEdgesAlike edges edges
+pub all_alike : (edges : List Edge) → AreEdgesAlike edges edges
 all_alike [] = tt
 all_alike (e ∷ edges) = (alike-refl e, all_alike edges)
 
@@ -62,7 +62,7 @@ alike-trans a b c h k = record {
   set = λ none. h.set (λ n is. none n (sym k.same.parent ∙ is)) ∙ k.set none;
 }
 
-all_alike-trans : (a b c : List Edge) → AreEdgesAlike a b → AreEdgesAlike b c → AreEdgesAlike a c
+pub all_alike-trans : (a b c : List Edge) → AreEdgesAlike a b → AreEdgesAlike b c → AreEdgesAlike a c
 all_alike-trans [] [] [] h k = tt
 all_alike-trans (a ∷ as') (b ∷ bs) (c ∷ cs) h k = (alike-trans a b c h.0 k.0, all_alike-trans as' bs cs h.1 k.1)
 all_alike-trans [] [] (c ∷ cs) h k = absurd k

@@ -46,7 +46,7 @@ both_within : (a b c d : Bool) → (a ≡ true → c ≡ true) → (b ≡ true �
 both_within true b c d h k is = rw (h refl) (k is)
 both_within false b c d h k is = absurd cc
 
-not_within : (a b : Bool) → (a ≡ true → b ≡ true) → not b ≡ true → not a ≡ true
+pub not_within : (a b : Bool) → (a ≡ true → b ≡ true) → not b ≡ true → not a ≡ true
 not_within false b h is = refl
 not_within true true h is = is
 not_within true false h is = absurd (let e : false ≡ true = h refl in cc)
@@ -101,18 +101,18 @@ lighter-trans a b c h k = record {
 }
 
 -- what is derived weighs more where the uses above do, in each row of the table
-abbrev AreLighter : Option Uses → Option Uses → Type 0
+abbrev pub AreLighter : Option Uses → Option Uses → Type 0
 AreLighter None None = Unit {0}
 AreLighter (Some a) (Some b) = IsLighter a b
 AreLighter _ _ = ⊥
 
-perms_within : (a b c x y z : Bool) → (a ≡ true → x ≡ true) → (b ≡ true → y ≡ true) → (c ≡ true → z ≡ true)
+pub perms_within : (a b c x y z : Bool) → (a ≡ true → x ≡ true) → (b ≡ true → y ≡ true) → (c ≡ true → z ≡ true)
     → ArePermsWithin (perms a b c) (perms x y z)
 perms_within a b c x y z r w u Read = r
 perms_within a b c x y z r w u Write = w
 perms_within a b c x y z r w u Unchanged = u
 
-derived-lighter : (kind : Kind) (role : Role) (w v : Bool) (a b : Uses) → (w ≡ true → v ≡ true) → IsLighter a b
+pub derived-lighter : (kind : Kind) (role : Role) (w v : Bool) (a b : Uses) → (w ≡ true → v ≡ true) → IsLighter a b
     → AreLighter (derived_uses kind role w a) (derived_uses kind role v b)
 derived-lighter Raw File w v a b less h = record {
   asks = perms_within true w false true v false (λ is. is) less (λ is. is);
@@ -145,7 +145,7 @@ derived-lighter Commit Filtered w v a b less h = record {
 }
 derived-lighter _ _ w v a b less h = tt
 
-with_uses-easier : (a b : Edge) (p q : Option Uses) → IsEasier a b → AreLighter p q → IsEasier (with_uses a p) (with_uses b q)
+pub with_uses-easier : (a b : Edge) (p q : Option Uses) → IsEasier a b → AreLighter p q → IsEasier (with_uses a p) (with_uses b q)
 with_uses-easier a b None None easier h = easier
 with_uses-easier a b (Some p) (Some q) easier h = record {
   parent = easier.parent;
@@ -157,7 +157,7 @@ with_uses-easier a b (Some p) (Some q) easier h = record {
 with_uses-easier a b None (Some q) easier h = absurd h
 with_uses-easier a b (Some p) None easier h = absurd h
 
-ruled-easier : (before after : List NodeKind) → WriteLess before after → (f g : ℕ → Uses) (a b : Edge)
+pub ruled-easier : (before after : List NodeKind) → WriteLess before after → (f g : ℕ → Uses) (a b : Edge)
     → ((n : ℕ) → IsLighter (f n) (g n)) → IsEasier a b → IsEasier (ruled after f a) (ruled before g b)
 ruled-easier before after less f g a b lighter easier =
     subst (λ (p : Parent). IsEasier (ruled_from after f a p) (ruled_from before g b b.parent)) (sym easier.parent) (by_parent b.parent)
@@ -229,7 +229,7 @@ eased_refreshed kinds new old stays =
     refreshed-by kinds (λ now. IsEased now old)
     (λ now h. eased_ruled kinds (uses_into now) (uses_into old) (λ n. uses_into-eased n now old h) now old stays h) new
 
-easier-refl : (e : Edge) → IsEasier e e
+pub easier-refl : (e : Edge) → IsEasier e e
 easier-refl e = record { parent = refl; role = refl; child = refl; asks = λ perm is. is; shares = λ perm is. is }
 
 pub eased-refl : (edges : List Edge) → IsEased edges edges

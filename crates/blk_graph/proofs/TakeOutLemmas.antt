@@ -59,7 +59,7 @@ joined-under e rest uses h k = record { asks = λ perm. asks perm; shares = λ p
     shares Write is = both e.shared.write rest.shared.write (h.shares Write is) (k.shares Write is)
     shares Unchanged is = both e.shared.unchanged rest.shared.unchanged (h.shares Unchanged is) (k.shares Unchanged is)
 
-uses_into-under : (n : ℕ) (uses : Uses) (edges : List Edge) → ((e : Edge) → Contains edges e → e.child ≡ n → IsWithinUses e uses)
+pub uses_into-under : (n : ℕ) (uses : Uses) (edges : List Edge) → ((e : Edge) → Contains edges e → e.child ≡ n → IsWithinUses e uses)
     → IsLighter (uses_into edges n) uses
 uses_into-under n uses [] each = idle-lighter uses
 uses_into-under n uses (e ∷ edges) each =
@@ -92,7 +92,7 @@ under-joined e rest = record { asks = λ perm. asks perm; shares = λ perm. shar
     shares Write h = left_of e.shared.write rest.shared.write h
     shares Unchanged h = left_of e.shared.unchanged rest.shared.unchanged h
 
-under_uses : (n : ℕ) (edges : List Edge) (e : Edge) → Contains edges e → e.child ≡ n → IsWithinUses e (uses_into edges n)
+pub under_uses : (n : ℕ) (edges : List Edge) (e : Edge) → Contains edges e → e.child ≡ n → IsWithinUses e (uses_into edges n)
 under_uses n [] e there at = absurd (Contains-nil e there)
 under_uses n (x ∷ edges) e there at = elim (Contains-cases x edges e there) [
   | inl here ↦ rw (ap (λ (y : Edge). y.child) (sym here) ∙ at, eq-eqb n n refl) (rw here (under-joined x (uses_into edges n)))
@@ -104,7 +104,7 @@ under_uses n (x ∷ edges) e there at = elim (Contains-cases x edges e there) [
     by_test false h = h
 
 -- an edge that is moved is derived as before
-ruled-child : (kinds : List NodeKind) (above : ℕ → Uses) (to : ℕ) (e : Edge) → ruled kinds above (with_child to e) ≡ with_child to (ruled kinds above e)
+pub ruled-child : (kinds : List NodeKind) (above : ℕ → Uses) (to : ℕ) (e : Edge) → ruled kinds above (with_child to e) ≡ with_child to (ruled kinds above e)
 ruled-child kinds above to e = by_parent e.parent
   where
     by_uses : (o : Option Uses) → with_uses (with_child to e) o ≡ with_child to (with_uses e o)
@@ -117,7 +117,7 @@ ruled-child kinds above to e = by_parent e.parent
     by_parent (Job n) = refl
 
 -- two edges of a list into one node, of which one passes a test and the other doesn't
-agree_apart : (p : Edge → Bool) (edges : List Edge) → AllPairs Agree edges → (a b : Edge) → Contains edges a → Contains edges b
+pub agree_apart : (p : Edge → Bool) (edges : List Edge) → AllPairs Agree edges → (a b : Edge) → Contains edges a → Contains edges b
     → p a ≡ true → p b ≡ false → Agree a b
 agree_apart p [] pairs a b at_a at_b is none = absurd (Contains-nil a at_a)
 agree_apart p (x ∷ xs) pairs a b at_a at_b is none = by_cases (Contains-cases x xs a at_a) (Contains-cases x xs b at_b)
@@ -220,7 +220,7 @@ module _ (kinds : List NodeKind) (edges others : List Edge) (over to : ℕ) (gon
       now left_over still h) left_over (eased-refl left_over) in
       pairs-agree (refreshed kinds left_over) (eased_pairs (refreshed kinds left_over) left_over eased left_agree)
 
-not_true : (b : Bool) → not b ≡ true → b ≡ false
+pub not_true : (b : Bool) → not b ≡ true → b ≡ false
 not_true true k = absurd cc
 not_true false k = refl
 
