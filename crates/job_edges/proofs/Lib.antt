@@ -1,0 +1,15 @@
+pub mod Rests
+pub mod Bounds
+pub mod Core
+pub mod Mild
+pub mod Unread
+pub mod Below
+pub mod Cycles
+pub mod Whole
+pub mod Parts
+pub mod Streams
+pub mod Ends
+pub mod Stays
+pub mod Chain
+pub mod Rebased
+pub mod Ended
