@@ -22,8 +22,7 @@ is_plain Raw = true
 is_plain Qcow2 = true
 is_plain kind = false
 
--- A node that is read, and is no filter: what its own edges ask and share doesn't rest on the edges
--- into it.
+-- A node that is read, and is no filter: what its own edges ask and share doesn't rest on the edges into it.
 pub record IsReadPlain (kinds : List NodeKind) (edges : List Edge) (node : ℕ) : Type 0 where
   pub plain : is_plain (kind_at kinds node).kind ≡ true
   pub read : (uses_into edges node).perm.read ≡ true

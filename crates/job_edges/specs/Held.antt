@@ -14,9 +14,8 @@ use Rattle.blk_graph.specs.Rule.{KeepsPermissions}
 use Rattle.job_edges.specs.Chains.{is_plain, is_to_backing, IsBelow, IsReadPlain}
 use Rattle.job_edges.specs.Kinds.{is_open, is_hidden, FiltersStand}
 
--- The edges of a graph, which ask and share what they are to by those into their parents: no cycle,
--- the rule on permissions, and
--- nothing over filters but what may be.
+-- The edges of a graph, which ask and share what they are to by those into their parents: no cycle, the rule on permissions,
+-- and nothing over filters but what may be.
 pub record EdgesStand (kinds : List NodeKind) (edges : List Edge) : Type 0 where
   pub listed : IsListed edges
   pub acyclic : IsAcyclic edges
@@ -30,9 +29,8 @@ abbrev pub IsOneJobs : List Edge → ℕ → ℕ → Type 0
 IsOneJobs edges node job =
     (e : Edge) → Contains edges e → e.child ≡ node → is_job e.parent ≡ true → e.parent ≡ Job job
 
--- The job's edge into the node lets nobody read that: so with a target, and with the nodes of a
--- commit below its top. No filter of a
--- commit is over it.
+-- The job's edge into the node lets nobody read that: so with a target, and with the nodes of a commit below its top. No
+-- filter of a commit is over it.
 pub record IsUnread (kinds : List NodeKind) (edges : List Edge) (node job : ℕ) : Type 0 where
   pub edge : Edge
   pub there : Contains edges edge
@@ -54,8 +52,8 @@ is_copiers BeforeWrite = true
 is_copiers Mirror = true
 is_copiers kind = false
 
--- A job's filter over its source, a node that is no filter: no format node is over that by its
--- file, and no other job leads to it.
+-- A job's filter over its source, a node that is no filter: no format node is over that by its file, and no other job leads
+-- to it.
 pub record FilterStands (kinds : List NodeKind) (edges : List Edge) (filter source job : ℕ)
     : Type 0 where
   pub own : Edge
@@ -69,9 +67,8 @@ pub record FilterStands (kinds : List NodeKind) (edges : List Edge) (filter sour
   pub free : (e : Edge) → Contains edges e → e.child ≡ source → is_job e.parent ≡ false
       → is_open kinds e ≡ true
 
--- A job's edge into the node that all that uses its source is to use: by it the job reads and
--- writes what nobody else does. The
--- node doesn't lead to the source.
+-- A job's edge into the node that all that uses its source is to use: by it the job reads and writes what nobody else does.
+-- The node doesn't lead to the source.
 pub record TargetStands (kinds : List NodeKind) (edges : List Edge) (target source job : ℕ)
     : Type 0 where
   pub held : IsUnread kinds edges target job
@@ -87,9 +84,8 @@ pub record HasBacking (edges : List Edge) (node : ℕ) : Type 0 where
   pub parent : edge.parent ≡ Node node
   pub role : edge.role ≡ Backing
 
--- From its top the nodes of a commit lead to its base, each directly to the next: all below the top
--- nobody else reads, and the job
--- reads the base.
+-- From its top the nodes of a commit lead to its base, each directly to the next: all below the top nobody else reads, and
+-- the job reads the base.
 pub record CommitStands (kinds : List NodeKind) (edges : List Edge) (through : ℕ → Bool)
     (top base filter job : ℕ) : Type 0 where
   pub at_top : through top ≡ true

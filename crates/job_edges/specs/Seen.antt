@@ -13,9 +13,8 @@ use Rattle.job_edges.specs.Held.{IsUnread}
 abbrev pub IsRead : List Edge → ℕ → Type 0
 IsRead edges node = (uses_into edges node).perm.read ≡ true
 
--- The tops of all commits, and the nodes between them and their bases: each leads to one that
--- nobody else reads, which is another of
--- these or a base, which the job reads.
+-- The tops of all commits, and the nodes between them and their bases: each leads to one that nobody else reads, which is
+-- another of these or a base, which the job reads.
 pub record CommitsStand (kinds : List NodeKind) (edges : List Edge) (through : ℕ → Bool)
     : Type 0 where
   pub plain : (n : ℕ) → through n ≡ true → is_plain (kind_at kinds n).kind ≡ true

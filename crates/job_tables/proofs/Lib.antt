@@ -1,0 +1,9 @@
+pub mod NodeKinds
+pub mod RowEdges
+pub mod JobsRest
+pub mod Shapes
+pub mod Ended
+pub mod Kept
+pub mod Changes
+pub mod Others
+pub mod Guests

@@ -1,0 +1,4 @@
+pub mod Rows
+pub mod Jobs
+pub mod Changes
+pub mod Guests

@@ -1,0 +1,53 @@
+//! Laws of jobs in the table, each the contract of a function that does nothing.
+ghost use Rattle.std.specs.Prelude.{◌≡◌, ℕ, true, List, Contains};
+ghost use Rattle.blk_graph.specs.declared.edge.Edge.{Edge};
+ghost use Rattle.blk_graph.specs.declared.edge.Parent.TheVariants.{Guest};
+ghost use Rattle.blk_graph.specs.declared.edge.Role.TheVariants.{Drive};
+ghost use Rattle.blk_graph.specs.Paths.{IsAcyclic};
+ghost use Rattle.qmp_rules.specs.declared.change.Change.{Change};
+ghost use Rattle.qmp_rules.specs.declared.change.JobOutcome.{JobOutcome};
+ghost use Rattle.qmp_rules.specs.declared.rows.JobRecord.{JobRecord};
+ghost use Rattle.qmp_rules.specs.Changes.{all_changed};
+ghost use Rattle.qmp_rules.specs.Ends.{end_edits};
+ghost use Rattle.qmp_rules.specs.Table.{RunTable, kinds_of, opening_table};
+ghost use Rattle.flat_machine.specs.Suiting.{AllTableSuit};
+ghost use Rattle.flat_machine.specs.Wiring.{TableStands};
+ghost use Rattle.job_edges.specs.Held.{EdgesStand};
+ghost use Rattle.job_edges.specs.Seen.{ReadsAlong, GoesBelow, FiltersAlong};
+ghost use Rattle.job_tables.specs.Jobs.{JobsStand, EdgesAreDrawn};
+ghost use Rattle.job_tables.specs.Changes.{AllLeaveJobs};
+
+/// However a job ends, and whatever was accepted while it ran, its changes leave edges that a graph may have: they keep the rule on
+/// permissions, and make no cycle. So no end is refused.
+pub fn ends_keep_permissions()
+    ensures drawn { (t : RunTable) (row : JobRecord) (outcome : JobOutcome) → TableStands t
+        → JobsStand t → EdgesAreDrawn t → Contains t.jobs row
+        → EdgesAreDrawn (all_changed t (end_edits t row outcome)) }
+    ensures acyclic { (t : RunTable) (row : JobRecord) (outcome : JobOutcome) → TableStands t
+        → JobsStand t → EdgesAreDrawn t → Contains t.jobs row
+        → IsAcyclic (all_changed t (end_edits t row outcome)).edges }
+{}
+
+/// The edges of a table in which jobs stand are such as the laws of jobs' edges speak of.
+pub fn edges_of_jobs_stand()
+    ensures { (t : RunTable) → TableStands t → JobsStand t → EdgesAreDrawn t
+        → EdgesStand (kinds_of t.nodes) t.edges }
+{}
+
+/// No guest that may write has below its filters what another one has as a backing node or below that, while commits run too.
+pub fn no_guest_writes_what_is_read()
+    ensures { (t : RunTable) (writer reader : Edge) (guest node : ℕ) (along down : List Edge)
+        → TableStands t → JobsStand t → EdgesAreDrawn t → Contains t.edges writer
+        → writer.parent ≡ Guest guest → writer.role ≡ Drive → writer.perm.write ≡ true
+        → FiltersAlong (kinds_of t.nodes) t.edges writer.child along node
+        → Contains t.edges reader → reader.perm.read ≡ true
+        → ReadsAlong (kinds_of t.nodes) t.edges reader.child down node → GoesBelow down → ⊥ }
+{}
+
+/// Jobs stand at the beginning, where there are none, and behind changes of which none begins or ends one, or has to do with its
+/// nodes: files are made, nodes and guests come and go, bitmaps change.
+pub fn changes_leave_jobs()
+    ensures beginning { (guests : List (List ℕ)) → JobsStand (opening_table guests) }
+    ensures changes { (changes : List Change) (t : RunTable) → TableStands t → JobsStand t
+        → AllTableSuit t changes → AllLeaveJobs t changes → JobsStand (all_changed t changes) }
+{}
