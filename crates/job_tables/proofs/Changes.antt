@@ -49,16 +49,17 @@ use Rattle.job_tables.proofs.Kept.{HaveSameJobEdges, refreshed_jobs, refreshed_j
 pub there_node : (t : RunTable) (j : JobsStand t) (row : JobRecord) (node : ℕ) → Contains t.jobs row → Contains (nodes_of_job row) node → IsThere t node
 there_node t j row node here held = let p = (j.each row here).plain node held in subst IsSome (sym p.there) refl
 
-filter_of : (t : RunTable) (row : JobRecord) (k : JobKind) → StandsByKind t row k → (node : ℕ) → row.filter ≡ Some node → (kind : Kind) × (f : HasFilterOf t row kind) × (f.filter ≡ node)
+pub filter_of : (t : RunTable) (row : JobRecord) (k : JobKind) → StandsByKind t row k → (node : ℕ) → row.filter ≡ Some node
+    → (kind : Kind) × (is_job_filter kind ≡ true) × (f : HasFilterOf t row kind) × (f.filter ≡ node)
 filter_of t row Stream s node is = absurd (let bad : None ≡ Some node = sym s.bare ∙ is in cc bad)
-filter_of t row Commit s node is = (driver.Commit, s.filter, (let both : Some s.filter.filter ≡ Some node = sym s.filter.is_filter ∙ is in cc both))
-filter_of t row Mirror s node is = (driver.Mirror, s.filter, (let both : Some s.filter.filter ≡ Some node = sym s.filter.is_filter ∙ is in cc both))
-filter_of t row Backup s node is = (driver.BeforeWrite, s.filter, (let both : Some s.filter.filter ≡ Some node = sym s.filter.is_filter ∙ is in cc both))
+filter_of t row Commit s node is = (driver.Commit, refl, s.filter, (let both : Some s.filter.filter ≡ Some node = sym s.filter.is_filter ∙ is in cc both))
+filter_of t row Mirror s node is = (driver.Mirror, refl, s.filter, (let both : Some s.filter.filter ≡ Some node = sym s.filter.is_filter ∙ is in cc both))
+filter_of t row Backup s node is = (driver.BeforeWrite, refl, s.filter, (let both : Some s.filter.filter ≡ Some node = sym s.filter.is_filter ∙ is in cc both))
 
 pub there_filter : (t : RunTable) (j : JobsStand t) (row : JobRecord) (node : ℕ) → Contains t.jobs row → row.filter ≡ Some node → IsThere t node
 there_filter t j row node here is =
     let f = filter_of t row row.kind (j.each row here).shape node is in
-    subst (IsThere t) f.2 (subst IsSome (sym f.1.there) refl)
+    subst (IsThere t) f.3 (subst IsSome (sym f.2.there) refl)
 
 abbrev IsEntered : RunTable → ℕ → Type 0
 IsEntered t node = (e : Edge) × Contains t.edges e × (e.child ≡ node)

@@ -41,17 +41,17 @@ pub record IsDrawn (t : RunTable) : Type 0 where
 
 -- ---- nodes that are settled, or may be written no more
 
-abbrev IsQuiet : Change → Type 0
+abbrev pub IsQuiet : Change → Type 0
 IsQuiet (change.Settle node disk) = Unit {0}
 IsQuiet (change.Unsettle node) = Unit {0}
 IsQuiet (change.MakeReadOnly node) = Unit {0}
 IsQuiet c = ⊥
 
-abbrev AreQuiet : List Change → Type 0
+abbrev pub AreQuiet : List Change → Type 0
 AreQuiet [] = Unit {0}
 AreQuiet (c ∷ changes) = IsQuiet c × AreQuiet changes
 
-quiet-append : (a b : List Change) → AreQuiet a → AreQuiet b → AreQuiet (a ++ b)
+pub quiet-append : (a b : List Change) → AreQuiet a → AreQuiet b → AreQuiet (a ++ b)
 quiet-append [] b h k = k
 quiet-append (c ∷ a) b h k = (h.0, quiet-append a b h.1 k)
 
@@ -143,20 +143,20 @@ quiet_back t row =
     quiet-append (read_only_if row.made_writable.base row.target) (read_only_if row.made_writable.file (option_and_then (λ base. child t base File) row.target))
     (quiet_if row.made_writable.base row.target) (quiet_if row.made_writable.file (option_and_then (λ base. child t base File) row.target))
 
-quiet_given : (t : RunTable) (row : JobRecord) (o : JobOutcome) → AreQuiet (given_back_to t row o)
+pub quiet_given : (t : RunTable) (row : JobRecord) (o : JobOutcome) → AreQuiet (given_back_to t row o)
 quiet_given t row Pivoted = tt
 quiet_given t row Completed = quiet_back t row
 quiet_given t row Copied = quiet_back t row
 quiet_given t row Stopped = quiet_back t row
 
 -- the moves, and what stands behind them
-abbrev moves_by : JobRecord → JobKind → JobOutcome → List Change
+abbrev pub moves_by : JobRecord → JobKind → JobOutcome → List Change
 moves_by row k Stopped = []
 moves_by row k Completed = moves row k Completed
 moves_by row k Pivoted = moves row k Pivoted
 moves_by row k Copied = moves row k Copied
 
-abbrev rest_by : JobRecord → JobKind → JobOutcome → List Change
+abbrev pub rest_by : JobRecord → JobKind → JobOutcome → List Change
 rest_by row k Stopped = []
 rest_by row k Completed = settled_by row k ++ top_lost row k Completed
 rest_by row k Pivoted = settled_by row k ++ top_lost row k Pivoted
@@ -168,13 +168,13 @@ done_is row Completed = append_assoc (moves row row.kind Completed) (settled_by 
 done_is row Pivoted = append_assoc (moves row row.kind Pivoted) (settled_by row row.kind) (top_lost row row.kind Pivoted)
 done_is row Copied = append_assoc (moves row row.kind Copied) (settled_by row row.kind) (top_lost row row.kind Copied)
 
-quiet_rest : (row : JobRecord) (k : JobKind) (o : JobOutcome) → AreQuiet (rest_by row k o)
+pub quiet_rest : (row : JobRecord) (k : JobKind) (o : JobOutcome) → AreQuiet (rest_by row k o)
 quiet_rest row k Stopped = tt
 quiet_rest row k Completed = quiet-append (settled_by row k) (top_lost row k Completed) (quiet_settled row k) (quiet_top row k Completed)
 quiet_rest row k Pivoted = quiet-append (settled_by row k) (top_lost row k Pivoted) (quiet_settled row k) (quiet_top row k Pivoted)
 quiet_rest row k Copied = quiet-append (settled_by row k) (top_lost row k Copied) (quiet_settled row k) (quiet_top row k Copied)
 
-end_is : (t : RunTable) (row : JobRecord) (o : JobOutcome)
+pub end_is : (t : RunTable) (row : JobRecord) (o : JobOutcome)
     → end_edits t row o
     ≡ (change.EndJob row.number row.slot (drops_aside o row.bitmap) ∷ pulled row.filter ++ moves_by row row.kind o) ++ (rest_by row row.kind o ++ given_back_to t row o)
 unfolding end_edits

@@ -6,4 +6,5 @@ pub mod Ended
 pub mod Kept
 pub mod Changes
 pub mod Others
+pub mod Left
 pub mod Guests

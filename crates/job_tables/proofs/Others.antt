@@ -14,13 +14,16 @@ use Rattle.blk_graph.specs.declared.kind.Kind.TheVariants as driver
 use Rattle.blk_graph.specs.declared.kind.NodeKind.{NodeKind}
 use Rattle.blk_graph.specs.Edges.{same_parent, same_role, is_job}
 use Rattle.blk_graph.specs.Edits.{child_of, is_edge, with_child, moved, stays, replaced, with_replaced, is_between, is_double, but_doubles, is_filters, but_filters, without_filter, without_parent}
+use Rattle.blk_graph.specs.Paths.{Reaches}
 use Rattle.blk_graph.specs.Permissions.{node_edge}
 use Rattle.blk_graph.specs.Refreshed.{refreshed}
 use Rattle.blk_graph.proofs.ChildLemmas.{child-kept, child-without}
+use Rattle.blk_graph.proofs.CycleLemmas.{and-left}
 use Rattle.blk_graph.proofs.DraftLemmas.{children_removed, children_replaced, children_without}
 use Rattle.blk_graph.proofs.EditLemmas.{moved-cases, replaced-cases, replaced-parent, Contains-with_edge}
 use Rattle.blk_graph.proofs.InverseLemmas.{same_parent-refl, same_parent-false}
 use Rattle.blk_graph.proofs.Members.{Contains-here, Contains-there, Contains-filter, Contains-map, map-Contains}
+use Rattle.blk_graph.proofs.PathLemmas.{Reaches-edge, Reaches-joined}
 use Rattle.blk_graph.proofs.RefreshLemmas.{child_of-refreshed}
 use Rattle.blk_graph.proofs.RoleLemmas.{same_role-true}
 use Rattle.qmp_codec.specs.declared.event.JobKind.{JobKind}
@@ -36,6 +39,7 @@ use Rattle.flat_machine.specs.Suiting.{IsPlainNode}
 use Rattle.flat_machine.specs.Wiring.{IsUnder}
 use Rattle.flat_machine.proofs.Rows.{under-before}
 use Rattle.flat_machine.proofs.Tables.{filter-keeps, with_edge-keeps, apart-parents}
+use Rattle.flat_machine.proofs.WritingKept.{role_edge}
 use Rattle.flat_machine.proofs.TablesKept.{child-role}
 use Rattle.job_edges.specs.Held.{is_job_filter}
 use Rattle.job_tables.specs.Rows.{edges_of_job, nodes_of_job, AreLinked, HasFilterOf}
@@ -178,7 +182,7 @@ module _ (t : RunTable) (j : JobsStand t) (row : JobRecord) (here : Contains t.j
         child = u.child;
       }
 
-  child_left : (node : ℕ) (role : Role) → child_of (Node node) role (refreshed (kinds_of t.nodes) left) ≡ child t node role
+  pub child_left : (node : ℕ) (role : Role) → child_of (Node node) role (refreshed (kinds_of t.nodes) left) ≡ child t node role
   child_left node role = child_of-refreshed (kinds_of t.nodes) (Node node) role left ∙ child-without (Job row.slot) (Node node) role t.edges (λ same. cc)
 
   still_there : (b : JobRecord) → Contains (without_job row.number t.jobs) b → RowStays t (changed t over) b
@@ -237,17 +241,17 @@ module _ (t : RunTable) (j : JobsStand t) (row : JobRecord) (here : Contains t.j
 
 -- ---- nobody has a node
 
-pub record IsNobodys (t : RunTable) (node : ℕ) : Type 0 where
-  pub held : (row : JobRecord) → Contains t.jobs row → Contains (nodes_of_job row) node → ⊥
-  pub filter : (row : JobRecord) → Contains t.jobs row → row.filter ≢ Some node
+pub record IsNobodys (jobs : List JobRecord) (node : ℕ) : Type 0 where
+  pub held : (row : JobRecord) → Contains jobs row → Contains (nodes_of_job row) node → ⊥
+  pub filter : (row : JobRecord) → Contains jobs row → row.filter ≢ Some node
 
 source_of : (t : RunTable) (loose : Option ℕ) (o : OthersStand t loose) (row : JobRecord) → Contains t.jobs row → Contains (nodes_of_job row) row.source
 source_of t loose o row here = in_left row.held row.read row.source (holds_source t row (o.each row here))
 
 -- ---- its filter goes
 
-module _ (t : RunTable) (f source : ℕ) (o : OthersStand t (Some f)) (over : child t f Filtered ≡ Some source) (no_filter : IsNobodys t f)
-    (no_source : IsNobodys t source) where
+module _ (t : RunTable) (f source : ℕ) (o : OthersStand t (Some f)) (over : child t f Filtered ≡ Some source) (no_filter : IsNobodys t.jobs f)
+    (no_source : IsNobodys t.jobs source) where
   abbrev pull : Change
   pull = change.PullFilter f
 
@@ -346,6 +350,31 @@ module _ (t : RunTable) (f source : ℕ) (o : OthersStand t (Some f)) (over : ch
       not_own (inl differ) = rw (ne_eqb node f differ) refl
       not_own (inr differ) = both-false (node == f) (same_role role Filtered) (not_filtered (same_role role Filtered) refl differ)
 
+  -- a parent of the filter has its source
+  pub child_over_filter : (node : ℕ) → child t node Backing ≡ Some f → child_of (Node node) Backing (refreshed after pulled) ≡ Some source
+  child_over_filter node is =
+      child_of-refreshed after (Node node) Backing pulled
+      ∙ children_without f t.edges source over (Node node) Backing (λ bad. let no : Backing ≡ Between = bad in cc no) (last_false (node == f))
+      ∙ ap (option_map (λ c. cond (c == f) source c)) is ∙ ap Some (rw (eq-eqb f f refl) refl)
+    where
+      last_false : (b : Bool) → (b && false) ≡ false
+      last_false true = refl
+      last_false false = refl
+
+  -- where an edge leads, it led before
+  pub pull_leads : (a : ℕ) (e : Edge) → Contains pulled e → e.parent ≡ Node a → Reaches t.edges a e.child
+  pull_leads a e there from =
+      let p = pulled_cases e there in
+      let first : Reaches t.edges a p.edge.child = Reaches-edge t.edges a p.edge p.there (sym p.parent ∙ from) in
+      elim p.is [
+        | inl same ↦ subst (Reaches t.edges a) (ap (λ (x : Edge). x.child) (sym same)) first
+        | inr moved_there ↦
+            let own = role_edge (Node f) Filtered t.edges source over in
+            subst (Reaches t.edges a) (sym moved_there.1)
+            (Reaches-joined t.edges a f source (subst (Reaches t.edges a) moved_there.0 first)
+            (subst (Reaches t.edges f) own.to (Reaches-edge t.edges f own.edge own.there own.from)))
+      ]
+
   same_found : (node : ℕ) → node ≢ f → find (λ r. r.id == node) (without_record f t.nodes) ≡ node_by_id t node
   same_found node differ = still_found t f node differ
 
@@ -402,7 +431,7 @@ module _ (t : RunTable) (f source : ℕ) (o : OthersStand t (Some f)) (over : ch
 
 -- ---- what used the source uses the target
 
-module _ (t : RunTable) (source target but : ℕ) (o : OthersStand t None) (no_source : IsNobodys t source) (no_target : IsNobodys t target) where
+module _ (t : RunTable) (source target but : ℕ) (o : OthersStand t None) (no_source : IsNobodys t.jobs source) (no_target : IsNobodys t.jobs target) where
   abbrev move : Change
   move = change.Move source target but
 
@@ -446,6 +475,25 @@ module _ (t : RunTable) (source target but : ℕ) (o : OthersStand t None) (no_s
       ∙ children_replaced source target (Some (Node but)) t.edges (Node node) role
       ∙ ap (option_map (λ c. cond (c == source && not (stays (Some (Node but)) (Node node))) target c)) is
       ∙ ap Some (rw (ne_eqb below source apart) refl)
+
+  -- an edge leads where it led, or from a node that led to the source it leads to the target
+  pub move_leads : (a : ℕ) (e : Edge) → Contains over_there e → e.parent ≡ Node a → Reaches t.edges a e.child ⊎ ((e.child ≡ target) × Reaches t.edges a source)
+  move_leads a e there from = by_test r.0 r.1 r.2 (r.0.child == source && not (stays (Some (Node but)) r.0.parent)) refl
+    where
+      r : (x : Edge) × Contains t.edges x × (e ≡ replacing x)
+      r = Contains-map replacing t.edges e there
+
+      by_test : (x : Edge) → Contains t.edges x → e ≡ replacing x → (b : Bool) → (x.child == source && not (stays (Some (Node but)) x.parent)) ≡ b
+          → Reaches t.edges a e.child ⊎ ((e.child ≡ target) × Reaches t.edges a source)
+      by_test x at is true test =
+          let shape : replacing x ≡ with_child target x = rw test refl in
+          let was : x.parent ≡ Node a = sym (ap (λ (y : Edge). y.parent) (is ∙ shape)) ∙ from in
+          let at_source : x.child ≡ source = eqb-true x.child source (and-left (x.child == source) (not (stays (Some (Node but)) x.parent)) test) in
+          inr (ap (λ (y : Edge). y.child) (is ∙ shape), subst (Reaches t.edges a) at_source (Reaches-edge t.edges a x at was))
+      by_test x at is false test =
+          let shape : replacing x ≡ x = rw test refl in
+          let same : e ≡ x = is ∙ shape in
+          inl (subst (λ (y : Edge). Reaches t.edges a y.child) (sym same) (Reaches-edge t.edges a x at (sym (ap (λ (y : Edge). y.parent) same) ∙ from)))
 
   pub move_stays : (b : JobRecord) → Contains t.jobs b → RowStays t (changed t move) b
   unfolding changed

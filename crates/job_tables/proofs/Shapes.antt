@@ -104,7 +104,7 @@ module _ (t : RunTable) (h : TableStands t) (j : JobsStand t) (d : EdgesAreDrawn
     pub base_in : Contains below c.base
     base_in = in_right c.between (c.base ∷ []) c.base (Contains-here c.base [])
 
-    top_down : (n : ℕ) → Contains below n → Reaches t.edges row.source n
+    pub top_down : (n : ℕ) → Contains below n → Reaches t.edges row.source n
     top_down n there = linked_reaches row.source below c.linked n there
 
     pub not_top : (n : ℕ) → Contains below n → n ≢ row.source

@@ -28,6 +28,13 @@ pub fn ends_keep_permissions()
         → IsAcyclic (all_changed t (end_edits t row outcome)).edges }
 {}
 
+/// However a job ends, the changes of its end leave the other jobs standing.
+pub fn ends_leave_jobs()
+    ensures { (t : RunTable) (row : JobRecord) (outcome : JobOutcome) → TableStands t → JobsStand t
+        → EdgesAreDrawn t → Contains t.jobs row
+        → JobsStand (all_changed t (end_edits t row outcome)) }
+{}
+
 /// The edges of a table in which jobs stand are such as the laws of jobs' edges speak of.
 pub fn edges_of_jobs_stand()
     ensures { (t : RunTable) → TableStands t → JobsStand t → EdgesAreDrawn t
