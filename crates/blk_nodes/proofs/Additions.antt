@@ -24,7 +24,6 @@ use Rattle.blk_graph.specs.Ids.{IsLowestFree}
 use Rattle.blk_graph.specs.Rule.{first_conflict}
 use Rattle.blk_graph.specs.declared.edge.Conflict.{Conflict as Pair}
 use Rattle.blk_nodes.specs.Adding.{with_node_row, with_node_device, with_below, file_edge, Breaks}
-use Rattle.blk_nodes.specs.Contents.{disk_under}
 use Rattle.blk_nodes.specs.Nodes.{Nodes, DeviceSeen, is_device_of, row_at, device_in, size_by, node_size, file_of, backing_of, node_kind}
 use Rattle.blk_nodes.specs.Joined.{IsFile, HasSize, IsPartOfFile, HasBelow, IsSized, IsJoined, DifferInNode}
 use Rattle.blk_nodes.specs.declared.row.Driver.{Driver}

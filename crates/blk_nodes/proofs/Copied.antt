@@ -356,7 +356,7 @@ module _ (nodes : Nodes) (joined : IsJoined nodes) (node : ℕ) (span : Extent) 
 
 -- ---- devices that tell their bytes
 
-noded : (devices : List DeviceSeen) (x : DeviceSeen) → AllPairs DifferInNode devices → Contains devices x → device_in devices x.node ≡ Some x
+pub noded : (devices : List DeviceSeen) (x : DeviceSeen) → AllPairs DifferInNode devices → Contains devices x → device_in devices x.node ≡ Some x
 noded [] x once there = absurd (Contains-nil x there)
 noded (d ∷ devices) x once there = elim (Contains-cases d devices x there) [
   | inl here ↦ let at : (d.node == x.node) ≡ true = eq-eqb d.node x.node (ap (λ (y : DeviceSeen). y.node) (sym here)) in rw at (ap (λ (y : DeviceSeen). Some y) (sym here))

@@ -199,7 +199,7 @@ module _ {D : Type 0} (g : Ghosts D) (node : ℕ) (number : DevNo) (before now :
   abbrev last_state : DeviceSeen
   last_state = state_of g node number now
 
-  wrote_seen : (ws : List Write) → Wrote g ws before now → Wrote seen ws first_state last_state
+  pub wrote_seen : (ws : List Write) → Wrote g ws before now → Wrote seen ws first_state last_state
   wrote_seen ws is = record {
     content = is.content;
     size = is.size;

@@ -1,12 +1,12 @@
 pub mod HeldDevices
-mod Rows
-mod Joints
-mod Chains
+pub mod Rows
+pub mod Joints
+pub mod Chains
 pub mod Leading
 pub mod Disks
 mod Additions
 pub mod KeptDisks
-mod Unfolding
+pub mod Unfolding
 pub mod Through
 pub mod Commits
 mod Drawn
@@ -25,10 +25,11 @@ mod ToldDisks
 mod Imaged
 mod Pieces
 mod Covered
-mod CoveredDisks
-mod Copied
+pub mod CoveredDisks
+pub mod Copied
 mod CopiedDisks
 mod MappedDown
 mod Formatted
 mod Jobs
 pub mod Rewired
+mod Renamed

@@ -1,6 +1,6 @@
 -- What the writing of a piece makes of the image in a node's row and of the device of its file: which writes, in their order, and
 -- what is known of the image behind them.
-use Rattle.std.specs.Prelude.{◌≡◌, ◌⊎◌, ℕ, ◌+◌, ◌-◌, ◌*◌, ◌%◌, ◌<◌, ◌≤◌, min, Bool, true, false, List, [], length, replicate, slice_index, take, Option, Some, None}
+use Rattle.std.specs.Prelude.{◌≡◌, ◌⊎◌, ℕ, ◌+◌, ◌-◌, ◌*◌, ◌%◌, ◌<◌, ◌≤◌, min, Bool, true, false, List, length, replicate, slice_index, Option, Some, None}
 use Rattle.blk_base.specs.Content.{bytes_at, with_bytes}
 use Rattle.blk_base.specs.Device.{AtEachStopOf}
 use Rattle.blk_base.specs.Pieces.{Extent, block_size}

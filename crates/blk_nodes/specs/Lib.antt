@@ -19,3 +19,5 @@ pub mod Formatting
 pub mod Copying
 pub mod Jobs
 pub mod Rewiring
+pub mod Renaming
+pub mod Owning

@@ -1,7 +1,7 @@
 -- A piece of a qcow2 node: where it lies, and what its writing leaves of the rows and the devices.
-use Rattle.std.specs.Prelude.{◌≡◌, ◌⊎◌, ℕ, ◌+◌, ◌%◌, ◌<◌, ◌≤◌, min, List, length, slice_index, slice_index_or, slice_set, Option, Some, None, IsSome}
+use Rattle.std.specs.Prelude.{◌≡◌, ◌⊎◌, ℕ, ◌+◌, ◌<◌, ◌≤◌, List, length, slice_index, slice_index_or, slice_set, Option, Some, None, IsSome}
 use Rattle.blk_base.specs.Content.{bytes_at, with_bytes}
-use Rattle.blk_base.specs.Pieces.{Extent, block_size, end_of}
+use Rattle.blk_base.specs.Pieces.{block_size, end_of}
 use Rattle.blk_base.specs.declared.fault.DevNo.{DevNo}
 use Rattle.blk_base.specs.declared.fault.Outcome.{Outcome}
 use Rattle.blk_base.specs.declared.fault.Outcome.TheVariants.{Good, Io, NoSpace}

@@ -1,6 +1,6 @@
 -- A node below another gets bytes that the upper one reads as anyway.
-use Rattle.std.specs.Prelude.{◌≡◌, ◌≢◌, ◌⊎◌, ℕ, ◌+◌, ◌<◌, List, length, slice_index, Option, Some}
-use Rattle.blk_nodes.specs.Contents.{bytes_of, disk_of}
+use Rattle.std.specs.Prelude.{◌≡◌, ◌≢◌, ◌⊎◌, ℕ, ◌+◌, ◌<◌, List, length, slice_index, Some}
+use Rattle.blk_nodes.specs.Contents.{bytes_of}
 use Rattle.blk_nodes.specs.Nodes.{Nodes, row_at, node_size, file_of, backing_of}
 use Rattle.blk_nodes.specs.Writing.{own_file}
 use Rattle.blk_nodes.specs.declared.row.Driver.TheVariants.{CopyOnRead}

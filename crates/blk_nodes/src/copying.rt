@@ -1,7 +1,8 @@
-//! Which images a read through copy-on-read maps.
+//! Which images a read through copy-on-read maps, and what a row has of its own.
 ghost use Rattle.std.specs.Prelude.{◌≡◌, ◌<◌, Some};
 ghost use Rattle.blk_nodes.specs.Copying.{is_copy_on_read, is_unallocated, puts_below, shows_below_at};
 ghost use Rattle.blk_nodes.specs.Joined.{IsSized};
+ghost use Rattle.blk_nodes.specs.Owning.{has_own_by};
 ghost use Rattle.q2_tables.specs.Entries.{entry_of};
 
 use crate::row::{Driver, Row};
@@ -44,4 +45,17 @@ pub(crate) fn puts_below(row: &Row, child: &Row, place: u64) -> bool
     ensures { result ≡ puts_below (Some row.now) (Some child.now) place }
 {
     is_copy_on_read(row) && shows_below_at(child, place)
+}
+
+/// Whether a row has the bytes of a place itself.
+pub(crate) fn has_own(row: &Row, place: u64) -> bool
+    requires sized { IsSized row.now.size row.now.driver }
+    requires inside { place < row.now.size }
+    ensures { result ≡ has_own_by place row.now.driver }
+{
+    match &row.driver {
+        Driver::File | Driver::Raw(_) => true,
+        Driver::Qcow2(image) => !is_unallocated(image.mapping(place / image.cluster_size())),
+        Driver::CopyOnRead => false,
+    }
 }

@@ -27,6 +27,7 @@ mod formatting;
 mod imaging;
 mod jobs;
 mod looks;
+mod renaming;
 mod rewiring;
 mod writing;
 

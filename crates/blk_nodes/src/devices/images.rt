@@ -1,16 +1,19 @@
 //! Images that are written on the devices.
 ghost use Rattle.std.specs.Prelude.{◌≡◌, ◌<◌, ◌≤◌, ◌*◌, ℕ, List, length, replicate, None, Some, IsSome};
+ghost use Rattle.std.specs.Option.{ForSome, option_copied};
+ghost use Rattle.q2_format.specs.Created.{IsNewName, IsNewFormat};
 ghost use Rattle.q2_image.specs.Image.{IsImageOf, cluster_size_in, clusters_in};
 ghost use Rattle.q2_image.specs.Reading.{IsHost, IsWithinCluster};
 ghost use Rattle.q2_image.specs.Room.{entry_for};
 ghost use Rattle.q2_image.specs.Writing.{PutFits, ZeroFits, own_end, own_place};
 ghost use Rattle.blk_nodes.specs.Changing.{ChangesInPlace, ClearsCluster, PutsCluster};
 ghost use Rattle.blk_nodes.specs.Nodes.{device_in};
+ghost use Rattle.blk_nodes.specs.Renaming.{answer_on, IsRenameBy, IsRenameAt};
 ghost use Rattle.blk_nodes.specs.Walk.{IsKnownAt};
 ghost use Rattle.blk_nodes.specs.Writing.{FitsAt, HasRoomAt, HasRoomBy, IsImageCall, IsImageCallAt, cluster_outcome};
 
 use crate::devices::{Devices, Held};
-use blk_base::{DevStop, Device, Outcome, Span};
+use blk_base::{DevStop, Device, Fault, Outcome, Span};
 use blk_graph::NodeId;
 use q2_image::Image;
 
@@ -73,6 +76,37 @@ impl<D: Device> Held<D> {
     {
         let written = image.zero_cluster(&mut self.device, cluster);
         self.cluster_outcome(written)
+    }
+
+    /// How a call over the device went, with the device that stopped it.
+    fn answer(&self, made: Result<(), DevStop>) -> Result<(), Fault>
+        ensures { result ≡ answer_on self.now.number made }
+    {
+        match made {
+            Ok(()) => Ok(()),
+            Err(DevStop::Io { count }) => Err(Fault::Io {
+                dev: self.number,
+                count,
+            }),
+            Err(DevStop::NoSpace) => Err(Fault::NoSpace { dev: self.number }),
+        }
+    }
+
+    /// Gives the image in the file another backing name.
+    fn rename_image(
+        &mut self,
+        image: &mut Image,
+        name: Option<&str>,
+        format: Option<&str>,
+    ) -> Result<(), Fault>
+        requires name { ForSome name (λ name. IsNewName name.now) }
+        requires format { ForSome format (λ format. IsNewFormat format.now) }
+        requires known { (b : List ℕ) → self.old.content ≡ Some b → IsImageOf b image.old }
+        ensures { IsRenameBy self.old self.new image.old image.new (option_copied name.entry)
+            (option_copied format.entry) result }
+    {
+        let made = image.set_backing_name(&mut self.device, name, format);
+        self.answer(made)
     }
 
     /// Whether there is room to put a whole cluster: Good, or NoSpace.
@@ -156,6 +190,30 @@ impl<D: Device> Devices<D> {
             Some(at) => {
                 let held = &mut self.list[at];
                 held.zero_image(image, cluster)
+            }
+            None => unreachable!(),
+        }
+    }
+
+    /// Gives the image in the file of a `file` node another backing name.
+    pub(crate) fn rename_image(
+        &mut self,
+        file: NodeId,
+        image: &mut Image,
+        name: Option<&str>,
+        format: Option<&str>,
+    ) -> Result<(), Fault>
+        requires held { IsSome (device_in self.old file) }
+        requires name { ForSome name (λ name. IsNewName name.now) }
+        requires format { ForSome format (λ format. IsNewFormat format.now) }
+        requires known { IsKnownAt file self.old image.old }
+        ensures { IsRenameAt file self.old self.new image.old image.new
+            (option_copied name.entry) (option_copied format.entry) result }
+    {
+        match self.place_of(file) {
+            Some(at) => {
+                let held = &mut self.list[at];
+                held.rename_image(image, name, format)
             }
             None => unreachable!(),
         }

@@ -1,12 +1,14 @@
 //! What is there of a node.
-ghost use Rattle.std.specs.Prelude.{◌≡◌, ◌↔◌, ℕ, Contains, IsTrue, IfSome};
+ghost use Rattle.std.specs.Prelude.{◌≡◌, ◌↔◌, ◌<◌, ℕ, Contains, IsTrue, IfSome};
 ghost use Rattle.std.specs.Option.{option_map};
 ghost use Rattle.blk_graph.specs.Edits.{child_of};
 ghost use Rattle.blk_graph.specs.Graph.{HasNode, ids};
 ghost use Rattle.blk_graph.specs.Paths.{Reaches};
-ghost use Rattle.blk_nodes.specs.Nodes.{row_at, kind_in};
+ghost use Rattle.blk_nodes.specs.Nodes.{row_at, node_size, kind_in};
 ghost use Rattle.blk_nodes.specs.Overlays.{IsFresh};
+ghost use Rattle.blk_nodes.specs.Owning.{has_own};
 
+use crate::copying::has_own;
 use crate::nodes::Nodes;
 use crate::row::Driver;
 use blk_base::Device;
@@ -63,6 +65,18 @@ impl<D: Device> Nodes<D> {
                 Driver::Qcow2(image) => image.is_empty(),
                 Driver::File | Driver::Raw(_) | Driver::CopyOnRead => false,
             },
+        }
+    }
+
+    /// Whether a node has the bytes of a place itself: in its file, or in a cluster that its image maps, be it one that reads as
+    /// zeros. Else it reads there as the node below, or as zeros where there is none.
+    pub fn has_own(&self, node: NodeId, place: u64) -> bool
+        requires { place < node_size self.now node }
+        ensures { result ≡ has_own place (row_at self.now node) }
+    {
+        match &self.rows[node.index()] {
+            None => false,
+            Some(row) => has_own(row, place),
         }
     }
 }
