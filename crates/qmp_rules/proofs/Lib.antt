@@ -9,3 +9,5 @@ pub mod ReachLemmas
 pub mod ClashLemmas
 pub mod ItemLemmas
 pub mod WriteLemmas
+pub mod StartLemmas
+pub mod EndLemmas

@@ -106,3 +106,16 @@ end_edits t row outcome =
 
 abbrev pub ready_edits : JobRecord → List Change
 ready_edits row = ReadyJob row.number ∷ []
+
+-- ---- changes that take no memory: those of events
+
+abbrev pub is_of_event : Change → Bool
+is_of_event (ReadyJob number) = true
+is_of_event (EndJob number slot drops) = true
+is_of_event (PullFilter filter) = true
+is_of_event (Move from to but) = true
+is_of_event (Rebase node backing) = true
+is_of_event (Settle node disk) = true
+is_of_event (Unsettle id) = true
+is_of_event (MakeReadOnly id) = true
+is_of_event _ = false

@@ -2,7 +2,9 @@
 ghost use Rattle.std.specs.Prelude.{◌≡◌, ◌<◌, ℕ, Bool, List, OnOk, Option, length, true};
 ghost use Rattle.qmp_codec.specs.declared.words.ImageFormat.{ImageFormat};
 ghost use Rattle.qmp_rules.specs.Changes.{all_changed, changed, with_backing, with_backing_edge};
+ghost use Rattle.std.specs.List.{list_all};
 ghost use Rattle.blk_graph.specs.Edits.{IsLone};
+ghost use Rattle.qmp_rules.specs.Ends.{is_of_event};
 ghost use Rattle.qmp_rules.specs.Fitting.{AllChangesFit, ChangeFits, all_fit, fits};
 ghost use Rattle.qmp_rules.specs.Room.{HasRoomForChanges, TakesLittle};
 
@@ -308,6 +310,36 @@ impl Names {
             self.change(change);
         }
         Ok(())
+    }
+
+    /// Makes one change of an event.
+    #[tactic(auto, unfolding(crate::specs::Changes::changed))]
+    fn change_at_event(&mut self, change: Change)
+        requires { is_of_event change ≡ true }
+        ensures { self.new.table ≡ changed self.old.table change }
+    {
+        match change {
+            Change::ReadyJob(number) => self.ready_job(number),
+            Change::EndJob { number, slot, .. } => self.end_job(number, slot),
+            Change::PullFilter(filter) => self.pull_filter(filter),
+            Change::Move { from, to, but } => self.move_parents(from, to, but),
+            Change::Rebase { node, backing } => self.rebase(node, backing),
+            Change::Settle { node, .. } => self.settle(node),
+            Change::Unsettle(id) => self.unsettle(id),
+            Change::MakeReadOnly(id) => self.close_for_writing(id),
+            _ => unreachable!(),
+        }
+    }
+
+    /// Makes the changes of an event of a job, one after another. Takes no memory.
+    #[tactic(auto, using(crate::proofs::EndLemmas::event_here, crate::proofs::EndLemmas::events_then))]
+    pub fn apply_event(&mut self, mut edits: Edits)
+        requires { list_all is_of_event edits ≡ true }
+        ensures { self.new.table ≡ all_changed self.old.table edits }
+    {
+        while let Some(change) = edits.next() {
+            self.change_at_event(change);
+        }
     }
 
     /// Makes changes, one after another.

@@ -3,10 +3,9 @@ ghost use Rattle.std.specs.Prelude.{◌≡◌, ◌==◌, ◌++◌, ◌∷◌, []
 ghost use Rattle.std.specs.List.{list_any};
 ghost use Rattle.blk_graph.specs.Ids.{lowest_free};
 ghost use Rattle.std.specs.Option.{option_copied};
-ghost use Rattle.qmp_codec.specs.Commands.{seen_command};
+ghost use Rattle.qmp_codec.specs.Commands.{seen_action, seen_command};
 ghost use Rattle.qmp_codec.specs.Nodes.{seen_blockdev_create, seen_created, seen_device_add, seen_snapshot};
-ghost use Rattle.qmp_asks.specs.CommandAsks.{is_built};
-ghost use Rattle.qmp_rules.specs.Edits.{create_edits, created_change, del_edits, device_add_edits, device_del_edits, device_number, device_uses, edits_of, file_of_node, file_row, file_under, format_row, free_id, goes_with_node, node_ids, length_told, name_of_file_at, new_device, place_from, row_gone, size_by_name, snapshot_edits, spoiled, unused_from, file_uses, with_inline};
+ghost use Rattle.qmp_rules.specs.Edits.{action_edits, create_edits, created_change, del_edits, device_add_edits, device_del_edits, device_number, device_uses, edits_of, file_of_node, file_row, file_under, format_row, free_id, goes_with_node, node_ids, length_told, name_of_file_at, new_device, place_from, row_gone, size_by_name, snapshot_edits, spoiled, unused_from, file_uses, with_inline};
 ghost use Rattle.qmp_asks.specs.Seen.{seen_text};
 
 use crate::change::Change;
@@ -17,7 +16,7 @@ use crate::unmet::{name_of_file, takes};
 use blk_base::NoMemory;
 use blk_graph::{Kind, MOST_NODES, NodeId, Role};
 use qmp_asks::{Drivers, Name, amount_or, shares};
-use qmp_codec::{BlockdevCreate, Command, Created, DeviceAdd, Snapshot};
+use qmp_codec::{Action, BlockdevCreate, Command, Created, DeviceAdd, Snapshot};
 use std::alloc::Global;
 
 #[tactic(auto, using(crate::proofs::EditLemmas::lowest_free_is))]
@@ -33,7 +32,7 @@ pub(crate) fn lowest(taken: &[NodeId]) -> Result<NodeId, NoMemory>
     }
 }
 
-fn maybe_name(alloc: Global, text: &Option<String>) -> Result<Option<Name>, NoMemory>
+pub(crate) fn maybe_name(alloc: Global, text: &Option<String>) -> Result<Option<Name>, NoMemory>
     ensures { IfOk result (λ name. name ≡ option_map string_bytes text.now) }
 {
     match text {
@@ -475,7 +474,6 @@ impl Names {
         told: &Told,
         command: &Command,
     ) -> Result<(), NoMemory>
-        requires { is_built (seen_command command.now) ≡ true }
         ensures { OnOk result (edits.new.items
             ≡ edits.old.items ++ edits_of self.now.table told.now (seen_command command.now)) }
     {
@@ -491,14 +489,45 @@ impl Names {
             Command::DeviceAdd(c) => self.plan_device_add(alloc, edits, c),
             Command::DeviceDel(id) => self.plan_device_del(edits, id.as_str()),
             Command::BlockdevSnapshot(c) => self.plan_snapshot(edits, c),
-            Command::QueryBlockJobs | Command::QueryNamedBlockNodes(_) => Ok(()),
+            Command::Transaction(_) | Command::QueryBlockJobs | Command::QueryNamedBlockNodes(_) =>
+                Ok(()),
+            Command::BlockStream(c) => self.plan_stream(alloc, edits, c),
+            Command::BlockCommit(c) => self.plan_commit(alloc, edits, c),
+            Command::BlockdevMirror(c) => self.plan_mirror(alloc, edits, c),
+            Command::BlockdevBackup(c) => self.plan_backup(alloc, edits, None, c),
+            Command::BlockJobCancel(job, force) => self.plan_cancel(edits, job.as_str(), *force),
+            Command::BlockJobComplete(job) => self.plan_complete(edits, job.as_str()),
             Command::BitmapAdd(c) => self.plan_bitmap_add(alloc, edits, c),
             Command::BitmapRemove(c) => self.plan_bitmap_remove(alloc, edits, c),
             Command::BitmapClear(c) => self.plan_bitmap_clear(alloc, edits, c),
             Command::BitmapEnable(c) => self.plan_bitmap_turn(alloc, edits, true, c),
             Command::BitmapDisable(c) => self.plan_bitmap_turn(alloc, edits, false, c),
             Command::BitmapMerge(c) => self.plan_merge(alloc, edits, c),
-            _ => unreachable!(),
+        }
+    }
+
+    /// What an action of a transaction makes of the table, whose jobs have this group.
+    #[tactic(auto, unfolding(crate::specs::Edits::action_edits))]
+    pub(crate) fn plan_action(
+        &self,
+        alloc: Global,
+        edits: &mut Vec<Change>,
+        group: Option<u32>,
+        action: &Action,
+    ) -> Result<(), NoMemory>
+        ensures { OnOk result (edits.new.items
+            ≡ edits.old.items ++ action_edits self.now.table group (seen_action action.now)) }
+    {
+        match action {
+            Action::Abort | Action::Unknown => Ok(()),
+            Action::Snapshot(c) => self.plan_snapshot(edits, c),
+            Action::Backup(c) => self.plan_backup(alloc, edits, group, c),
+            Action::BitmapAdd(c) => self.plan_bitmap_add(alloc, edits, c),
+            Action::BitmapRemove(c) => self.plan_bitmap_remove(alloc, edits, c),
+            Action::BitmapClear(c) => self.plan_bitmap_clear(alloc, edits, c),
+            Action::BitmapEnable(c) => self.plan_bitmap_turn(alloc, edits, true, c),
+            Action::BitmapDisable(c) => self.plan_bitmap_turn(alloc, edits, false, c),
+            Action::BitmapMerge(c) => self.plan_merge(alloc, edits, c),
         }
     }
 
@@ -509,7 +538,6 @@ impl Names {
         told: &Told,
         command: &Command,
     ) -> Result<Vec<Change>, NoMemory>
-        requires { is_built (seen_command command.now) ≡ true }
         ensures { IfOk result
             (λ edits. edits.items ≡ edits_of self.now.table told.now (seen_command command.now)) }
     {

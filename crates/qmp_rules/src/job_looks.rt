@@ -170,7 +170,11 @@ impl Names {
     }
 
     /// Puts the nodes that a job would hold behind those that are there.
-    fn put_held(&self, ids: &mut Vec<NodeId>, nodes: &JobNodes<&str>) -> Result<(), NoMemory>
+    pub(crate) fn put_held(
+        &self,
+        ids: &mut Vec<NodeId>,
+        nodes: &JobNodes<&str>,
+    ) -> Result<(), NoMemory>
         ensures { OnOk result
             (ids.new.items ≡ ids.old.items ++ held_nodes self.now.table (seen_nodes nodes.now)) }
     {
@@ -207,7 +211,11 @@ impl Names {
     }
 
     /// Puts the nodes that a job would hold for reading.
-    fn put_read(&self, ids: &mut Vec<NodeId>, nodes: &JobNodes<&str>) -> Result<(), NoMemory>
+    pub(crate) fn put_read(
+        &self,
+        ids: &mut Vec<NodeId>,
+        nodes: &JobNodes<&str>,
+    ) -> Result<(), NoMemory>
         ensures { OnOk result
             (ids.new.items ≡ ids.old.items ++ read_nodes self.now.table (seen_nodes nodes.now)) }
     {

@@ -112,6 +112,13 @@ impl Names {
         self.jobs.as_slice()
     }
 
+    /// How many jobs were started so far.
+    pub fn started(&self) -> u32
+        ensures { result ≡ self.now.table.started }
+    {
+        self.started
+    }
+
     pub fn bitmaps(&self) -> &[BitmapRow]
         ensures { result.now ≡ self.now.table.bitmaps }
     {
