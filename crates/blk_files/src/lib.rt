@@ -15,4 +15,4 @@ pub use device::FileDevice;
 pub use failure::Failure;
 pub use said::{print_failure, print_line};
 pub use sink::OutSink;
-pub use store::FileStore;
+pub use store::{FileStore, read_again};

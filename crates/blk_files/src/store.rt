@@ -11,6 +11,7 @@ use crate::opening::Opening;
 use crate::{Failure, FileDevice, access, said};
 use blk_base::{Bytes, Device, DeviceCall, Store, StoreCall, StoreStop, Text};
 use std::alloc::Global;
+use std::fs;
 use std::fs::File;
 use std::io;
 use std::io::Read;
@@ -36,6 +37,21 @@ fn read_up_to(alloc: Global, file: &mut File, limit: u64) -> io::Result<Vec<u8>>
         }
     }
     Err(io::Error::from(io::ErrorKind::TimedOut))
+}
+
+/// The bytes of a file that can be read once more, at most `limit` and 64 KiB of them: of no pipe, nor of anything else that a
+/// reader empties. `None` where it isn't one or can't be read.
+pub fn read_again<R: Files<File = File>>(
+    rt: &R,
+    alloc: Global,
+    name: &str,
+    limit: u64,
+) -> Option<Vec<u8>> {
+    if !fs::metadata(rt, name).ok()?.file_type().is_file() {
+        return None;
+    }
+    let mut file = File::open(rt, name).ok()?;
+    read_up_to(alloc, &mut file, limit).ok()
 }
 
 /// A call of the store that failed: the file's name, and which call it was.

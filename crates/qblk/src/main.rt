@@ -5,7 +5,7 @@
 
 mod report;
 
-use crate::report::print_status;
+use crate::report::{print_flaw, print_status};
 use blk_base::{FaultFrom, Text};
 use blk_files::{Failure, FileStore, OutSink, print_failure};
 pub use qblk_core::{Format, InputWhy, Status, run_io};
@@ -62,6 +62,7 @@ fn run_on_system<R: Files<File = File> + Print + Eprint>(
     let (status, store) = qblk(alloc, words, FileStore::new(rt, alloc), &mut out);
     if !matches!(status, Status::Done) {
         print_status(rt, alloc, &status);
+        print_flaw(rt, alloc, &status);
     }
     if let Some(failure) = failure_of(&status, &store, &out) {
         print_failure(rt, alloc, failure.name, failure.error);

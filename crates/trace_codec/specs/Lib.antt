@@ -7,6 +7,7 @@ pub mod Awaits
 pub mod Request
 pub mod Reading
 pub mod Trace
+pub mod Flaws
 pub mod Causes
 pub mod Traced
 pub mod Wishes

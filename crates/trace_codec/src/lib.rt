@@ -3,6 +3,7 @@
 
 mod awaiting;
 mod cut;
+mod flaw;
 mod line;
 mod number;
 mod op;
@@ -20,6 +21,7 @@ mod wishing;
 mod writing;
 
 pub use awaiting::{Await, first_await, is_name, read_await};
+pub use flaw::{LineFlaw, flaw_at, flaw_of};
 pub use line::TraceLine;
 pub use op::{Op, Payload};
 pub use ops::Ops;

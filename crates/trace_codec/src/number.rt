@@ -23,7 +23,7 @@ pub fn read_number(word: &[u8], limit: u64) -> Option<u64>
 }
 
 /// What a letter behind decimal digits multiplies by.
-fn unit_at(letter: u8) -> Option<u64>
+pub(crate) fn unit_at(letter: u8) -> Option<u64>
     ensures { result ≡ unit_of letter }
 {
     match letter {
