@@ -42,6 +42,7 @@ use Rattle.job_tables.specs.Rows.{commit_edge, edges_of_job, nodes_of_job, HasFi
 use Rattle.job_tables.specs.Jobs.{CopyStands, IsOverFilter, StandsByKind, JobStands, JobsStand}
 use Rattle.job_tables.specs.Changes.{LeavesJobs, AllLeaveJobs}
 use Rattle.job_tables.proofs.RowEdges.{in_either}
+use Rattle.job_tables.proofs.Asked.{asked_jobs, ready_jobs}
 use Rattle.job_tables.proofs.Kept.{HaveSameJobEdges, refreshed_jobs, refreshed_jobs_back, grown_jobs}
 
 -- ---- what jobs have is there, and a `file` node of a job's has an edge into it
@@ -207,6 +208,8 @@ change_leaves_jobs t (change.UseFile name) h j suits leaves = still_stand t (cha
 change_leaves_jobs t (change.Unsettle node) h j suits leaves =
     let now : RunTable = changed t (change.Unsettle node) in
     rows_stand t now (rows-mapped t now (node_changed node unsettled) (like_unsettled node) refl h.apart) refl refl h j
+change_leaves_jobs t (change.AskJob number new) h j suits leaves = asked_jobs t number new j
+change_leaves_jobs t (change.ReadyJob number) h j suits leaves = ready_jobs t number j
 change_leaves_jobs t (change.AddFile row) h j suits leaves =
     let now : RunTable = changed t (change.AddFile row) in
     let kinds : List NodeKind = kinds_of now.nodes in

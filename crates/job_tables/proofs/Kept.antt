@@ -66,19 +66,19 @@ refreshed_jobs_back kinds edges e is there =
 
 -- ---- mirrors' targets
 
-mirror_row : (rows : List JobRecord) (x : Copied) → Contains (mirrors rows) x
-    → (row : JobRecord) × Contains rows row × (row.kind ≡ Mirror) × (row.target ≡ Some x.target)
+pub mirror_row : (rows : List JobRecord) (x : Copied) → Contains (mirrors rows) x
+    → (row : JobRecord) × Contains rows row × (row.kind ≡ Mirror) × (row.target ≡ Some x.target) × (row.source ≡ x.source)
 mirror_row [] x there = absurd (Contains-nil x there)
 mirror_row (row ∷ rows) x there = elim (in_either (mirror_to row row.kind row.target) (mirrors rows) x there) [
   | inl own ↦
       let is = of_row row.kind row.target own in
-      (row, Contains-here row rows, is.0, is.1)
-  | inr more ↦ let r = mirror_row rows x more in (r.0, Contains-there row rows r.0 r.1, r.2, r.3)
+      (row, Contains-here row rows, is.0, is.1, is.2)
+  | inr more ↦ let r = mirror_row rows x more in (r.0, Contains-there row rows r.0 r.1, r.2, r.3, r.4)
 ]
   where
-    of_row : (k : JobKind) (target : Option ℕ) → Contains (mirror_to row k target) x → (k ≡ Mirror) × (target ≡ Some x.target)
+    of_row : (k : JobKind) (target : Option ℕ) → Contains (mirror_to row k target) x → (k ≡ Mirror) × (target ≡ Some x.target) × (row.source ≡ x.source)
     of_row Mirror (Some target) at = elim (Contains-cases (record { source = row.source; target = target }) [] x at) [
-      | inl here ↦ (refl, ap Some (sym (ap (λ (c : Copied). c.target) here)))
+      | inl here ↦ (refl, ap Some (sym (ap (λ (c : Copied). c.target) here)), sym (ap (λ (c : Copied). c.source) here))
       | inr more ↦ absurd (Contains-nil x more)
     ]
     of_row Mirror None at = absurd (Contains-nil x at)

@@ -7,4 +7,5 @@ pub mod Kept
 pub mod Changes
 pub mod Others
 pub mod Left
+pub mod Asked
 pub mod Guests

@@ -1,10 +1,11 @@
 //! Laws of jobs in the table, each the contract of a function that does nothing.
-ghost use Rattle.std.specs.Prelude.{◌≡◌, ℕ, true, List, Contains};
+ghost use Rattle.std.specs.Prelude.{◌≡◌, ℕ, true, List, [], ◌∷◌, Contains};
 ghost use Rattle.blk_graph.specs.declared.edge.Edge.{Edge};
 ghost use Rattle.blk_graph.specs.declared.edge.Parent.TheVariants.{Guest};
 ghost use Rattle.blk_graph.specs.declared.edge.Role.TheVariants.{Drive};
 ghost use Rattle.blk_graph.specs.Paths.{IsAcyclic};
 ghost use Rattle.qmp_rules.specs.declared.change.Change.{Change};
+ghost use Rattle.qmp_rules.specs.declared.change.Change.TheVariants.{Attach, Move};
 ghost use Rattle.qmp_rules.specs.declared.change.JobOutcome.{JobOutcome};
 ghost use Rattle.qmp_rules.specs.declared.rows.JobRecord.{JobRecord};
 ghost use Rattle.qmp_rules.specs.Changes.{all_changed};
@@ -15,7 +16,7 @@ ghost use Rattle.flat_machine.specs.Wiring.{TableStands};
 ghost use Rattle.job_edges.specs.Held.{EdgesStand};
 ghost use Rattle.job_edges.specs.Seen.{ReadsAlong, GoesBelow, FiltersAlong};
 ghost use Rattle.job_tables.specs.Jobs.{JobsStand, EdgesAreDrawn};
-ghost use Rattle.job_tables.specs.Changes.{AllLeaveJobs};
+ghost use Rattle.job_tables.specs.Changes.{AllLeaveJobs, LeavesBySnapshot};
 
 /// However a job ends, and whatever was accepted while it ran, its changes leave edges that a graph may have: they keep the rule on
 /// permissions, and make no cycle. So no end is refused.
@@ -52,9 +53,15 @@ pub fn no_guest_writes_what_is_read()
 {}
 
 /// Jobs stand at the beginning, where there are none, and behind changes of which none begins or ends one, or has to do with its
-/// nodes: files are made, nodes and guests come and go, bitmaps change.
+/// nodes: files are made, nodes and guests come and go, bitmaps change, jobs are asked to end and become ready.
 pub fn changes_leave_jobs()
     ensures beginning { (guests : List (List ℕ)) → JobsStand (opening_table guests) }
     ensures changes { (changes : List Change) (t : RunTable) → TableStands t → JobsStand t
         → AllTableSuit t changes → AllLeaveJobs t changes → JobsStand (all_changed t changes) }
+{}
+
+/// Jobs stand behind a snapshot that has to do with none of them.
+pub fn snapshots_leave_jobs()
+    ensures { (t : RunTable) (node overlay : ℕ) → JobsStand t → LeavesBySnapshot t node overlay
+        → JobsStand (all_changed t (Attach overlay node ∷ Move node overlay overlay ∷ [])) }
 {}
