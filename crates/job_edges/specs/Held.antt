@@ -84,8 +84,8 @@ pub record HasBacking (edges : List Edge) (node : ℕ) : Type 0 where
   pub parent : edge.parent ≡ Node node
   pub role : edge.role ≡ Backing
 
--- From its top the nodes of a commit lead to its base, each directly to the next: all below the top nobody else reads, and
--- the job reads the base.
+-- What the nodes of a commit have as backing nodes is one of them or the base: all below the top nobody else reads, and the
+-- job reads the base.
 pub record CommitStands (kinds : List NodeKind) (edges : List Edge) (through : ℕ → Bool)
     (top base filter job : ℕ) : Type 0 where
   pub at_top : through top ≡ true

@@ -42,7 +42,7 @@ abbrev pub is_copying : Kind → Bool
 is_copying CopyOnRead = true
 is_copying kind = false
 
--- Over a filter stand no job and no format node as over its file, and over a `copy-on-read` node nothing but guests.
+-- Over a filter stand no job and no format node as over its file, and over a `copy-on-read` node no filter of a commit.
 pub record FiltersStand (kinds : List NodeKind) (edges : List Edge) : Type 0 where
   pub apart : (e : Edge) → Contains edges e → is_plain (kind_at kinds e.child).kind ≡ false
       → is_open kinds e ≡ true

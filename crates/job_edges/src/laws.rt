@@ -60,8 +60,8 @@ pub fn copies_end()
         → EdgesStand after (filter_gone kinds after job filter edges) }
 {}
 
-/// A mirror or a commit ends, and all that used its source uses its target or base. No cycle comes of it, and the targets of the
-/// other mirrors don't lead to their sources either.
+/// A mirror or a commit ends, and all that used its source uses its target or base. No cycle comes of it, and behind a mirror's
+/// pivot the targets of the others don't lead to their sources either.
 pub fn jobs_pivot()
     ensures stands { (kinds after : List NodeKind) (edges : List Edge)
         (filter source target job : ℕ) → EdgesStand kinds edges
