@@ -4,6 +4,8 @@
 #[cfg(test)]
 mod crowds;
 #[cfg(test)]
+mod ends;
+#[cfg(test)]
 mod judged;
 #[cfg(test)]
 mod live;
