@@ -1,0 +1,5 @@
+pub mod Runs
+pub mod Puts
+pub mod Chained
+pub mod Below
+pub mod Copies

@@ -1,0 +1,3 @@
+pub mod Sectors
+pub mod Putting
+pub mod Between
