@@ -89,27 +89,27 @@ apart_of edges p (row ∷ rows) h =
     by_test false rest = rest
 
 -- edges that lead where others led
-abbrev LeadsAs : List Edge → List Edge → Type 0
+abbrev pub LeadsAs : List Edge → List Edge → Type 0
 LeadsAs old new = (a : ℕ) (e : Edge) → Contains new e → e.parent ≡ Node a → Reaches old a e.child
 
-apart_as : (old new : List Edge) → LeadsAs old new → (copies : List Mirrored) → AreApart old copies → AreApart new copies
+pub apart_as : (old new : List Edge) → LeadsAs old new → (copies : List Mirrored) → AreApart old copies → AreApart new copies
 apart_as old new leads [] h = tt
 apart_as old new leads (m ∷ later) h = (
   λ x there. ((λ way. (h.0 x there).0 (Reaches-covered new old leads x.target m.source way.first way.rest way.path)), (h.0 x there).1),
   apart_as old new leads later h.1,
 )
 
-leads_then : (a b c : List Edge) → LeadsAs a b → LeadsAs b c → LeadsAs a c
+pub leads_then : (a b c : List Edge) → LeadsAs a b → LeadsAs b c → LeadsAs a c
 leads_then a b c ab bc from e there is =
     let way = bc from e there is in
     Reaches-covered b a ab from e.child way.first way.rest way.path
 
-leads_derived : (kinds : List NodeKind) (edges : List Edge) → LeadsAs edges (refreshed kinds edges)
+pub leads_derived : (kinds : List NodeKind) (edges : List Edge) → LeadsAs edges (refreshed kinds edges)
 leads_derived kinds edges a e there from =
     let x = refreshed-old kinds edges e there in
     subst (Reaches edges a) x.same.child (Reaches-edge edges a x.edge x.there (x.same.parent ∙ from))
 
-leads_fewer : (p : Edge → Bool) (edges : List Edge) → LeadsAs edges (filter p edges)
+pub leads_fewer : (p : Edge → Bool) (edges : List Edge) → LeadsAs edges (filter p edges)
 leads_fewer p edges a e there from = Reaches-edge edges a e (Contains-filter p edges e there).0 from
 
 leads_put : (old edges : List Edge) (node base : ℕ) → LeadsAs old edges → Reaches old node base → LeadsAs old (with_edge (node_edge node Backing base) edges)

@@ -8,4 +8,8 @@ pub mod Changes
 pub mod Others
 pub mod Left
 pub mod Asked
+pub mod Uses
+pub mod Put
+pub mod Begun
+pub mod Started
 pub mod Guests

@@ -127,10 +127,10 @@ pub record OthersStand (t : RunTable) (loose : Option ℕ) : Type 0 where
 
 -- ---- plain nodes and filters of tables with the same rows
 
-abbrev HasSame : RunTable → RunTable → ℕ → Type 0
+abbrev pub HasSame : RunTable → RunTable → ℕ → Type 0
 HasSame t now node = node_by_id now node ≡ node_by_id t node
 
-plain_same : (t now : RunTable) (node : ℕ) → HasSame t now node → (IsUnder now.edges node → IsUnder t.edges node) → IsPlainNode t node → IsPlainNode now node
+pub plain_same : (t now : RunTable) (node : ℕ) → HasSame t now node → (IsUnder now.edges node → IsUnder t.edges node) → IsPlainNode t node → IsPlainNode now node
 plain_same t now node same back p = record {
   row = p.row;
   there = same ∙ p.there;
@@ -138,7 +138,7 @@ plain_same t now node same back p = record {
   free = λ row found named under. p.free row (sym same ∙ found) named (back under);
 }
 
-filter_same : (t now : RunTable) (row : JobRecord) (kind : Kind) (f : HasFilterOf t row kind) → HasSame t now f.filter
+pub filter_same : (t now : RunTable) (row : JobRecord) (kind : Kind) (f : HasFilterOf t row kind) → HasSame t now f.filter
     → child now f.filter Filtered ≡ Some row.source → HasFilterOf now row kind
 filter_same t now row kind f same over = record {
   filter = f.filter;
@@ -245,7 +245,7 @@ pub record IsNobodys (jobs : List JobRecord) (node : ℕ) : Type 0 where
   pub held : (row : JobRecord) → Contains jobs row → Contains (nodes_of_job row) node → ⊥
   pub filter : (row : JobRecord) → Contains jobs row → row.filter ≢ Some node
 
-source_of : (t : RunTable) (loose : Option ℕ) (o : OthersStand t loose) (row : JobRecord) → Contains t.jobs row → Contains (nodes_of_job row) row.source
+pub source_of : (t : RunTable) (loose : Option ℕ) (o : OthersStand t loose) (row : JobRecord) → Contains t.jobs row → Contains (nodes_of_job row) row.source
 source_of t loose o row here = in_left row.held row.read row.source (holds_source t row (o.each row here))
 
 -- ---- its filter goes

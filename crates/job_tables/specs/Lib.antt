@@ -2,3 +2,4 @@ pub mod Rows
 pub mod Jobs
 pub mod Changes
 pub mod Guests
+pub mod Starts

@@ -9,6 +9,7 @@ ghost use Rattle.qmp_rules.specs.declared.change.Change.TheVariants.{Attach, Mov
 ghost use Rattle.qmp_rules.specs.declared.change.JobOutcome.{JobOutcome};
 ghost use Rattle.qmp_rules.specs.declared.rows.JobRecord.{JobRecord};
 ghost use Rattle.qmp_rules.specs.Changes.{all_changed};
+ghost use Rattle.qmp_rules.specs.Edits.{start_edits};
 ghost use Rattle.qmp_rules.specs.Ends.{end_edits};
 ghost use Rattle.qmp_rules.specs.Table.{RunTable, kinds_of, opening_table};
 ghost use Rattle.flat_machine.specs.Suiting.{AllTableSuit};
@@ -17,6 +18,7 @@ ghost use Rattle.job_edges.specs.Held.{EdgesStand};
 ghost use Rattle.job_edges.specs.Seen.{ReadsAlong, GoesBelow, FiltersAlong};
 ghost use Rattle.job_tables.specs.Jobs.{JobsStand, EdgesAreDrawn};
 ghost use Rattle.job_tables.specs.Changes.{AllLeaveJobs, LeavesBySnapshot};
+ghost use Rattle.job_tables.specs.Starts.{JobBegins};
 
 /// However a job ends, and whatever was accepted while it ran, its changes leave edges that a graph may have: they keep the rule on
 /// permissions, and make no cycle. So no end is refused.
@@ -34,6 +36,13 @@ pub fn ends_leave_jobs()
     ensures { (t : RunTable) (row : JobRecord) (outcome : JobOutcome) → TableStands t → JobsStand t
         → EdgesAreDrawn t → Contains t.jobs row
         → JobsStand (all_changed t (end_edits t row outcome)) }
+{}
+
+/// Where slot and number are no other job's, its nodes are plain and no other job's, and its chain, target and filter are as the
+/// kind of the job asks, jobs stand behind the changes of its start.
+pub fn starts_make_jobs_stand()
+    ensures { (t : RunTable) (row : JobRecord) → TableStands t → JobsStand t → JobBegins t row
+        → JobsStand (all_changed t (start_edits t row)) }
 {}
 
 /// The edges of a table in which jobs stand are such as the laws of jobs' edges speak of.
