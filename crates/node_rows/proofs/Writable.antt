@@ -13,7 +13,7 @@ use Rattle.blk_nodes.specs.Writing.{MayWriteThrough, CanBeWritten, IsOverApart, 
 use Rattle.blk_nodes.specs.declared.row.Driver.{Driver}
 use Rattle.blk_nodes.specs.declared.row.Driver.TheVariants.{File, Raw, Qcow2, CopyOnRead}
 use Rattle.blk_nodes.specs.declared.row.Row.{Row}
-use Rattle.graph_tests.specs.Lone.{IsNoOthers, IsAwayFrom}
+use Rattle.node_rows.specs.Lone.{IsNoOthers, IsAwayFrom}
 
 not_led : (nodes : Nodes) (file over : ℕ) → IsAwayFrom nodes.graph.edges file over → ¬ LeadsTo nodes.graph.edges over file
 not_led nodes file over apart (inl same) = apart.0 same

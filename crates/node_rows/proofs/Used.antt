@@ -1,5 +1,5 @@
 -- Two nodes that a job uses.
-use Rattle.std.specs.Prelude.{List, [], ◌∷◌, All}
+use Rattle.std.specs.Prelude.{[], ◌∷◌, All}
 use Rattle.std.proofs.lemmas.List.Elements.{All-nil, All-cons}
 use Rattle.blk_graph.specs.Graph.{Graph, HasNode}
 use Rattle.blk_nodes.specs.declared.nodes.jobs.NodeUse.{NodeUse}
