@@ -1,6 +1,6 @@
 //! Devices, a store and a sink in memory: what is written and read, and calls that fail.
 
-use crate::bytes::{logged, wrote};
+use crate::logs::{logged, wrote};
 use blk_base::{DevFault, Device, Sink, SinkFault, Stop, Store, StoreStop, WriteStop};
 use blk_fakes::{FailAt, MemDevice, MemSink, MemStore, SureDevice, SureStore};
 use std::alloc::Global;

@@ -1,5 +1,5 @@
 use Rattle.std.proofs.Common.{refl}
-use Rattle.image_tests.proofs.writing.Opened.write.Goals as goal
+use Rattle.image_rows.proofs.opened.Opened.write.Goals as goal
 
 pub invariant_of-self : goal.invariant_of-self
 invariant_of-self c = record { told = c.write_own.ensures.image _ refl }
