@@ -19,7 +19,7 @@ use Rattle.node_copies.specs.declared.sectors.Run.{Run}
 abbrev pub IsZeroBlock : Extent → Extent → List ℕ → Type 0
 IsZeroBlock block span bytes = (span.len ≡ block.len) × All (λ b. b ≡ 0) bytes
 
--- One run: its bytes are written; but a whole block of zeros is made to read as zeros, so that a qcow2 node maps its cluster to none.
+-- One run: its bytes are written; but a whole block of zeros is made to read as zeros, so that a qcow2 node maps its cluster to zeros.
 pub record PutsRun (block : Extent) (old new : Nodes) (to : ℕ) (span : Extent) (bytes : List ℕ)
     (outcome : Outcome) : Type 0 where
   pub made : (IsZeroBlock block span bytes × ZerosPiece old new to span outcome)

@@ -54,9 +54,9 @@ fn is_held_in<D: Device>(
     }
 }
 
-/// Whether a node from `top` down to just above the base has the block of its own: a cluster that its image maps there, be it one
-/// that reads as zeros, or the bytes of its file. Without a base the chain is gone down to its end. All of its nodes have disks of
-/// one size, so none of them ends within a block of `top`. No device is called.
+/// Whether a node from `top` down to just above the base has the block of its own, which its first place tells: a cluster that its
+/// image maps there, be it one that reads as zeros, or the bytes of its file. Without a base the chain is gone down to its end. All
+/// of its nodes have disks of one size, so none of them ends within a block of `top`. No device is called.
 #[tactic(auto, unfolding(crate::specs::Between::nodes_between))]
 pub fn held_between<D: Device>(
     nodes: &Nodes<D>,

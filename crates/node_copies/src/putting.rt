@@ -131,7 +131,7 @@ fn put_from<D: Device>(
 
 /// Puts the sectors of a block that are asked for to a node: of sector i, the 512 bytes from `512 * i` on, bit i. `bytes` has the
 /// block's, up to the disk's end. Each run of them is written as one piece, until one is stopped, whose outcome is told; but a whole
-/// block of zeros is made to read so, which a qcow2 node does without a cluster. Takes no memory.
+/// block of zeros is made to read so, which a qcow2 node does without writing one. Takes no memory.
 pub fn put_sectors<D: Device>(
     nodes: &mut Nodes<D>,
     to: NodeId,
