@@ -35,7 +35,7 @@ use Rattle.job_tables.specs.Jobs.{CopyStands, IsOverFilter, StandsByKind, JobSta
 use Rattle.job_tables.proofs.NodeKinds.{found_mapped}
 use Rattle.job_tables.proofs.RowEdges.{in_left, in_right, in_either, edge_slot}
 use Rattle.job_tables.proofs.Kept.{HaveSameJobEdges, refreshed_jobs, refreshed_jobs_back}
-use Rattle.job_tables.proofs.Others.{OthersStand, RowStays, row_stays, KeepsRow, mapped_others, plain_same, filter_same}
+use Rattle.job_tables.proofs.Others.{OthersStand, RowStays, row_stays, KeepsRow, unsettled_row, mapped_others, plain_same, filter_same}
 use Rattle.job_tables.proofs.Left.{LeadsAs, leads_then, apart_as}
 use Rattle.job_tables.proofs.Uses.{UseOf, change_of, edge_of, Used, used_all, uses_by, uses_apart, edges_are}
 
@@ -131,13 +131,6 @@ before-append (c ∷ a) b h k = (h.0, before-append a b h.1 k)
 maps_self : {X : Type 0} (xs : List X) → map (λ x. x) xs ≡ xs
 maps_self [] = refl
 maps_self (x ∷ xs) = ap (λ ys. x ∷ ys) (maps_self xs)
-
-unsettled_row : (id : ℕ) (row : NodeRecord) → KeepsRow row (node_changed id unsettled row)
-unsettled_row id row = by_test (row.id == id)
-  where
-    by_test : (b : Bool) → KeepsRow row (cond b (unsettled row) row)
-    by_test true = record { id = refl; kind = refl; filename = refl }
-    by_test false = record { id = refl; kind = refl; filename = refl }
 
 writable_row : (id : ℕ) (row : NodeRecord) → KeepsRow row (node_changed id writable row)
 writable_row id row = by_test (row.id == id)

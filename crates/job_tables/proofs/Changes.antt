@@ -1,5 +1,5 @@
 -- Jobs stand behind changes that leave them.
-use Rattle.std.proofs.Common.{◌≡◌, ℕ, List, [], ◌∷◌, ◌++◌, map, refl, sym, ◌∙◌, ap, subst, inl, inr, Bool, true, false, Option, Some, None}
+use Rattle.std.proofs.Common.{◌≡◌, ◌≢◌, ℕ, List, [], ◌∷◌, ◌++◌, map, refl, sym, ◌∙◌, ap, subst, inl, inr, Bool, true, false, Option, Some, None}
 use Rattle.std.specs.Prelude.{◌==◌, not, drop, IsSome}
 use Rattle.std.specs.List.{Contains}
 use Rattle.std.proofs.lemmas.Bool.{false≢true, eqb-true}
@@ -28,7 +28,7 @@ use Rattle.qmp_rules.specs.Chains.{filter_role}
 use Rattle.qmp_rules.specs.Changes.{changed, all_changed, node_changed, unsettled, lost_with, with_format_edges, with_backing_edge, device_edge}
 use Rattle.qmp_rules.specs.Edits.{under_top}
 use Rattle.qmp_rules.specs.Table.{RunTable, node_by_id, child, kinds_of, opening_table}
-use Rattle.flat_machine.specs.Suiting.{IsThere, TableSuits, AllTableSuit}
+use Rattle.flat_machine.specs.Suiting.{AllTableSuit, IsPlainNode, IsThere, TableSuits}
 use Rattle.flat_machine.specs.Wiring.{TableStands}
 use Rattle.flat_machine.proofs.Rows.{SameRows, rows-same, rows-mapped, like_lost, like_unsettled}
 use Rattle.flat_machine.proofs.Tables.{with_edge-keeps, filter-keeps, apart-parents}
@@ -37,11 +37,12 @@ use Rattle.flat_machine.proofs.TablesKept.{IsOther, rows_grow, file_grow, format
 use Rattle.flat_machine.proofs.DevicesGone.{gone_grow}
 use Rattle.flat_machine.proofs.TableRests.{table_keeps}
 use Rattle.flat_machine.proofs.WritingKept.{role_edge}
+use Rattle.job_edges.specs.Chains.{is_plain}
 use Rattle.job_edges.specs.Held.{is_job_filter}
 use Rattle.job_tables.specs.Rows.{commit_edge, edges_of_job, nodes_of_job, HasFilterOf}
 use Rattle.job_tables.specs.Jobs.{CopyStands, IsOverFilter, StandsByKind, JobStands, JobsStand}
 use Rattle.job_tables.specs.Changes.{LeavesJobs, AllLeaveJobs}
-use Rattle.job_tables.proofs.RowEdges.{in_either}
+use Rattle.job_tables.proofs.RowEdges.{in_either, filter_plain, plain_own}
 use Rattle.job_tables.proofs.Asked.{asked_jobs, ready_jobs}
 use Rattle.job_tables.proofs.Kept.{HaveSameJobEdges, refreshed_jobs, refreshed_jobs_back, grown_jobs}
 
@@ -56,6 +57,14 @@ filter_of t row Stream s node is = absurd (let bad : None ≡ Some node = sym s.
 filter_of t row Commit s node is = (driver.Commit, refl, s.filter, (let both : Some s.filter.filter ≡ Some node = sym s.filter.is_filter ∙ is in cc both))
 filter_of t row Mirror s node is = (driver.Mirror, refl, s.filter, (let both : Some s.filter.filter ≡ Some node = sym s.filter.is_filter ∙ is in cc both))
 filter_of t row Backup s node is = (driver.BeforeWrite, refl, s.filter, (let both : Some s.filter.filter ≡ Some node = sym s.filter.is_filter ∙ is in cc both))
+
+-- a plain node is no job's filter
+pub plain_no_filter : (t : RunTable) (j : JobsStand t) (node : ℕ) → IsPlainNode t node → (row : JobRecord) → Contains t.jobs row → row.filter ≢ Some node
+plain_no_filter t j node p row here is =
+    let f = filter_of t row row.kind (j.each row here).shape node is in
+    let both : Some f.2.node ≡ Some p.row = sym f.2.there ∙ ap (node_by_id t) f.3 ∙ p.there in
+    let one : f.2.node ≡ p.row = cc both in
+    false≢true (sym (filter_plain f.0 f.1) ∙ ap is_plain (sym f.2.kind_is ∙ ap (λ (r : NodeRecord). r.kind) one) ∙ plain_own p.row.kind p.own)
 
 pub there_filter : (t : RunTable) (j : JobsStand t) (row : JobRecord) (node : ℕ) → Contains t.jobs row → row.filter ≡ Some node → IsThere t node
 there_filter t j row node here is =

@@ -28,22 +28,20 @@ use Rattle.qmp_rules.specs.declared.rows.NodeRecord.{NodeRecord}
 use Rattle.qmp_rules.specs.declared.rows.JobRecord.{JobRecord}
 use Rattle.qmp_rules.specs.Changes.{changed, all_changed, node_changed, settled, unsettled, kept_from_writes, without_job, without_record}
 use Rattle.qmp_rules.specs.Ends.{drops_aside, filter_gone as pulled_edits, moves, given_back_to, end_edits}
-use Rattle.qmp_rules.specs.Table.{RunTable, node_by_id, child, kinds_of}
-use Rattle.flat_machine.specs.Suiting.{IsPlainNode}
+use Rattle.qmp_rules.specs.Table.{RunTable, child, kinds_of}
 use Rattle.flat_machine.specs.Wiring.{TableStands}
 use Rattle.flat_machine.proofs.Rows.{under-before}
 use Rattle.flat_machine.proofs.Tables.{refreshed-old}
 use Rattle.job_edges.specs.Copies.{Copied as Mirrored, IsApartFrom, AreApart}
-use Rattle.job_edges.specs.Chains.{is_plain}
 use Rattle.job_edges.specs.Held.{is_job_filter}
 use Rattle.job_edges.proofs.Cycles.{led}
 use Rattle.job_tables.specs.Rows.{nodes_of_job, HasFilterOf, mirror_to, mirrors}
 use Rattle.job_tables.specs.Jobs.{CopyStands, IsOverFilter, CommitJobStands, StreamJobStands, StandsByKind, JobsStand, EdgesAreDrawn}
-use Rattle.job_tables.proofs.RowEdges.{filter_plain, plain_own, in_left, in_right, in_either, copy_holds, holds_source}
+use Rattle.job_tables.proofs.RowEdges.{in_left, in_right, in_either, copy_holds, holds_source}
 use Rattle.job_tables.proofs.Shapes.{in_mirrors, mirror_target, top_down, overlay_stands, stream_way, base_in, is_held}
 use Rattle.job_tables.proofs.Kept.{refreshed_jobs, refreshed_jobs_back}
-use Rattle.job_tables.proofs.Changes.{filter_of}
-use Rattle.job_tables.proofs.Others.{OthersStand, over_others, IsNobodys, pull_others, pull_leads, child_over_filter, child_left, move_others, move_leads, NoLinkFrom, rebase_others, KeepsRow, mapped_others}
+use Rattle.job_tables.proofs.Changes.{filter_of, plain_no_filter}
+use Rattle.job_tables.proofs.Others.{OthersStand, over_others, IsNobodys, pull_others, pull_leads, child_over_filter, child_left, move_others, move_leads, NoLinkFrom, rebase_others, KeepsRow, unsettled_row, mapped_others}
 use Rattle.job_tables.proofs.Ended.{IsQuiet, AreQuiet, all_changed-append, moves_by, rest_by, end_is, quiet-append, quiet_rest, quiet_given}
 
 -- ---- mirrors of fewer jobs
@@ -223,13 +221,6 @@ settled_row id row = by_test (row.id == id)
     by_test true = record { id = refl; kind = refl; filename = refl }
     by_test false = record { id = refl; kind = refl; filename = refl }
 
-unsettled_row : (id : ℕ) (row : NodeRecord) → KeepsRow row (node_changed id unsettled row)
-unsettled_row id row = by_test (row.id == id)
-  where
-    by_test : (b : Bool) → KeepsRow row (cond b (unsettled row) row)
-    by_test true = record { id = refl; kind = refl; filename = refl }
-    by_test false = record { id = refl; kind = refl; filename = refl }
-
 read_only_row : (id : ℕ) (row : NodeRecord) → KeepsRow row (node_changed id kept_from_writes row)
 read_only_row id row = by_test (row.id == id)
   where
@@ -303,18 +294,10 @@ module _ (t : RunTable) (h : TableStands t) (j : JobsStand t) (d : EdgesAreDrawn
       passes true is = absurd (false≢true is)
       passes false is = refl
 
-  -- a plain node is no job's filter
-  plain_no_filter : (node : ℕ) → IsPlainNode t node → (b : JobRecord) → Contains t.jobs b → b.filter ≢ Some node
-  plain_no_filter node p b at is =
-      let f = filter_of t b b.kind (j.each b at).shape node is in
-      let both : Some f.2.node ≡ Some p.row = sym f.2.there ∙ ap (node_by_id t) f.3 ∙ p.there in
-      let one : f.2.node ≡ p.row = cc both in
-      false≢true (sym (filter_plain f.0 f.1) ∙ ap is_plain (sym f.2.kind_is ∙ ap (λ (r : NodeRecord). r.kind) one) ∙ plain_own p.row.kind p.own)
-
   held_nobodys : (node : ℕ) → Contains row.held node → IsNobodys rows node
   held_nobodys node held = record {
     held = λ b there has. let at = other_row b there in at.1 (sym (j.apart row b node here at.0 held has));
-    filter = λ b there. plain_no_filter node ((j.each row here).plain node (in_left row.held row.read node held)) b (other_row b there).0;
+    filter = λ b there. plain_no_filter t j node ((j.each row here).plain node (in_left row.held row.read node held)) b (other_row b there).0;
   }
 
   source_held : Contains row.held row.source
@@ -324,7 +307,7 @@ module _ (t : RunTable) (h : TableStands t) (j : JobsStand t) (d : EdgesAreDrawn
   filter_nobodys kind of_job f = record {
     held = λ b there has.
         let p = (j.each b (other_row b there).0).plain f.filter has in
-        plain_no_filter f.filter p row here f.is_filter;
+        plain_no_filter t j f.filter p row here f.is_filter;
     filter = λ b there is.
         let at = other_row b there in
         let g = filter_of t b b.kind (j.each b at.0).shape f.filter is in

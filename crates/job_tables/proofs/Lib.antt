@@ -12,4 +12,5 @@ pub mod Uses
 pub mod Put
 pub mod Begun
 pub mod Started
+pub mod Noted
 pub mod Guests

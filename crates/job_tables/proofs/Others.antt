@@ -33,7 +33,7 @@ use Rattle.qmp_rules.specs.declared.change.Change.TheVariants as change
 use Rattle.qmp_rules.specs.declared.rows.NodeRecord.{NodeRecord}
 use Rattle.qmp_rules.specs.declared.rows.JobRecord.{JobRecord}
 use Rattle.qmp_rules.specs.Chains.{filter_role}
-use Rattle.qmp_rules.specs.Changes.{changed, without_job, without_record, with_backing}
+use Rattle.qmp_rules.specs.Changes.{changed, node_changed, unsettled, with_backing, without_job, without_record}
 use Rattle.qmp_rules.specs.Table.{RunTable, node_by_id, child, kinds_of}
 use Rattle.flat_machine.specs.Suiting.{IsPlainNode}
 use Rattle.flat_machine.specs.Wiring.{IsUnder}
@@ -648,6 +648,13 @@ pub record KeepsRow (row later : NodeRecord) : Type 0 where
   pub id : later.id ≡ row.id
   pub kind : later.kind ≡ row.kind
   pub filename : later.filename ≡ row.filename
+
+pub unsettled_row : (id : ℕ) (row : NodeRecord) → KeepsRow row (node_changed id unsettled row)
+unsettled_row id row = by_test (row.id == id)
+  where
+    by_test : (b : Bool) → KeepsRow row (cond b (unsettled row) row)
+    by_test true = record { id = refl; kind = refl; filename = refl }
+    by_test false = record { id = refl; kind = refl; filename = refl }
 
 module _ (t now : RunTable) (f : NodeRecord → NodeRecord) (keeps : (row : NodeRecord) → KeepsRow row (f row)) (nodes : now.nodes ≡ map f t.nodes)
     (jobs : now.jobs ≡ t.jobs) (same : HaveSameJobEdges t now) (under : (node : ℕ) → IsUnder now.edges node → IsUnder t.edges node)

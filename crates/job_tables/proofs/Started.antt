@@ -3,7 +3,7 @@ use Rattle.std.proofs.Common.{◌≡◌, ◌≢◌, ℕ, List, [], ◌∷◌, �
 use Rattle.std.specs.Prelude.{◌==◌}
 use Rattle.std.specs.Option.{option_and_then}
 use Rattle.std.specs.List.{Contains, filter}
-use Rattle.std.proofs.lemmas.Bool.{false≢true, eqb-true, eq-eqb}
+use Rattle.std.proofs.lemmas.Bool.{eqb-true, eq-eqb}
 use Rattle.blk_graph.specs.declared.edge.Parent.TheVariants.{Node}
 use Rattle.blk_graph.specs.declared.edge.Role.TheVariants.{Backing, Between}
 use Rattle.blk_graph.specs.declared.kind.Kind.{Kind}
@@ -26,15 +26,14 @@ use Rattle.flat_machine.specs.Wiring.{EdgesHaveEnds, TableStands}
 use Rattle.flat_machine.proofs.Fresh.{no-found}
 use Rattle.flat_machine.proofs.Tables.{pushed-cases}
 use Rattle.flat_machine.proofs.WritingKept.{role_edge}
-use Rattle.job_edges.specs.Chains.{is_plain}
 use Rattle.job_edges.specs.Copies.{Copied, AreApart}
 use Rattle.job_edges.specs.Held.{is_job_filter}
 use Rattle.job_tables.specs.Rows.{nodes_of_job, AreLinked, HasFilterOf, mirror_to, mirrors}
 use Rattle.job_tables.specs.Jobs.{CopyStands, IsOverFilter, CommitJobStands, StreamJobStands, StandsByKind, filter_kind, JobsStand}
 use Rattle.job_tables.specs.Starts.{IsToFilter, CopyBegins, MirrorBegins, IsOverTop, CommitBegins, BeginsByKind, JobBegins}
-use Rattle.job_tables.proofs.RowEdges.{filter_plain, plain_own, in_left, in_right, copy_holds, holds_source}
+use Rattle.job_tables.proofs.RowEdges.{in_left, in_right, copy_holds, holds_source}
 use Rattle.job_tables.proofs.Kept.{mirror_row}
-use Rattle.job_tables.proofs.Changes.{filter_of}
+use Rattle.job_tables.proofs.Changes.{plain_no_filter}
 use Rattle.job_tables.proofs.Ended.{all_changed-append}
 use Rattle.job_tables.proofs.Others.{OthersStand, IsNobodys}
 use Rattle.job_tables.proofs.Left.{apart_as}
@@ -124,14 +123,6 @@ module _ (t : RunTable) (h : TableStands t) (j : JobsStand t) (row : JobRecord) 
   source_plain : IsPlainNode t row.source
   source_plain = b.plain row.source (in_left row.held row.read row.source source_held)
 
-  -- a plain node is no job's filter
-  plain_no_filter : (node : ℕ) → IsPlainNode t node → (other : JobRecord) → Contains t.jobs other → other.filter ≢ Some node
-  plain_no_filter node p other at is =
-      let f = filter_of t other other.kind (j.each other at).shape node is in
-      let both : Some f.2.node ≡ Some p.row = sym f.2.there ∙ ap (node_by_id t) f.3 ∙ p.there in
-      let one : f.2.node ≡ p.row = cc both in
-      false≢true (sym (filter_plain f.0 f.1) ∙ ap is_plain (sym f.2.kind_is ∙ ap (λ (r : NodeRecord). r.kind) one) ∙ plain_own p.row.kind p.own)
-
   -- ---- once the table is ready for it
 
   record IsReady (now : RunTable) (loose : Option ℕ) : Type 0 where
@@ -219,7 +210,7 @@ module _ (t : RunTable) (h : TableStands t) (j : JobsStand t) (row : JobRecord) 
     free : IsNobodys first.jobs row.source
     free = subst (λ rows. IsNobodys rows row.source) (sym like.jobs) (record {
       held = λ other at has. b.holds other row.source at source_held has;
-      filter = λ other at. plain_no_filter row.source source_plain other at;
+      filter = λ other at. plain_no_filter t j row.source source_plain other at;
     })
 
     stand : OthersStand ready_table (Some new.id)

@@ -11,7 +11,10 @@ ghost use Rattle.qmp_rules.specs.declared.rows.JobRecord.{JobRecord};
 ghost use Rattle.qmp_rules.specs.Changes.{all_changed};
 ghost use Rattle.qmp_rules.specs.Edits.{start_edits};
 ghost use Rattle.qmp_rules.specs.Ends.{end_edits};
-ghost use Rattle.qmp_rules.specs.Table.{RunTable, kinds_of, opening_table};
+ghost use Rattle.qmp_rules.specs.Table.{RunTable, job_at, kinds_of, opening_table};
+ghost use Rattle.blk_history.specs.declared.entry.JobEnd.{JobEnd};
+ghost use Rattle.flat_machine.specs.State.{State};
+ghost use Rattle.flat_machine.specs.Jobs.{ended, readied};
 ghost use Rattle.flat_machine.specs.Suiting.{AllTableSuit};
 ghost use Rattle.flat_machine.specs.Wiring.{TableStands};
 ghost use Rattle.job_edges.specs.Held.{EdgesStand};
@@ -36,6 +39,18 @@ pub fn ends_leave_jobs()
     ensures { (t : RunTable) (row : JobRecord) (outcome : JobOutcome) → TableStands t → JobsStand t
         → EdgesAreDrawn t → Contains t.jobs row
         → JobsStand (all_changed t (end_edits t row outcome)) }
+{}
+
+/// So it is of a state behind the end of a job as a history notes it, and behind the note that one is ready.
+pub fn noted_ends_keep_jobs()
+    ensures drawn { (s : State) (number : ℕ) (why : JobEnd) → TableStands s.table
+        → JobsStand s.table → EdgesAreDrawn s.table
+        → EdgesAreDrawn (ended s (job_at s.table number) why).table }
+    ensures stand { (s : State) (number : ℕ) (why : JobEnd) → TableStands s.table
+        → JobsStand s.table → EdgesAreDrawn s.table
+        → JobsStand (ended s (job_at s.table number) why).table }
+    ensures ready { (s : State) (number : ℕ) → JobsStand s.table
+        → JobsStand (readied number s).table }
 {}
 
 /// Where slot and number are no other job's, its nodes are plain and no other job's, and its chain, target and filter are as the
