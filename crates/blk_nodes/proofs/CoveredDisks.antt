@@ -108,7 +108,7 @@ module _ (nodes : Nodes) (edges : List Edge) (node overlay : ℕ) (joined : IsJo
   in_clusters i inside = let bits = overlay_is.opened.cluster_bits in rw bits (omega (arith, inside))
 
   -- it reads as what is below it
-  shows_below : (b : List ℕ) → length b ≡ cover.image.header.size → image_disk (disk_under (bytes_of nodes) (file_of nodes overlay)) b ≡ b
+  pub shows_below : (b : List ℕ) → length b ≡ cover.image.header.size → image_disk (disk_under (bytes_of nodes) (file_of nodes overlay)) b ≡ b
   shows_below b len =
       let is = overlay_is in
       let fresh = clear.fresh in

@@ -24,7 +24,7 @@ mod RestBeside
 mod ToldDisks
 mod Imaged
 mod Pieces
-mod Covered
+pub mod Covered
 pub mod CoveredDisks
 pub mod Copied
 mod CopiedDisks

@@ -6,16 +6,16 @@ ghost use Rattle.blk_graph.specs.Edits.{child_of};
 ghost use Rattle.blk_graph.specs.Rule.{first_conflict};
 ghost use Rattle.qmp_rules.specs.Asks.{stands_for};
 ghost use Rattle.qmp_rules.specs.Chains.{holder, keeper};
-ghost use Rattle.qmp_rules.specs.Table.{opening_table, node_named, node_by_id, id_named, device_named, device_by_number, job_named, job_at, job_in, bitmap_at, bitmap_named, has_name, file_state, name_at, device_id, job_id, parent_name, child, first_into};
+ghost use Rattle.qmp_rules.specs.Table.{opening_table, node_named, node_by_id, id_named, device_named, device_by_number, job_named, job_at, job_in, bitmap_at, bitmap_named, has_name, file_state, name_at, device_id, job_id, parent_name, child, first_into, kinds_of};
 
 mod changing;
 mod room;
 mod writing;
 
-use crate::find;
 use crate::rows::{BitmapRow, DeviceRow, FileRow, FileState, JobRecord, NodeRecord};
+use crate::{edit, find};
 use blk_base::NoMemory;
-use blk_graph::{Conflict, Edge, EdgeList, NodeId, Parent, Role};
+use blk_graph::{Conflict, Edge, EdgeList, MOST_NODES, NodeId, NodeKind, Parent, Role};
 use qmp_asks::Name;
 use std::alloc::Global;
 use std::marker::Model;
@@ -98,6 +98,20 @@ impl Names {
         ensures { result.now ≡ self.now.table.edges }
     {
         self.edges.as_slice()
+    }
+
+    /// The edges, as nodes take them.
+    pub fn list(&self) -> &EdgeList
+        ensures { result.now ≡ self.now.table.edges }
+    {
+        &self.edges
+    }
+
+    /// The kinds of the nodes, by id.
+    pub fn kinds(&self) -> [NodeKind; MOST_NODES]
+        ensures { result ≡ kinds_of self.now.table.nodes }
+    {
+        edit::kinds_of(self.nodes.as_slice())
     }
 
     pub fn devices(&self) -> &[DeviceRow]
