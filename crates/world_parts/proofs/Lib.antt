@@ -31,3 +31,6 @@ pub mod SoundImages
 pub mod TableKinds
 pub mod TablesAfter
 pub mod Rewirings
+pub mod GuestsKept
+pub mod DisksKept
+pub mod NodesRewired

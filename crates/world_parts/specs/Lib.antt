@@ -3,6 +3,7 @@ pub mod Adding
 pub mod Progress
 pub mod Face
 pub mod Coherent
+pub mod Guests
 pub mod Piecing
 pub mod Tabling
 pub mod Comes
