@@ -3,14 +3,10 @@
 #![tactic(auto)]
 
 #[cfg(test)]
-mod dirty_sets;
-#[cfg(test)]
 mod drains;
 #[cfg(test)]
 mod jobs;
 #[cfg(test)]
-mod pieces;
-#[cfg(test)]
-mod runs;
+mod texts;
 #[cfg(test)]
 mod transfers;
