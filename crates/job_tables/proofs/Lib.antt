@@ -13,4 +13,5 @@ pub mod Put
 pub mod Begun
 pub mod Started
 pub mod Noted
+pub mod Lending
 pub mod Guests

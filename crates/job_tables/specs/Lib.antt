@@ -3,3 +3,4 @@ pub mod Jobs
 pub mod Changes
 pub mod Guests
 pub mod Starts
+pub mod Lending

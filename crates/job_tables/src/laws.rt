@@ -5,23 +5,25 @@ ghost use Rattle.blk_graph.specs.declared.edge.Parent.TheVariants.{Guest};
 ghost use Rattle.blk_graph.specs.declared.edge.Role.TheVariants.{Drive};
 ghost use Rattle.blk_graph.specs.Paths.{IsAcyclic};
 ghost use Rattle.qmp_rules.specs.declared.change.Change.{Change};
-ghost use Rattle.qmp_rules.specs.declared.change.Change.TheVariants.{Attach, Move};
+ghost use Rattle.qmp_rules.specs.declared.change.Change.TheVariants.{Attach, Move, Settle, MakeWritable, MakeReadOnly};
+ghost use Rattle.qmp_rules.specs.declared.change.NewDisk.{NewDisk};
 ghost use Rattle.qmp_rules.specs.declared.change.JobOutcome.{JobOutcome};
 ghost use Rattle.qmp_rules.specs.declared.rows.JobRecord.{JobRecord};
-ghost use Rattle.qmp_rules.specs.Changes.{all_changed};
+ghost use Rattle.qmp_rules.specs.Changes.{changed, all_changed};
 ghost use Rattle.qmp_rules.specs.Edits.{start_edits};
 ghost use Rattle.qmp_rules.specs.Ends.{end_edits};
 ghost use Rattle.qmp_rules.specs.Table.{RunTable, job_at, kinds_of, opening_table};
 ghost use Rattle.blk_history.specs.declared.entry.JobEnd.{JobEnd};
 ghost use Rattle.flat_machine.specs.State.{State};
 ghost use Rattle.flat_machine.specs.Jobs.{ended, readied};
-ghost use Rattle.flat_machine.specs.Suiting.{AllTableSuit};
+ghost use Rattle.flat_machine.specs.Suiting.{AllTableSuit, IsPlainNode};
 ghost use Rattle.flat_machine.specs.Wiring.{TableStands};
 ghost use Rattle.job_edges.specs.Held.{EdgesStand};
 ghost use Rattle.job_edges.specs.Seen.{ReadsAlong, GoesBelow, FiltersAlong};
 ghost use Rattle.job_tables.specs.Jobs.{JobsStand, EdgesAreDrawn};
 ghost use Rattle.job_tables.specs.Changes.{AllLeaveJobs, LeavesBySnapshot};
 ghost use Rattle.job_tables.specs.Starts.{JobBegins};
+ghost use Rattle.job_tables.specs.Lending.{MayBeWritten, MayBeKept};
 
 /// However a job ends, and whatever was accepted while it ran, its changes leave edges that a graph may have: they keep the rule on
 /// permissions, and make no cycle. So no end is refused.
@@ -88,4 +90,15 @@ pub fn changes_leave_jobs()
 pub fn snapshots_leave_jobs()
     ensures { (t : RunTable) (node overlay : ℕ) → JobsStand t → LeavesBySnapshot t node overlay
         → JobsStand (all_changed t (Attach overlay node ∷ Move node overlay overlay ∷ [])) }
+{}
+
+/// The table stands where a plain node is settled, where one may be written whose file may be, and where one may be written no
+/// more that nothing over it writes.
+pub fn lent_tables_stand()
+    ensures settled { (t : RunTable) (node : ℕ) (disk : NewDisk) → TableStands t
+        → IsPlainNode t node → TableStands (changed t (Settle node disk)) }
+    ensures written { (t : RunTable) (node : ℕ) → TableStands t → MayBeWritten t node
+        → TableStands (changed t (MakeWritable node)) }
+    ensures kept { (t : RunTable) (node : ℕ) → TableStands t → MayBeKept t node
+        → TableStands (changed t (MakeReadOnly node)) }
 {}
