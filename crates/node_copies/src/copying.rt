@@ -12,8 +12,8 @@ use blk_base::{Device, Fault, Outcome};
 use blk_graph::NodeId;
 use blk_nodes::Nodes;
 
-/// The answer of a copy whose write went so.
-fn answer_of(outcome: Outcome) -> Result<(), Fault>
+/// The answer of a copy whose write went so: Io also of a write that was torn.
+pub fn answer_of(outcome: Outcome) -> Result<(), Fault>
     ensures { result ≡ answer_of outcome }
 {
     match outcome {

@@ -8,6 +8,6 @@ mod putting;
 mod sectors;
 
 pub use between::held_between;
-pub use copying::copy_block;
+pub use copying::{answer_of, copy_block};
 pub use laws::{chain_shows_base, runs_are_those_asked, top_over_base_alone};
 pub use putting::put_sectors;
