@@ -27,7 +27,7 @@ use Rattle.node_copies.specs.Sectors.{block_of, has_sector, is_asked, sector_at}
 
 -- ---- which sectors are left
 
-bit_is : (b : Bool) (n : ℕ) → n ≡ cond b 1 0 → (n == 1) ≡ b
+pub bit_is : (b : Bool) (n : ℕ) → n ≡ cond b 1 0 → (n == 1) ≡ b
 bit_is true n is = eq-eqb n 1 is
 bit_is false n is = ne_eqb n 1 (λ one. let bad : 0 ≡ 1 = sym is ∙ one in absurd (omega (arith, bad)))
 
@@ -100,26 +100,27 @@ module _ (work : JobWork) (is : IsJobWork work) (block : ℕ) where
       and_false true = refl
       and_false false = refl
 
+  -- what is paid of it
+  pub owed_left : (b c : Bool) → b && c ≡ true → b ≡ true
+  owed_left true c is = refl
+  owed_left false c is = absurd (cc is)
+
+  pub now_is : (place : ℕ) → is_owed Backup (after_copy block work) place ≡ (is_owed Backup work place && not (block_at place == block))
+  now_is place = copied_is_paid Backup work block place is
+
+  pub here : (place : ℕ) → is_left work place ≡ true → is_owed Backup (after_copy block work) place ≡ false → block_at place ≡ block
+  here place owed paid = elim (cases_eq (block_at place) block) [
+    | inl same ↦ same
+    | inr apart ↦
+        let test = ne_eqb (block_at place) block apart in
+        let still : is_owed Backup (after_copy block work) place ≡ true = now_is place ∙ rw (owed, test) refl in
+        let bad : true ≡ false = sym still ∙ paid in
+        absurd (cc bad)
+  ]
+
   -- what was put is what was owed of it
   module _ (source made left : List ℕ) (whole : length made ≡ work.size) (alike : length source ≡ length made)
       (put : IsPut Span (sectors_left work block) (bytes_at source start Span.len) made left (Unit {0})) where
-    owed_left : (b c : Bool) → b && c ≡ true → b ≡ true
-    owed_left true c is = refl
-    owed_left false c is = absurd (cc is)
-
-    now_is : (place : ℕ) → is_owed Backup (after_copy block work) place ≡ (is_owed Backup work place && not (block_at place == block))
-    now_is place = copied_is_paid Backup work block place is
-
-    here : (place : ℕ) → is_left work place ≡ true → is_owed Backup (after_copy block work) place ≡ false → block_at place ≡ block
-    here place owed paid = elim (cases_eq (block_at place) block) [
-      | inl same ↦ same
-      | inr apart ↦
-          let test = ne_eqb (block_at place) block apart in
-          let still : is_owed Backup (after_copy block work) place ≡ true = now_is place ∙ rw (owed, test) refl in
-          let bad : true ≡ false = sym still ∙ paid in
-          absurd (cc bad)
-    ]
-
     pub copies_owed : (due : ℕ → Bool) → CopiesOwed due (is_owed Backup work) (is_owed Backup (after_copy block work)) source made left
     copies_owed due = record {
       whole = put.whole;

@@ -2,5 +2,7 @@
 #![tactic(auto)]
 
 mod guarding;
+mod settling;
 
 pub use guarding::guard;
+pub use settling::settle;
