@@ -5,13 +5,10 @@ ghost use Rattle.qmp_rules.specs.Table.{opening_table};
 ghost use Rattle.world_parts.specs.Progress.{no_progress};
 
 mod adding;
-mod alone;
-mod attaching;
-mod bitmaps;
+mod changing;
 mod closing;
-mod covering;
+mod counting;
 mod deleting;
-mod detaching;
 mod execute;
 mod making;
 mod piece;

@@ -1,18 +1,11 @@
 -- Commands that change the table and bitmaps alone: what they leave, and that they are carried out so.
-use Rattle.std.proofs.Common.{◌≡◌, ℕ, zero, suc, ◌≤◌, Bool, true, false, List, [], ◌∷◌, map, length, inl, refl, sym, ◌∙◌, ap, subst, Option, Some, None}
-use Rattle.std.specs.Prelude.{◌==◌, find, option_map, IsSome, Contains}
+use Rattle.std.proofs.Common.{◌≡◌, ℕ, Bool, true, false, List, [], ◌∷◌, map, length, inl, refl, sym, ◌∙◌, ap, subst, Option, Some, None}
 use Rattle.flat_machine.specs.Marks.{AreCalm, IsCalm, drained_by}
 use Rattle.std.proofs.lemmas.List.Elements.{All-nil}
 use Rattle.blk_base.specs.declared.file.Opened.{Opened}
 use Rattle.blk_bitmaps.specs.declared.row.Bitmap.{Bitmap}
-use Rattle.blk_history.specs.Fold.{With}
 use Rattle.blk_nodes.specs.Nodes.{Nodes, row_at}
-use Rattle.blk_base.specs.Pieces.{end_of}
-use Rattle.blk_history.specs.Disk.{span_of}
-use Rattle.blk_graph.specs.declared.edge.Edge.{Edge}
-use Rattle.qmp_rules.specs.declared.rows.DeviceRow.{DeviceRow}
 use Rattle.qmp_rules.specs.declared.rows.NodeRecord.{NodeRecord}
-use Rattle.flat_machine.specs.Legal.{IsForbidden}
 use Rattle.flat_machine.specs.Wiring.{TableAtRest}
 use Rattle.flat_machine.proofs.TableRests.{command_rests}
 use Rattle.qmp_codec.specs.Commands.{Cmd, SeenSources}
@@ -22,25 +15,24 @@ use Rattle.qmp_rules.specs.declared.change.Change.TheVariants as change
 use Rattle.qmp_rules.specs.declared.refusal.Refusal.{Refusal}
 use Rattle.qmp_rules.specs.declared.refusal.Refusal.TheVariants as refusal
 use Rattle.qmp_rules.specs.declared.told.Told.{Told}
-use Rattle.qmp_rules.specs.Table.{RunTable, node_by_id, device_by_number}
-use Rattle.qmp_rules.specs.Chains.{filtered, disk_from, disk_node}
+use Rattle.qmp_rules.specs.Table.{RunTable, node_by_id}
 use Rattle.qmp_rules.specs.Asks.{id_or}
 use Rattle.qmp_asks.specs.BitmapAsks.{source_name, source_node}
 use Rattle.qmp_asks.specs.CommandAsks.{is_built}
 use Rattle.qmp_rules.specs.Changes.{changed, all_changed}
 use Rattle.qmp_rules.specs.Edits.{edits_of, merges}
 use Rattle.qmp_rules.specs.Answers.{answer, answer_by, told_none, refusal_to, command_edits, left_by}
-use Rattle.qmp_rules.specs.Queries.{bytes_of_node}
-use Rattle.flat_machine.specs.State.{State, drive_of, disk_of_guest, filename_of}
-use Rattle.flat_machine.specs.Agreement.{Contents, HasDisk}
+use Rattle.flat_machine.specs.State.{State, filename_of}
+use Rattle.flat_machine.specs.Agreement.{Contents}
 use Rattle.flat_machine.specs.Bitmaps.{dirty_in}
 use Rattle.flat_machine.specs.Changed.{stepped}
 use Rattle.flat_machine.specs.Performing.{IsQuiet, AllPerformed}
 use Rattle.flat_machine.specs.Recording.{dirty_after}
 use Rattle.world_parts.specs.Progress.{Progress}
 use Rattle.world_parts.specs.Coherent.{IsCoherent, AreAlike, node_row}
+use Rattle.world_parts.specs.Guests.{GuestsStand}
 use Rattle.world_parts.specs.Saying.{IsSaid}
-use Rattle.world_parts.specs.Carrying.{IsCarried, IsCarriedAs, IsPutBack, with_counts, counts_of, is_of_bitmaps, needs_table_alone, prints_counts}
+use Rattle.world_parts.specs.Carrying.{IsCarried, IsCarriedAs, IsPutBack, with_counts, counts_of, prints_counts}
 use Rattle.world_parts.specs.Face.{WorldSeen, contents_of, dirty_of}
 use Rattle.world_parts.specs.Leaving.{Leaves, LeavesBitmaps, clean_told}
 use Rattle.world_parts.specs.Looking.{Site}
@@ -51,6 +43,7 @@ use Rattle.world_parts.proofs.Counted.{changes-counted, refusal-counted}
 use Rattle.world_parts.proofs.CountLemmas.{same-devices, runs-devices}
 use Rattle.world_parts.proofs.Uncalled.{called_itself}
 use Rattle.world_parts.proofs.CountsKept.{hides-same}
+use Rattle.world_parts.proofs.GuestsKept.{guests_same, guests_stand}
 use Rattle.world_parts.proofs.CarryPlain.{HasTableShape, maps_nothing, opens_nothing, plain_opens, quiet-self, quiet_cause, quiet_fault, table_quiet, told_counts}
 
 -- ---- a table that differs in what is kept and negotiated alone
@@ -59,68 +52,23 @@ module _ (t u : RunTable) (shape : HasTableShape t u) where
   same-node : (id : ℕ) → node_by_id u id ≡ node_by_id t id
   same-node id = rw shape.nodes refl
 
-  same-filtered : (id : ℕ) → filtered u id ≡ filtered t id
-  same-filtered id = rw (shape.nodes, shape.edges) refl
-
-  same-from : (more id : ℕ) → disk_from more u id ≡ disk_from more t id
-  same-from zero id = refl
-  same-from (suc more) id =
-      ap (λ (o : Option ℕ). elim o as (λ _. ℕ) [ None ↦ id | Some b ↦ disk_from more u b ]) (same-filtered id) ∙ at (filtered t id) (λ b. same-from more b)
-    where
-      at : (below : Option ℕ) → ((b : ℕ) → disk_from more u b ≡ disk_from more t b)
-          → (elim below as (λ _. ℕ) [ None ↦ id | Some b ↦ disk_from more u b ]) ≡ (elim below as (λ _. ℕ) [ None ↦ id | Some b ↦ disk_from more t b ])
-      at None rest = refl
-      at (Some b) rest = rest b
-
-  same-disk : (id : ℕ) → disk_node u id ≡ disk_node t id
-  unfolding disk_node
-  same-disk id = same-from 64 id
-
-  same-device : (g : ℕ) → device_by_number u g ≡ device_by_number t g
-  same-device g = ap (find (λ (device : DeviceRow). device.number == g)) shape.devices
-
-  same-drive : (g : ℕ) → drive_of u g ≡ drive_of t g
-  same-drive g = rw shape.edges refl
-
-  same-guest : (g : ℕ) → disk_of_guest u g ≡ disk_of_guest t g
-  same-guest g = ap (option_map (disk_node u)) (same-drive g) ∙ at (drive_of t g)
-    where
-      at : (drive : Option ℕ) → option_map (disk_node u) drive ≡ option_map (disk_node t) drive
-      at None = refl
-      at (Some node) = ap Some (same-disk node)
-
-  same-size : (node : ℕ) → bytes_of_node u node ≡ bytes_of_node t node
-  same-size node = rw shape.nodes refl
-
   same-filename : (node : ℕ) → filename_of u node ≡ filename_of t node
   same-filename node = rw shape.nodes refl
-
-  within-so : (o : Option ℕ) (end : ℕ) → With o (λ node. end ≤ bytes_of_node t node) → With o (λ node. end ≤ bytes_of_node u node)
-  within-so None end is = absurd is
-  within-so (Some node) end is = subst (λ size. end ≤ size) (sym (same-size node)) is
 
   pub coherent-shape : (nodes : Nodes) (opened : List Opened) (p : Progress) → (TableAtRest t → TableAtRest u) → IsCoherent t nodes opened p → IsCoherent u nodes opened p
   coherent-shape nodes opened p rests was = record {
     table = rests was.table;
-    drives = λ g there. subst IsSome (sym (same-drive g)) (was.drives g (subst IsSome (same-device g) there));
-    disks = λ g node on.
-        let same : node_by_id u (disk_node u node) ≡ node_by_id t (disk_node t node) = same-node (disk_node u node) ∙ ap (node_by_id t) (same-disk node) in
-        subst (λ (row : Option NodeRecord). With row HasDisk) (sym same) (was.disks g node (sym (same-drive g) ∙ on));
+    drives = stand.drives;
+    disks = stand.disks;
     alike = record {
       listed = was.alike.listed ∙ ap (map node_row) (sym shape.nodes);
       edges = was.alike.edges ∙ sym shape.edges;
       rows = λ id. subst (λ (row : Option NodeRecord). AreAlike row (row_at nodes id)) (sym (same-node id)) (was.alike.rows id);
     };
-    asks = λ g device edge there writes on from.
-        was.asks g device edge (sym (same-device g) ∙ there) writes (subst (λ (es : List Edge). Contains es edge) shape.edges on) from;
-    writable = λ g node device there writes on.
-        subst (λ (row : Option NodeRecord). With row (λ r. r.read_only ≡ false)) (sym (same-node node))
-        (was.writable g node device (sym (same-device g) ∙ there) writes (sym (same-drive g) ∙ on));
-    within = λ g f flies.
-        subst (λ (o : Option ℕ). With o (λ node. end_of (span_of f.op) ≤ bytes_of_node u node)) (sym (same-guest g))
-        (within-so (disk_of_guest t g) (end_of (span_of f.op)) (was.within g f flies));
-    allowed = λ g f flies.
-        subst (λ (o : Option DeviceRow). With o (λ device. IsForbidden f.op device.read_only → ⊥)) (sym (same-device g)) (was.allowed g f flies);
+    asks = stand.asks;
+    writable = stand.writable;
+    within = stand.within;
+    allowed = stand.allowed;
     count = was.count ∙ ap length (sym shape.guests);
     jobs = shape.jobs ∙ was.jobs;
     out = record {
@@ -133,6 +81,9 @@ module _ (t u : RunTable) (shape : HasTableShape t u) where
       names = was.out.names;
     };
   }
+    where
+      stand : GuestsStand u p.guests
+      stand = guests_same t u p.guests shape.nodes shape.edges shape.devices (guests_stand t nodes opened p was)
 
 -- ---- what commands that change the table and bitmaps alone leave
 
@@ -146,24 +97,6 @@ stays_in_table (command.DeviceDel id) = false
 stays_in_table (command.BlockdevSnapshot c) = false
 stays_in_table c = true
 
-pub alone-stays : (c : Cmd) → needs_table_alone c ≡ true → stays_in_table c ≡ true
-alone-stays (command.BlockdevAdd c) alone = absurd cc
-alone-stays (command.BlockdevCreate c) alone = absurd cc
-alone-stays (command.BlockdevDel c) alone = absurd cc
-alone-stays (command.DeviceAdd c) alone = absurd cc
-alone-stays (command.DeviceDel id) alone = absurd cc
-alone-stays (command.BlockdevSnapshot c) alone = absurd cc
-alone-stays _ alone = refl
-
-pub bitmaps-stay : (c : Cmd) → is_of_bitmaps c ≡ true → stays_in_table c ≡ true
-bitmaps-stay (command.BlockdevAdd c) is = absurd cc
-bitmaps-stay (command.BlockdevCreate c) is = absurd cc
-bitmaps-stay (command.BlockdevDel c) is = absurd cc
-bitmaps-stay (command.DeviceAdd c) is = absurd cc
-bitmaps-stay (command.DeviceDel id) is = absurd cc
-bitmaps-stay (command.BlockdevSnapshot c) is = absurd cc
-bitmaps-stay _ is = refl
-
 same-shape : (t : RunTable) → HasTableShape t t
 same-shape t = record { nodes = refl; edges = refl; devices = refl; guests = refl; jobs = refl }
 
@@ -172,7 +105,7 @@ unfolding changed
 merged-shape t node target [] now = refl
 merged-shape t node target (s ∷ sources) now = merged-shape t node target sources now
 
-table-edits : (t : RunTable) (c : Cmd) → stays_in_table c ≡ true → is_built c ≡ true → (t' : RunTable) → t' ≡ all_changed t (command_edits t told_none c) → HasTableShape t t'
+pub table-edits : (t : RunTable) (c : Cmd) → stays_in_table c ≡ true → is_built c ≡ true → (t' : RunTable) → t' ≡ all_changed t (command_edits t told_none c) → HasTableShape t t'
 unfolding edits_of changed
 table-edits t (command.BlockdevAdd c) alone built u is = absurd cc
 table-edits t (command.BlockdevCreate c) alone built u is = absurd cc
@@ -209,7 +142,7 @@ merged-performed t node target (source ∷ sources) s old new quiet =
     let merge : Change = change.MergeBitmap (id_or 0 t (Some node)) target (id_or 0 t (Some (source_node node source))) (source_name source) in
     (new, quiet, merged-performed t node target sources (stepped s merge) new new (quiet-self new))
 
-alone-performed : (s : State) (c : Cmd) (old new : Contents) → stays_in_table c ≡ true → is_built c ≡ true → IsQuiet old new
+pub alone-performed : (s : State) (c : Cmd) (old new : Contents) → stays_in_table c ≡ true → is_built c ≡ true → IsQuiet old new
     → (t : RunTable) → AllPerformed s (command_edits t told_none c) old new
 unfolding edits_of
 alone-performed s (command.BlockdevAdd c) old new alone built quiet t = absurd cc
@@ -248,7 +181,7 @@ stays-leaves t told _ None u x alone = refl
 stays-leaves t told _ (Some cause) u x alone = refl
 
 -- such a command drains no disk
-undrained : (w : WorldSeen) (c : Cmd) → stays_in_table c ≡ true → is_built c ≡ true → AreCalm w.table w.progress.guests (drained_by w.table c)
+pub undrained : (w : WorldSeen) (c : Cmd) → stays_in_table c ≡ true → is_built c ≡ true → AreCalm w.table w.progress.guests (drained_by w.table c)
 undrained w (command.DeviceDel id) alone built = absurd cc
 undrained w (command.BlockdevSnapshot c) alone built = absurd cc
 undrained w (command.BlockdevBackup c) alone built = absurd cc

@@ -15,7 +15,7 @@ use Rattle.blk_nodes.specs.Overlays.{IsFresh}
 use Rattle.world_parts.specs.Coherent.{IsWholeWorld}
 use Rattle.world_parts.specs.Comes.{ShowsState}
 use Rattle.world_parts.specs.Face.{WorldSeen}
-use Rattle.world_changes.specs.Covering.{TellsMappedAlone}
+use Rattle.world_changes.specs.Changing.{TellsMappedAlone}
 use Rattle.world_parts.proofs.ImageTold.{may_map}
 
 pub may_be_told : (w : WorldSeen) → IsWholeWorld w → IsJoined w.nodes → (c : Snapshot (List ℕ)) (told : Told)

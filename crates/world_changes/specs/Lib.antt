@@ -1,3 +1,1 @@
-pub mod Attaching
-pub mod Detaching
-pub mod Covering
+pub mod Changing

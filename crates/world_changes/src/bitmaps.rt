@@ -1,33 +1,25 @@
-//! Commands on dirty bitmaps, and the query that prints how much of each is dirty.
-ghost use Rattle.std.specs.Prelude.{◌≡◌, ◌<◌, ℕ, true, None, Some, Ok, IsSome, map, IfOk, OnOk, OnErr, length, string_bytes};
+//! What commands make of the dirty bitmaps.
+ghost use Rattle.std.specs.Prelude.{◌≡◌, ◌<◌, true, None, Some, IsSome, IfOk, OnOk, length};
 ghost use Rattle.qmp_codec.specs.Bitmaps.{seen_bitmap_add, seen_bitmap_merge, seen_bitmap_name, seen_source};
-ghost use Rattle.qmp_codec.specs.Commands.{SeenSources, seen_command};
-ghost use Rattle.qmp_rules.specs.Answers.{answer, command_edits, refusal_to, returned, told_none};
+ghost use Rattle.qmp_codec.specs.Commands.{seen_command};
+ghost use Rattle.qmp_rules.specs.Answers.{refusal_to, told_none};
 ghost use Rattle.qmp_rules.specs.Asks.{id_or};
 ghost use Rattle.qmp_asks.specs.BitmapAsks.{source_name, source_node};
-ghost use Rattle.qmp_rules.specs.Changes.{all_changed};
-ghost use Rattle.qmp_rules.specs.Fitting.{AllChangesFit};
-ghost use Rattle.qmp_rules.specs.Room.{HasRoomForChanges};
 ghost use Rattle.qmp_rules.specs.Queries.{bytes_of_node};
 ghost use Rattle.blk_bitmaps.specs.Calls.{with_first, with_source, without_first};
 ghost use Rattle.blk_bitmaps.specs.Refusals.{add_refusal, find};
 ghost use Rattle.blk_bitmaps.specs.Rows.{emptied, is_named, switched};
-ghost use Rattle.flat_machine.specs.Bitmaps.{AreBitmapsOf, FollowChanges, dirty_in};
-ghost use Rattle.flat_machine.specs.Marking.{dirty_bytes};
-ghost use Rattle.world_parts.specs.Carrying.{is_of_bitmaps, prints_counts, with_counts};
-ghost use Rattle.world_parts.specs.Leaving.{LeavesBitmaps};
+ghost use Rattle.flat_machine.specs.Bitmaps.{AreBitmapsOf};
+ghost use Rattle.world_parts.specs.Carrying.{is_of_bitmaps};
 ghost use Rattle.qmp_asks.specs.Values.{amount_or, flag_or_false};
-ghost use Rattle.world_parts.specs.Recorded.{AreAfter, AreFree, IsNewBitmap, IsNewFor, bitmaps_after, bitmaps_merged};
-ghost use Rattle.world_parts.specs.Saying.{IsSaid};
+ghost use Rattle.world_parts.specs.Recorded.{AreFree, IsNewBitmap, IsNewFor, bitmaps_after, bitmaps_merged};
 
-use crate::in_table::{accepted_alone, prepare};
 use blk_base::{NoMemory, Text};
 use blk_bitmaps::{Bitmap, BitmapStop, Bitmaps};
 use blk_graph::{NodeId, free_id};
 use qmp_codec::{Amount, BitmapAdd, BitmapMerge, BitmapName, Command, MergeSource};
-use qmp_rules::{Amounts, Edits, Names, Told};
+use qmp_rules::Names;
 use std::alloc::Global;
-use world_parts::{accepted_text, refused};
 
 // ---- nodes by name
 
@@ -47,81 +39,6 @@ fn id_of(names: &Names, name: &str) -> NodeId
     match names.id_named(name) {
         Some(id) => id,
         None => first_id(),
-    }
-}
-
-// ---- how much is dirty
-
-/// For each bitmap how many bytes its dirty granules have.
-fn counts(alloc: Global, bitmaps: &Bitmaps) -> Result<Vec<u64>, NoMemory>
-    requires { AreFree bitmaps.now }
-    ensures { IfOk result (λ counts. counts.items ≡ map dirty_bytes (map dirty_in bitmaps.now)) }
-{
-    let rows = bitmaps.rows();
-    let mut counts = Vec::new(alloc);
-    for row in rows {
-        counts.push(row.dirty_bytes())?;
-    }
-    Ok(counts)
-}
-
-fn told_counts(alloc: Global, bitmaps: &Bitmaps) -> Result<Told, NoMemory>
-    requires { AreFree bitmaps.now }
-    ensures { IfOk result
-        (λ told. told ≡ with_counts told_none (map dirty_bytes (map dirty_in bitmaps.now))) }
-{
-    let counts = counts(alloc, bitmaps)?;
-    let mut told = Told::nothing(alloc);
-    told.dirty = Amounts::new(counts);
-    Ok(told)
-}
-
-/// The text of the answer to an accepted query, which changes nothing.
-fn accept_counts(
-    alloc: Global,
-    names: &mut Names,
-    bitmaps: &Bitmaps,
-    given: &str,
-    command: &Command,
-    edits: Edits,
-) -> Result<String, NoMemory>
-    requires free { AreFree bitmaps.now }
-    requires room { HasRoomForChanges (length edits) names.old }
-    requires fit { AllChangesFit names.old.table edits }
-    ensures said { IfOk result (λ text. IsSaid given.now (Ok (returned names.old.table
-        (with_counts told_none (map dirty_bytes (map dirty_in bitmaps.now)))
-        (seen_command command.now)))
-        (string_bytes text)) }
-    ensures changed { OnOk result (names.new.table ≡ all_changed names.old.table edits) }
-    ensures kept { OnErr result (names.new.table ≡ names.old.table) }
-{
-    let told = told_counts(alloc, bitmaps)?;
-    let text = accepted_text(alloc, names, given, &told, command)?;
-    names.apply(edits);
-    Ok(text)
-}
-
-/// Answers the query that prints what is dirty, or refuses it. Gives the text of the answer.
-pub fn answer_counts(
-    alloc: Global,
-    names: &mut Names,
-    bitmaps: &Bitmaps,
-    given: &str,
-    command: &Command,
-) -> Result<String, NoMemory>
-    requires prints { prints_counts (seen_command command.now) ≡ true }
-    requires free { AreFree bitmaps.now }
-    ensures said { IfOk result (λ text. IsSaid given.now (answer names.old.table
-        (with_counts told_none (map dirty_bytes (map dirty_in bitmaps.now)))
-        (seen_command command.now)).reply
-        (string_bytes text)) }
-    ensures changed { OnOk result (names.new.table ≡ all_changed names.old.table
-        (answer names.old.table told_none (seen_command command.now)).changes) }
-    ensures kept { OnErr result (names.new.table ≡ names.old.table) }
-{
-    match prepare(alloc, names, command) {
-        Ok(edits) => accept_counts(alloc, names, bitmaps, given, command, edits),
-        Err(stop) => refused(alloc, given, stop),
     }
 }
 
@@ -188,14 +105,15 @@ fn new_bitmap(
 }
 
 /// The bitmap that an accepted command adds, where it adds one.
-fn new_of(
+pub(crate) fn new_of(
     alloc: Global,
     bitmaps: &Bitmaps,
     names: &Names,
     command: &Command,
 ) -> Result<Option<Bitmap>, NoMemory>
     requires alike { AreBitmapsOf names.now.table.bitmaps bitmaps.now }
-    requires accepted { refusal_to names.now.table told_none (seen_command command.now) ≡ None }
+    requires accepted { is_of_bitmaps (seen_command command.now) ≡ true
+        → refusal_to names.now.table told_none (seen_command command.now) ≡ None }
     ensures new { IfOk result (IsNewFor names.now.table (seen_command command.now)) }
     ensures room { IfOk result (λ new. IsSome new → length bitmaps.now < 64) }
 {
@@ -270,8 +188,8 @@ fn turn(bitmaps: &mut Bitmaps, names: &Names, on: bool, c: &BitmapName)
     };
 }
 
-/// Makes the changes of an accepted command, the new bitmap among them. Takes no memory.
-fn change(bitmaps: &mut Bitmaps, names: &Names, command: &Command, new: Option<Bitmap>)
+/// Makes of the bitmaps what an accepted command does, the new one among them. Takes no memory.
+pub(crate) fn change(bitmaps: &mut Bitmaps, names: &Names, command: &Command, new: Option<Bitmap>)
     requires free { AreFree bitmaps.old }
     requires room { IsSome new → length bitmaps.old < 64 }
     ensures { bitmaps.new
@@ -289,60 +207,5 @@ fn change(bitmaps: &mut Bitmaps, names: &Names, command: &Command, new: Option<B
         Command::BitmapDisable(c) => turn(bitmaps, names, false, c),
         Command::BitmapMerge(c) => merge(bitmaps, names, c),
         _ => {}
-    }
-}
-
-/// Makes the changes of an accepted command. All memory is taken before the table changes.
-fn accept(
-    alloc: Global,
-    names: &mut Names,
-    bitmaps: &mut Bitmaps,
-    given: &str,
-    command: &Command,
-    edits: Edits,
-) -> Result<String, NoMemory>
-    requires alike { AreBitmapsOf names.old.table.bitmaps bitmaps.old }
-    requires accepted { refusal_to names.old.table told_none (seen_command command.now) ≡ None }
-    requires room { HasRoomForChanges (length edits) names.old }
-    requires fit { AllChangesFit names.old.table edits }
-    ensures said { IfOk result (λ text. IsSaid given.now
-        (Ok (returned names.old.table told_none (seen_command command.now))) (string_bytes text)) }
-    ensures changed { OnOk result (names.new.table ≡ all_changed names.old.table edits) }
-    ensures bitmaps { OnOk result (AreAfter names.old.table (seen_command command.now)
-        bitmaps.old bitmaps.new) }
-    ensures kept { OnErr result (names.new.table ≡ names.old.table) }
-    ensures bitmaps_kept { OnErr result (bitmaps.new ≡ bitmaps.old) }
-{
-    let new = new_of(alloc, bitmaps, names, command)?;
-    let text = accepted_alone(alloc, names, given, command)?;
-    change(bitmaps, names, command, new);
-    names.apply(edits);
-    Ok(text)
-}
-
-/// Carries out a command on bitmaps, or refuses it. Gives the text of the answer.
-pub fn answer_bitmaps(
-    alloc: Global,
-    names: &mut Names,
-    bitmaps: &mut Bitmaps,
-    given: &str,
-    command: &Command,
-) -> Result<String, NoMemory>
-    requires is { is_of_bitmaps (seen_command command.now) ≡ true }
-    requires alike { AreBitmapsOf names.old.table.bitmaps bitmaps.old }
-    ensures said { IfOk result (λ text. IsSaid given.now
-        (answer names.old.table told_none (seen_command command.now)).reply (string_bytes text)) }
-    ensures changed { OnOk result (names.new.table ≡ all_changed names.old.table
-        (answer names.old.table told_none (seen_command command.now)).changes) }
-    ensures follow { OnOk result (FollowChanges names.old.table bitmaps.old bitmaps.new
-        (answer names.old.table told_none (seen_command command.now)).changes) }
-    ensures left { OnOk result (LeavesBitmaps names.old.table (seen_command command.now)
-        (refusal_to names.old.table told_none (seen_command command.now)) bitmaps.old bitmaps.new) }
-    ensures kept { OnErr result (names.new.table ≡ names.old.table) }
-    ensures bitmaps_kept { OnErr result (bitmaps.new ≡ bitmaps.old) }
-{
-    match prepare(alloc, names, command) {
-        Ok(edits) => accept(alloc, names, bitmaps, given, command, edits),
-        Err(stop) => refused(alloc, given, stop),
     }
 }

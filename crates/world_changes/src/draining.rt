@@ -1,10 +1,11 @@
 //! Disks that a command drains.
 ghost use Rattle.std.specs.Prelude.{◌≡◌, ◌<◌, ℕ, true, IfOk, IsSome, OnErr, option_and_then};
+ghost use Rattle.qmp_asks.specs.CommandAsks.{is_built};
 ghost use Rattle.qmp_codec.specs.Commands.{seen_command};
 ghost use Rattle.qmp_rules.specs.Table.{device_named};
 ghost use Rattle.flat_machine.specs.Marks.{drained_by, ids_of};
 ghost use Rattle.flat_machine.specs.State.{State, disk_of_guest, drive_of};
-ghost use Rattle.world_parts.specs.Draining.{IsFirstOf, held_if, is_drain};
+ghost use Rattle.world_parts.specs.Draining.{IsFirstOf, held_if};
 
 use blk_base::NoMemory;
 use blk_graph::NodeId;
@@ -34,16 +35,16 @@ fn listed(alloc: Global, node: Option<NodeId>) -> Result<Vec<NodeId>, NoMemory>
     Ok(disks)
 }
 
-/// The disks that a command must drain.
+/// The disks that a command must drain, where it is carried out so far.
 fn drained_by(alloc: Global, names: &Names, command: &Command) -> Result<Vec<NodeId>, NoMemory>
-    requires { is_drain (seen_command command.now) ≡ true }
+    requires { is_built (seen_command command.now) ≡ true }
     ensures { IfOk result (λ disks.
         disks.items ≡ drained_by names.now.table (seen_command command.now)) }
 {
     match command {
         Command::DeviceDel(id) => listed(alloc, device_disk(names, id.as_str())),
         Command::BlockdevSnapshot(c) => listed(alloc, names.id_named(c.node.as_str())),
-        _ => unreachable!(),
+        _ => listed(alloc, None),
     }
 }
 
@@ -55,7 +56,7 @@ pub(crate) fn drain(
     drained: &mut Drained,
     command: &Command,
 ) -> Result<Option<InTheWay>, NoMemory>
-    requires drains { is_drain (seen_command command.now) ≡ true }
+    requires built { is_built (seen_command command.now) ≡ true }
     requires few { (g : ℕ) → IsSome (drive_of names.now.table g) → g < 80 }
     ensures first { IfOk result
         (λ found. (s : State) → s.table ≡ names.now.table → s.guests ≡ progress.now.guests

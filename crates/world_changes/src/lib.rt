@@ -1,16 +1,12 @@
-//! Commands that change table, edges and bitmaps of a run's world: devices of guests, snapshots, bitmaps, and what needs the table
-//! alone.
+//! Commands that change table, edges and bitmaps of a run's world, and no nodes: devices of guests, snapshots, bitmaps, and what needs
+//! the table alone.
 #![tactic(auto)]
 
-mod attaching;
 mod bitmaps;
-mod covering;
-mod detaching;
+mod changing;
+mod counting;
 mod draining;
-mod in_table;
+mod telling;
 
-pub use attaching::attach;
-pub use bitmaps::{answer_bitmaps, answer_counts};
-pub use covering::cover;
-pub use detaching::detach;
-pub use in_table::answer_alone;
+pub use changing::carry_changes;
+pub use counting::answer_counts;

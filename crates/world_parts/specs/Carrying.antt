@@ -11,7 +11,7 @@ use Rattle.blk_history.specs.declared.event.Event.{Event}
 use Rattle.blk_history.specs.declared.event.Event.TheVariants.{Reply}
 use Rattle.qmp_codec.specs.Commands.{Cmd}
 use Rattle.qmp_codec.specs.Lines.{Stop, command_at}
-use Rattle.qmp_codec.specs.declared.command.Command.TheVariants.{BlockdevAdd, BlockdevCreate, BlockdevDel, DeviceAdd, QueryNamedBlockNodes, BitmapAdd, BitmapRemove, BitmapClear, BitmapEnable, BitmapDisable, BitmapMerge, BlockdevSnapshot, DeviceDel}
+use Rattle.qmp_codec.specs.declared.command.Command.TheVariants.{BlockdevAdd, BlockdevCreate, QueryNamedBlockNodes, BitmapAdd, BitmapRemove, BitmapClear, BitmapEnable, BitmapDisable, BitmapMerge}
 use Rattle.qmp_codec.specs.declared.nodes.Created.{Created}
 use Rattle.qmp_codec.specs.declared.nodes.Created.TheVariants.{Qcow2}
 use Rattle.qmp_rules.specs.declared.refusal.Refusal.{Refusal}
@@ -293,24 +293,6 @@ is_of_bitmaps (BitmapEnable c) = true
 is_of_bitmaps (BitmapDisable c) = true
 is_of_bitmaps (BitmapMerge c) = true
 is_of_bitmaps c = false
-
--- ---- commands that need the table alone
-
-abbrev pub needs_table_alone : Cmd → Bool
-needs_table_alone (BlockdevAdd c) = false
-needs_table_alone (BlockdevCreate c) = false
-needs_table_alone (BlockdevDel node) = false
-needs_table_alone (DeviceAdd c) = false
-needs_table_alone (QueryNamedBlockNodes flat) = false
-needs_table_alone (BitmapAdd c) = false
-needs_table_alone (BitmapRemove c) = false
-needs_table_alone (BitmapClear c) = false
-needs_table_alone (BitmapEnable c) = false
-needs_table_alone (BitmapDisable c) = false
-needs_table_alone (BitmapMerge c) = false
-needs_table_alone (DeviceDel id) = false
-needs_table_alone (BlockdevSnapshot c) = false
-needs_table_alone c = true
 
 -- ---- lines
 

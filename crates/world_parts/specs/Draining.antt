@@ -1,7 +1,5 @@
 -- Requests in flight on the disks that are to be drained.
-use Rattle.std.specs.Prelude.{ℕ, List, Bool, true, false, Option, Some, None, option_map}
-use Rattle.qmp_codec.specs.Commands.{Cmd}
-use Rattle.qmp_codec.specs.declared.command.Command.TheVariants as command
+use Rattle.std.specs.Prelude.{ℕ, List, Option, Some, None, option_map}
 use Rattle.flat_machine.specs.Marks.{AreCalm, Drained, IsInTheWay, MustWait, after_later}
 use Rattle.flat_machine.specs.State.{State, Guest}
 use Rattle.world_parts.specs.declared.in_the_way.InTheWay.{InTheWay}
@@ -25,9 +23,3 @@ IsFirstOf s disks (Some found) = MustWait s disks found.guest found.request
 abbrev pub held_if : Option InTheWay → List ℕ → Drained → Drained
 held_if None disks drains = drains
 held_if (Some found) disks drains = after_later disks drains
-
--- the commands that are carried out and drain a disk
-abbrev pub is_drain : Cmd → Bool
-is_drain (command.DeviceDel id) = true
-is_drain (command.BlockdevSnapshot c) = true
-is_drain c = false

@@ -4,17 +4,15 @@ use Rattle.blk_bitmaps.specs.declared.row.Bitmap.{Bitmap}
 use Rattle.blk_bitmaps.specs.Calls.{rows_after_call, RemoveAll}
 use Rattle.qmp_codec.specs.Commands.{Cmd}
 use Rattle.qmp_codec.specs.declared.command.Command.TheVariants as command
-use Rattle.qmp_codec.specs.declared.nodes.DeviceAdd.{DeviceAdd}
 use Rattle.qmp_rules.specs.Answers.{answer, refusal_to, told_none}
 use Rattle.qmp_rules.specs.Changes.{all_changed}
-use Rattle.qmp_rules.specs.Table.{RunTable, device_named, id_named}
+use Rattle.qmp_rules.specs.Table.{RunTable, id_named, kinds_of}
 use Rattle.qmp_rules.specs.declared.judge.PrepareStop.{PrepareStop}
 use Rattle.qmp_rules.specs.declared.judge.PrepareStop.TheVariants.{Refused, NoMemory}
 use Rattle.qmp_rules.specs.declared.refusal.Refusal.{Refusal}
-use Rattle.qmp_rules.specs.declared.rows.DeviceRow.{DeviceRow}
-use Rattle.blk_nodes.specs.Adding.{guest_edge, with_below, without_guest}
 use Rattle.blk_nodes.specs.Contents.{disk_of}
 use Rattle.blk_nodes.specs.Nodes.{Nodes}
+use Rattle.blk_nodes.specs.Rewiring.{rewired, AreReadings}
 use Rattle.world_parts.specs.Deleting.{going}
 use Rattle.world_parts.specs.Saying.{IsSaid}
 
@@ -42,7 +40,7 @@ abbrev pub SaysRefusal : List ℕ → PrepareStop → List ℕ → Type 0
 SaysRefusal given (Refused cause) text = IsSaid given (Err cause) text
 SaysRefusal given NoMemory text = ⊥
 
--- ---- guests' devices
+-- ---- bitmaps
 
 -- the bitmaps of nodes that go
 abbrev pub bitmaps_but : List ℕ → List Bitmap → List Bitmap
@@ -58,18 +56,9 @@ abbrev pub bitmaps_deleted : RunTable → Cmd → List Bitmap → List Bitmap
 bitmaps_deleted t (command.BlockdevDel name) bitmaps = bitmaps_named t (id_named t name) bitmaps
 bitmaps_deleted t c bitmaps = bitmaps
 
--- the edge is drawn
-pub record IsAttached (u : RunTable) (c : DeviceAdd (List ℕ)) (nodes now : Nodes) : Type 0 where
-  pub device : DeviceRow
-  pub named : device_named u c.id ≡ Some device
-  pub node : ℕ
-  pub found : id_named u c.drive ≡ Some node
-  pub drawn : now ≡ with_below nodes (guest_edge nodes device.number node device.share_rw)
-  pub disks : (other : ℕ) → disk_of now other ≡ disk_of nodes other
+-- ---- edges
 
--- its guest is on no node any more
-pub record IsDetached (t : RunTable) (id : List ℕ) (nodes now : Nodes) : Type 0 where
-  pub device : DeviceRow
-  pub named : device_named t id ≡ Some device
-  pub gone : now ≡ without_guest device.number nodes
-  pub disks : (other : ℕ) → disk_of now other ≡ disk_of nodes other
+-- the nodes have the table's kinds and edges, and disks that go with these are what they read as
+pub record IsRewired (u : RunTable) (nodes now : Nodes) : Type 0 where
+  pub are : now ≡ rewired (kinds_of u.nodes) u.edges nodes
+  pub reads : (reads : ℕ → List ℕ) → AreReadings now reads → (node : ℕ) → disk_of now node ≡ reads node

@@ -11,13 +11,11 @@ use Rattle.qmp_rules.specs.declared.refusal.Refusal.{Refusal}
 use Rattle.qmp_rules.specs.declared.told.Told.{Told}
 use Rattle.world_parts.specs.Adding.{Adding, Taken}
 use Rattle.world_parts.specs.Deleting.{Ground, IsDeleted, ground_in}
-use Rattle.world_parts.specs.Handling.{IsDetached}
-use Rattle.world_parts.specs.Handling.{IsAttached, bitmaps_deleted}
+use Rattle.world_parts.specs.Handling.{IsRewired, bitmaps_deleted}
 use Rattle.world_parts.specs.Joining.{HasAdded}
 use Rattle.world_parts.specs.Looking.{HasLooked, Site, site}
 use Rattle.world_parts.specs.Making.{MadeSo}
 use Rattle.world_parts.specs.Recorded.{AreAfter}
-use Rattle.world_parts.specs.Snapshots.{IsCovered}
 use Rattle.world_parts.specs.Staging.{IsNotAdded, back_if}
 
 -- ---- additions
@@ -49,11 +47,11 @@ abbrev pub LeavesDone : RunTable → Cmd → RunTable → Site → Site → Type
 LeavesDone t (command.BlockdevDel name) u old new =
     IsDeleted t name (ground_at old) (ground_at new)
 LeavesDone t (command.DeviceAdd c) u old new =
-    (new.store ≡ old.store) × IsAttached u c old.nodes new.nodes
+    (new.store ≡ old.store) × IsRewired u old.nodes new.nodes
 LeavesDone t (command.DeviceDel id) u old new =
-    (new.store ≡ old.store) × IsDetached t id old.nodes new.nodes
+    (new.store ≡ old.store) × IsRewired u old.nodes new.nodes
 LeavesDone t (command.BlockdevSnapshot c) u old new =
-    (new.store ≡ old.store) × IsCovered t c old.nodes new.nodes
+    (new.store ≡ old.store) × IsRewired u old.nodes new.nodes
 LeavesDone t c u old new = new ≡ old
 
 -- Told this, it is refused or not. A refusal leaves all as it was, but for the looks of an addition, and for what a call of a

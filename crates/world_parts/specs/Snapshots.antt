@@ -1,18 +1,14 @@
--- What the image of an overlay tells, and nodes with an overlay over one.
+-- What the image of an overlay tells.
 use Rattle.std.specs.Prelude.{◌≡◌, ◌↔◌, ℕ, Bool, false, List, Some}
 use Rattle.q2_image.specs.Image.{Known}
 use Rattle.qmp_codec.specs.Commands.{Cmd}
 use Rattle.qmp_codec.specs.declared.command.Command.TheVariants as command
-use Rattle.qmp_codec.specs.declared.nodes.Snapshot.{Snapshot}
 use Rattle.qmp_rules.specs.Table.{RunTable, id_named, has_name}
-use Rattle.blk_nodes.specs.Covering.{covered, IsClear, ReadCovered}
 use Rattle.blk_nodes.specs.Nodes.{DeviceSeen, Nodes, device_in, file_of, row_at}
 use Rattle.blk_nodes.specs.Overlays.{IsFresh}
 use Rattle.blk_nodes.specs.declared.row.Driver.TheVariants.{Qcow2}
 use Rattle.blk_nodes.specs.declared.row.Row.{Row}
 use Rattle.flat_machine.specs.Imaging.{maps_some}
-
--- ---- what the image of an overlay tells
 
 -- it is in a file of which these bytes are told
 pub record IsInBytes (nodes : Nodes) (node : ℕ) (bytes : List ℕ) : Type 0 where
@@ -39,14 +35,3 @@ TellsOverlay t nodes overlay mapped = (node : ℕ) → id_named t overlay ≡ So
 abbrev pub TellsMapped : RunTable → Nodes → Cmd → List (List ℕ) → Type 0
 TellsMapped t nodes (command.BlockdevSnapshot c) mapped = TellsOverlay t nodes c.overlay mapped
 TellsMapped t nodes c mapped = Unit {0}
-
--- ---- the nodes
-
--- it is over it; where it maps no cluster it reads as the node did
-pub record IsCovered (t : RunTable) (c : Snapshot (List ℕ)) (nodes now : Nodes) : Type 0 where
-  pub node : ℕ
-  pub overlay : ℕ
-  pub node_is : id_named t c.node ≡ Some node
-  pub overlay_is : id_named t c.overlay ≡ Some overlay
-  pub over : now ≡ covered node overlay nodes
-  pub disks : IsClear nodes overlay → ReadCovered nodes now node overlay

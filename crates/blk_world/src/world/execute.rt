@@ -7,10 +7,10 @@ ghost use Rattle.flat_machine.specs.Legal.{IsNotDone};
 ghost use Rattle.flat_machine.specs.declared.opening.Opening.{Opening};
 ghost use Rattle.world_parts.specs.Face.{seen_state};
 ghost use Rattle.world_parts.specs.Comes.{Comes};
-ghost use Rattle.world_parts.specs.Draining.{is_drain};
 ghost use Rattle.world_parts.specs.Progress.{with_bare_entry};
 ghost use Rattle.world_parts.specs.Saying.{given_line};
 ghost use Rattle.world_parts.specs.Steps.{lifted, with_history};
+ghost use Rattle.world_changes.specs.Changing.{is_change};
 ghost use Rattle.world_parts.specs.Carrying.{IsCarriedAs, IsCarriedOut, IsExecuted, IsPutBack, IsPutBackBy, IsPutBackIn};
 
 use crate::world::World;
@@ -28,14 +28,15 @@ fn copied(alloc: Global, text: &str) -> Result<String, NoMemory>
 }
 
 impl<S: Store> World<S> {
-    /// Carries out a command that drains no disk, or refuses it. Gives the text of the answer, which isn't noted yet.
+    /// Carries out a command that adds, makes or drops nodes or asks what is dirty, or refuses it. Gives the text of the answer, which
+    /// isn't noted yet.
     fn carry_at_once(
         &mut self,
         alloc: Global,
         given: &str,
         command: &Command,
     ) -> Result<String, NoMemory>
-        requires { is_drain (seen_command command.now) ≡ false }
+        requires { is_change (seen_command command.now) ≡ false }
         ensures carried { IfOk result (λ text. IsCarriedAs self.old self.new given.now
             (seen_command command.now) (string_bytes text)) }
         ensures back { OnErr result (IsPutBackBy self.old self.new (seen_command command.now)) }
@@ -44,15 +45,7 @@ impl<S: Store> World<S> {
             Command::BlockdevAdd(_) => self.carry_addition(alloc, given, command),
             Command::BlockdevCreate(_) => self.carry_creation(alloc, given, command),
             Command::BlockdevDel(_) => self.carry_deletion(alloc, given, command),
-            Command::DeviceAdd(_) => self.carry_attachment(alloc, given, command),
-            Command::QueryNamedBlockNodes(_) => self.carry_counts(alloc, given, command),
-            Command::BitmapAdd(_)
-            | Command::BitmapRemove(_)
-            | Command::BitmapClear(_)
-            | Command::BitmapEnable(_)
-            | Command::BitmapDisable(_)
-            | Command::BitmapMerge(_) => self.carry_bitmaps(alloc, given, command),
-            _ => self.carry_alone(alloc, given, command),
+            _ => self.carry_counts(alloc, given, command),
         }
     }
 
@@ -64,9 +57,13 @@ impl<S: Store> World<S> {
         ensures back { OnErr result (IsPutBackBy self.old self.new (seen_command command.now)) }
     {
         match command {
-            Command::DeviceDel(_) => self.carry_detachment(alloc, given, command),
-            Command::BlockdevSnapshot(_) => self.carry_snapshot(alloc, given, command),
-            _ => Ok(Carried::Said(self.carry_at_once(alloc, given, command)?)),
+            Command::BlockdevAdd(_)
+            | Command::BlockdevCreate(_)
+            | Command::BlockdevDel(_)
+            | Command::QueryNamedBlockNodes(_) => {
+                Ok(Carried::Said(self.carry_at_once(alloc, given, command)?))
+            }
+            _ => self.carry_changes(alloc, given, command),
         }
     }
 
