@@ -1,0 +1,65 @@
+//! Rows that are played more than once.
+
+use crate::script::numbered;
+use row_text::{Row, RowStop};
+use std::alloc::Global;
+
+/// A row that is played later, with a number in the place of each `%`.
+#[derive(Drop)]
+pub(crate) struct Later {
+    pub(crate) key: String,
+    pub(crate) words: String,
+    pub(crate) expected: String,
+}
+
+/// Rows that are played for each of some numbers.
+#[derive(Drop)]
+pub(crate) struct Block {
+    from: u64,
+    step: u64,
+    /// How many numbers there are.
+    pub(crate) count: u64,
+    pub(crate) rows: Vec<Later>,
+}
+
+impl Later {
+    /// A copy of a row, with this number in the place of each `%`.
+    pub(crate) fn numbered(&self, alloc: Global, number: u64) -> Result<Later, RowStop> {
+        Ok(Later {
+            key: numbered(alloc, self.key.as_str(), number)?,
+            words: numbered(alloc, self.words.as_str(), number)?,
+            expected: numbered(alloc, self.expected.as_str(), number)?,
+        })
+    }
+}
+
+impl Block {
+    /// `each FROM TO STEP`: the rows up to `end` are played for FROM and each number behind it by STEP that is below TO.
+    pub(crate) fn begun(alloc: Global, row: &Row) -> Result<Block, RowStop> {
+        let (from, to, step) = (row.number(0)?, row.number(1)?, row.number(2)?);
+        if step == 0 {
+            return Err(RowStop::Number);
+        }
+        Ok(Block {
+            from,
+            step,
+            count: to.saturating_sub(from).div_ceil(step),
+            rows: Vec::new(alloc),
+        })
+    }
+
+    /// Takes a row that is played later.
+    pub(crate) fn record(&mut self, alloc: Global, row: &Row) -> Result<(), RowStop> {
+        self.rows.push(Later {
+            key: String::from_str(alloc, row.key)?,
+            words: String::from_str(alloc, row.words)?,
+            expected: String::from_str(alloc, row.expected)?,
+        })?;
+        Ok(())
+    }
+
+    /// The number at a place.
+    pub(crate) fn number(&self, place: u64) -> u64 {
+        self.from.saturating_add(self.step.saturating_mul(place))
+    }
+}
