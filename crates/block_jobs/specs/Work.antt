@@ -135,11 +135,12 @@ after_settle kind block work = without_transfer block (without_block block work)
 abbrev pub after_copy : ℕ → JobWork → JobWork
 after_copy block work = without_transfer block (without_block block work)
 
--- Nothing is left to do from then on; copies in flight stay so. The first fault is kept.
+-- nothing is left to do from then on, no copy is in flight, and the first fault is kept
 abbrev pub failed_by : Fault → JobWork → JobWork
 failed_by fault work =
     record work {
       left = replicate (length work.left) false;
+      rows = [];
       met = Some (unwrap_or work.met fault);
     }
 

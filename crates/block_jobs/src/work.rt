@@ -220,11 +220,12 @@ impl JobWork {
         self.copies.close_row(self.job, block);
     }
 
-    /// A call for the job failed: nothing is left, the copies in flight stay so, and the first fault is kept.
+    /// A call for the job failed: nothing is left, the copies in flight are dropped, and the first fault is kept.
     pub fn fail(&mut self, fault: Fault)
         ensures { self.new ≡ failed_by fault self.old }
     {
         empty(&mut self.left);
+        self.copies.clear();
         self.met = Some(self.met.unwrap_or(fault));
     }
 

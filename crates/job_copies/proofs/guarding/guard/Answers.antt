@@ -1,5 +1,5 @@
 use Rattle.std.proofs.Common.{◌≡◌, ℕ, List, length, Some, None, sym, ◌∙◌, ap, subst}
-use Rattle.std.specs.Prelude.{IsOk}
+use Rattle.std.specs.Prelude.{IsOk, unwrap_or}
 use Rattle.blk_nodes.specs.Contents.{disk_of}
 use Rattle.blk_nodes.specs.Nodes.{Nodes, node_size}
 use Rattle.block_jobs.specs.Ahead.{IsAhead, is_owed}
@@ -33,12 +33,12 @@ returns-in-Ok-clause-free g c = λ none place less at.
 
 pub returns-in-Err-clause-ahead : goal.returns-in-Err-clause-ahead
 returns-in-Err-clause-ahead g c = λ told apart none due goal ahead.
-    let bad : Some c.in-Err.fault ≡ None = sym (ap (λ (w : JobWork). w.met) c.fail.ensures) ∙ none in
+    let bad : Some (unwrap_or c.args.work.now.met c.in-Err.fault) ≡ None = sym (ap (λ (w : JobWork). w.met) c.fail.ensures) ∙ none in
     absurd (cc bad)
 
 pub returns-in-Err-clause-free : goal.returns-in-Err-clause-free
 returns-in-Err-clause-free g c = λ none place less at.
-    let bad : Some c.in-Err.fault ≡ None = sym (ap (λ (w : JobWork). w.met) c.fail.ensures) ∙ none in
+    let bad : Some (unwrap_or c.args.work.now.met c.in-Err.fault) ≡ None = sym (ap (λ (w : JobWork). w.met) c.fail.ensures) ∙ none in
     absurd (cc bad)
 
 pub returns-then-sectors-eq0-clause-free : goal.returns-then-sectors-eq0-clause-free

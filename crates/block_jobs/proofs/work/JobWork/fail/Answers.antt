@@ -1,5 +1,8 @@
-use Rattle.std.proofs.Common.{◌∙◌, ap, length}
+use Rattle.std.proofs.Common.{◌∙◌, ap, length, sym, subst, List}
 use Rattle.std.proofs.lemmas.List.{length-replicate}
+use Rattle.blk_copy.specs.declared.transfers.Transfer.{Transfer}
+use Rattle.blk_copy.specs.Table.{Table}
+use Rattle.block_jobs.specs.Work.{AreCopiesOf}
 use Rattle.block_jobs.proofs.work.JobWork.fail.Goals as goal
 
 pub invariant_of-self : goal.invariant_of-self
@@ -11,5 +14,5 @@ invariant_of-self c =
       sectors = is.sectors;
       blocks = is.blocks;
       left = ap length c.empty.ensures ∙ length-replicate _ _ ∙ is.left;
-      copies = is.copies;
+      copies = subst (λ (rows : List Transfer). AreCopiesOf c.self.inside.job c.self.inside.size rows) (sym (ap (λ (t : Table). t.rows) c.clear.ensures)) tt;
     }
