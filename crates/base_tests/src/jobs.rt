@@ -6,28 +6,25 @@ use std::test::Fail;
 fn one_job_from_start_to_end(rt: HostRuntime) -> Result<(), Fail> {
     let alloc = rt.alloc();
     let mut jobs = Jobs::new(alloc)?;
-    assert_eq!(rt; jobs.cancel("m", true), Err(JobStop::NotActive));
+    assert!(rt; jobs.cancel("m", true) == Err(JobStop::NotActive));
     let m = jobs.enter(Text::copied(alloc, "m")?, None)?;
     let b = jobs.enter(Text::copied(alloc, "b")?, Some(7))?;
-    assert_eq!(rt; (m, b), (0, 1));
-    assert_eq!(rt;
-        jobs.enter(Text::copied(alloc, "m")?, None),
-        Err(JobStop::IdTaken)
-    );
-    assert_eq!(rt; jobs.complete("m"), Err(JobStop::NotReady));
-    assert_eq!(rt; jobs.complete("x"), Err(JobStop::NotActive));
+    assert!(rt; (m, b) == (0, 1));
+    assert!(rt; jobs.enter(Text::copied(alloc, "m")?, None) == Err(JobStop::IdTaken));
+    assert!(rt; jobs.complete("m") == Err(JobStop::NotReady));
+    assert!(rt; jobs.complete("x") == Err(JobStop::NotActive));
     jobs.advance(m, JobState::Running);
-    assert_eq!(rt; jobs.complete("m"), Err(JobStop::NotReady));
+    assert!(rt; jobs.complete("m") == Err(JobStop::NotReady));
     jobs.advance(m, JobState::Ready);
-    assert_eq!(rt; jobs.complete("m"), Ok(0));
-    assert_eq!(rt; jobs.cancel("b", false), Ok(1));
+    assert!(rt; jobs.complete("m") == Ok(0));
+    assert!(rt; jobs.cancel("b", false) == Ok(1));
     jobs.advance(m, JobState::Concluded);
     jobs.remove(m);
-    assert_eq!(rt; jobs.cancel("m", false), Err(JobStop::NotActive));
-    assert_eq!(rt; jobs.enter(Text::copied(alloc, "m")?, None), Ok(0));
+    assert!(rt; jobs.cancel("m", false) == Err(JobStop::NotActive));
+    assert!(rt; jobs.enter(Text::copied(alloc, "m")?, None) == Ok(0));
     if let Some(row) = &jobs.rows()[0] {
-        assert_eq!(rt; row.number, 2);
-        assert_eq!(rt; row.state, JobState::Created);
+        assert!(rt; row.number == 2);
+        assert!(rt; row.state == JobState::Created);
     }
     Ok(())
 }
@@ -39,17 +36,11 @@ fn a_full_table(rt: HostRuntime) -> Result<(), Fail> {
     let ids = [
         "a", "b", "c", "d", "e", "f", "g", "h", "i", "j", "k", "l", "m", "n", "o", "p",
     ];
-    assert_eq!(rt; ids.len(), MOST_JOBS);
+    assert!(rt; ids.len() == MOST_JOBS);
     for id in ids {
         jobs.enter(Text::copied(alloc, id)?, None)?;
     }
-    assert_eq!(rt;
-        jobs.enter(Text::copied(alloc, "q")?, None),
-        Err(JobStop::TooMany)
-    );
-    assert_eq!(rt;
-        jobs.enter(Text::copied(alloc, "p")?, None),
-        Err(JobStop::IdTaken)
-    );
+    assert!(rt; jobs.enter(Text::copied(alloc, "q")?, None) == Err(JobStop::TooMany));
+    assert!(rt; jobs.enter(Text::copied(alloc, "p")?, None) == Err(JobStop::IdTaken));
     Ok(())
 }

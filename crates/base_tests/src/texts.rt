@@ -7,10 +7,10 @@ fn texts_grow(rt: HostRuntime) -> Result<(), Fail> {
     assert!(rt; text.is_empty());
     text.push_str("dev");
     text.push_ascii(b'\n');
-    assert_eq!(rt; text.as_str(), "dev\n");
-    assert_eq!(rt; text.len(), 4);
+    assert!(rt; text.as_str() == "dev\n");
+    assert!(rt; text.len() == 4);
     text.clear();
-    assert_eq!(rt; text.as_str(), "");
+    assert!(rt; text.as_str() == "");
     assert!(rt; text.spare() >= 64);
     Ok(())
 }
@@ -22,10 +22,7 @@ fn names_by_place(rt: HostRuntime) -> Result<(), Fail> {
         names.push(Text::copied(rt.alloc(), name)?)?;
     }
     let names = Names1::from_vec(names);
-    assert_eq!(rt; names.len(), 3);
-    assert_eq!(rt;
-        (names.name_at(0), names.name_at(1), names.name_at(2)),
-        ("a", "", "b2")
-    );
+    assert!(rt; names.len() == 3);
+    assert!(rt; (names.name_at(0), names.name_at(1), names.name_at(2)) == ("a", "", "b2"));
     Ok(())
 }
