@@ -7,8 +7,8 @@ use qmp_codec::{
     InlineFile, JobOptions, MergeSource, Mirror, NodeOptions, OnError, Sharing, Snapshot, Stream,
     Sync, Transaction, Version,
 };
+use row_text::RowStop;
 use std::alloc::Global;
-use std::test::Fail;
 
 /// What is written so far, and whether there was memory for all of it.
 #[derive(Drop)]
@@ -471,7 +471,7 @@ impl Words {
 }
 
 /// A command in words.
-pub(super) fn shown(alloc: Global, command: &Command) -> Result<String, Fail> {
+pub(crate) fn shown(alloc: Global, command: &Command) -> Result<String, RowStop> {
     let out = String::from_str(alloc, command_name(command))?;
     let mut words = Words {
         out,
@@ -479,7 +479,7 @@ pub(super) fn shown(alloc: Global, command: &Command) -> Result<String, Fail> {
     };
     words.members(command);
     if !words.is_whole {
-        return Err(Fail::new("no memory"));
+        return Err(RowStop::NoMemory);
     }
     Ok(words.out)
 }
