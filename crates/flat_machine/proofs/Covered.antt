@@ -122,22 +122,25 @@ module _ (t : RunTable) (node overlay : NodeRecord) (kinds : List NodeKind) (ove
   apart_by_file : (e : Edge) → Contains t.edges e → e.role ≡ File → e.parent ≡ Node overlay.id → e.child ≡ node.id → ⊥
   apart_by_file e there role parent is = by_name node.filename refl
     where
+      own : filter_role overlay.kind ≡ None
+      own = ap filter_role over.driver
+
+      leads : LeadsToFile t overlay node
+      leads = record {
+        over_there = over.overlay_there;
+        under_there = over.node_there;
+        edge = e;
+        there = there;
+        parent = parent;
+        role = role;
+        child = is;
+      }
+
       by_name : (name : Option (List ℕ)) → node.filename ≡ name → ⊥
       by_name (Some name) k =
-          settled-free t told_none h node over.node_there over.disk.settled node (h.apart node over.node_there) (subst IsSome (sym k) refl)
-          (record { edge = e; there = there; over = role; child = is })
+          settled-free t told_none h node over.node_there over.disk.settled node overlay (h.apart node over.node_there) (subst IsSome (sym k) refl) leads own
       by_name None k =
-          let filter = h.filtered overlay node
-          (record {
-            over_there = over.overlay_there;
-            under_there = over.node_there;
-            edge = e;
-            there = there;
-            parent = parent;
-            role = role;
-            child = is;
-          }) k in
-          let own : filter_role overlay.kind ≡ None = ap filter_role over.driver in
+          let filter = h.filtered overlay node leads k in
           let bad = subst IsSome own filter in
           cc
 
@@ -342,7 +345,7 @@ module _ (t : RunTable) (node overlay : NodeRecord) (over : LiesOver t node over
               absurd cc
           by_name under there to of (Some name) is =
               let some : IsSome under.filename = subst IsSome (sym is) refl in
-              record { under = under; there = there; leads = to; named = some; gone = (h.taken overlay under of some).gone }
+              record { under = under; there = there; leads = to; named = some; gone = (h.taken overlay under of some (ap filter_role over.driver)).gone }
 
   away : Reaches t.edges overlay.id node.id → ⊥
   away reaches = by_rest reaches.rest reaches.path.2

@@ -116,13 +116,15 @@ gone_writing s number h =
       left = All-weaker (IsUsedUp s) (IsUsedUp now) (λ l used. left_still s now (IsThere s.table) NoRow NoEdge grow l used.used
           (λ r never. absurd never) (λ e r never. absurd never) used) s.left h.writing.left;
       written = λ other name here entered of known. known;
+      used = λ other name here entered of used. used;
+      copies_new = λ r disk never. absurd never;
       emptied = λ other name here entered of none. none;
       devices = λ other device found.
           let was = device_left number other s.table.devices device found in
           inl (was.0, drive_left s.table now.table number refl (kinds_of s.table.nodes) refl h.table other was.1);
       drives = λ g drive is. drive_there s.table h.table.edges g drive is;
     })
-    h.table.apart h.writing
+    h.table h.writing
   where
     now : State
     now = stepped s (change.RemoveDevice number)

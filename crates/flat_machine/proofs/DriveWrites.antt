@@ -9,7 +9,7 @@ use Rattle.blk_graph.specs.declared.edge.Role.TheVariants.{File}
 use Rattle.blk_graph.proofs.Members.{find-Some}
 use Rattle.qmp_rules.specs.declared.rows.NodeRecord.{NodeRecord}
 use Rattle.qmp_rules.specs.declared.rows.DeviceRow.{DeviceRow}
-use Rattle.qmp_rules.specs.Table.{node_by_id, child, has_name}
+use Rattle.qmp_rules.specs.Table.{RunTable, node_by_id, child, has_name}
 use Rattle.qmp_rules.specs.Chains.{filter_role, disk_node}
 use Rattle.blk_history.specs.Fold.{With}
 use Rattle.flat_machine.specs.State.{State, Unknown, Left, content_in}
@@ -18,11 +18,13 @@ use Rattle.flat_machine.specs.Writing.{IsGuestWritable}
 use Rattle.flat_machine.specs.Wiring.{StandsFor, LeadsToFile, IsDiskOf, writes_through}
 use Rattle.flat_machine.specs.Standing.{IsUsedUp, MayGuestWrite, Stands}
 use Rattle.flat_machine.proofs.Kept.{own_disk}
-use Rattle.flat_machine.proofs.WritingKept.{role_edge, WritesFileUnder, writes_file}
+use Rattle.flat_machine.proofs.WritingKept.{role_edge, IsNoFilter, WritesFileUnder, writes_file}
 
--- A guest on a node writes what may be written, where a `file` node has its flat disk and was used.
+-- A guest on a node writes what may be written, where a `file` node that it reads as has its flat disk and was used.
 pub drive_may : (s : State) (device : DeviceRow) (row : NodeRecord) → Stands s → Contains s.table.nodes row → device.read_only ≡ row.read_only
-    → (IsSome row.filename → row.is_settled ≡ true) → ((name : List ℕ) → row.filename ≡ Some name → content_in s.files name ≡ Some Unknown)
+    → ((disk : NodeRecord) → node_by_id s.table (disk_node s.table row.id) ≡ Some disk → IsSome disk.filename → disk.is_settled ≡ true)
+    → ((disk : NodeRecord) (name : List ℕ) → node_by_id s.table (disk_node s.table row.id) ≡ Some disk → disk.filename ≡ Some name
+    → content_in s.files name ≡ Some Unknown)
     → MayGuestWrite s device row.id
 drive_may s device row h there same settled known writes = by_disk (node_by_id s.table disk) refl (h.table.reads row.id row (h.table.apart row there))
   where
@@ -69,13 +71,6 @@ drive_may s device row h there same settled known writes = by_disk (node_by_id s
               child = to.to;
             }
 
-        -- it is the drive itself, where it is a `file` node
-        is_drive : (r : NodeRecord) → Contains s.table.nodes r → r.id ≡ disk → IsSome r.filename → r ≡ row
-        is_drive r r_there is some =
-            let as_disk : d ≡ r = same_row d r here r_there (id_is ∙ sym is) in
-            let itself = of.itself (subst (λ x. IsSome x.filename) (sym as_disk) some) in
-            same_row r row r_there there (is ∙ sym id_is ∙ itself)
-
         no_disk : (file : ℕ) (r : NodeRecord) → child s.table disk File ≡ Some file → node_by_id s.table file ≡ Some r → HasDisk r → ⊥
         no_disk file r is found has =
             let r_here = find-Some (λ x. x.id == file) s.table.nodes r found in
@@ -85,18 +80,19 @@ drive_may s device row h there same settled known writes = by_disk (node_by_id s
             by_name : (r : NodeRecord) → LeadsToFile s.table d r → (name : Option (List ℕ)) → r.filename ≡ name → HasDisk r → ⊥
             by_name r f None k has = let filter = h.table.filtered d r f k in let own = of.own in let none = subst IsSome own filter in cc
             by_name r f (Some name) k has =
-                let gone = (h.table.taken d r f (subst IsSome (sym k) refl)).gone in
+                let gone = (h.table.taken d r f (subst IsSome (sym k) refl) of.own).gone in
                 let kept = has.settled in
                 cc
 
         is_known : (name : List ℕ) → WritesFileUnder s.table disk name → content_in s.files name ≡ Some Unknown
         is_known name w = by_from w.from
           where
-            by_from : ((w.row.id ≡ disk) ⊎ (child s.table disk File ≡ Some w.row.id)) → content_in s.files name ≡ Some Unknown
+            by_from : ((w.row.id ≡ disk) ⊎ ((child s.table disk File ≡ Some w.row.id) × IsNoFilter s.table disk))
+                → content_in s.files name ≡ Some Unknown
             by_from (inl is) =
-                let drive = is_drive w.row w.stands.there is (subst IsSome (sym w.stands.filename) refl) in
-                known name (ap (λ r. r.filename) (sym drive) ∙ w.stands.filename)
-            by_from (inr is) = h.writing.unknown name d w.row (has_file w.row w.stands.there is) w.stands.filename
+                let as_disk : d ≡ w.row = same_row d w.row here w.stands.there (id_is ∙ sym is) in
+                known d name e (ap (λ r. r.filename) as_disk ∙ w.stands.filename)
+            by_from (inr is) = h.writing.unknown name d w.row (has_file w.row w.stands.there is.0) w.stands.filename
 
         not_left : (name : List ℕ) → WritesFileUnder s.table disk name → (l : Left) → IsUsedUp s l → l.file ≡ name → ⊥
         not_left name w l used same_file = by_from w.from
@@ -104,28 +100,34 @@ drive_may s device row h there same settled known writes = by_disk (node_by_id s
             over : StandsFor s.table l.file w.row
             over = subst (λ n. StandsFor s.table n w.row) (sym same_file) w.stands
 
-            by_from : ((w.row.id ≡ disk) ⊎ (child s.table disk File ≡ Some w.row.id)) → ⊥
+            by_from : ((w.row.id ≡ disk) ⊎ ((child s.table disk File ≡ Some w.row.id) × IsNoFilter s.table disk)) → ⊥
             by_from (inl is) =
-                let some = subst IsSome (sym w.stands.filename) refl in
-                let drive = is_drive w.row w.stands.there is some in
-                let kept = settled (subst (λ r. IsSome r.filename) drive some) in
-                let gone = subst (λ r. r.is_settled ≡ false) drive (used.gone w.row over) in
+                let as_disk : d ≡ w.row = same_row d w.row here w.stands.there (id_is ∙ sym is) in
+                let kept = settled d e (subst IsSome (sym (ap (λ r. r.filename) as_disk ∙ w.stands.filename)) refl) in
+                let gone = ap (λ r. r.is_settled) as_disk ∙ used.gone w.row over in
                 cc
             by_from (inr is) =
-                let f = has_file w.row w.stands.there is in
+                let f = has_file w.row w.stands.there is.0 in
                 used.is_open w.row over (record { edge = f.edge; there = f.there; over = f.role; child = f.child })
 
         is_named : (name : List ℕ) → WritesFileUnder s.table disk name → has_name name s.named ≡ true
         is_named name w = by_from w.from
           where
-            by_from : ((w.row.id ≡ disk) ⊎ (child s.table disk File ≡ Some w.row.id)) → has_name name s.named ≡ true
+            by_from : ((w.row.id ≡ disk) ⊎ ((child s.table disk File ≡ Some w.row.id) × IsNoFilter s.table disk)) → has_name name s.named ≡ true
             by_from (inl is) =
                 let as_disk : d ≡ w.row = same_row d w.row here w.stands.there (id_is ∙ sym is) in
                 h.writing.named name w.row w.stands (subst (λ r. r.read_only ≡ false) as_disk (of.writable did))
             by_from (inr is) =
-                let f = has_file w.row w.stands.there is in
-                let taken = h.table.taken d w.row f (subst IsSome (sym w.stands.filename) refl) in
+                let f = has_file w.row w.stands.there is.0 in
+                let taken = h.table.taken d w.row f (subst IsSome (sym w.stands.filename) refl) of.own in
                 h.writing.named name w.row w.stands (taken.writable (of.writable did))
+
+-- a node that is no filter has its own disk
+pub one-disk : (t : RunTable) (row : NodeRecord) → node_by_id t row.id ≡ Some row → filter_role row.kind ≡ None
+    → (disk : NodeRecord) → node_by_id t (disk_node t row.id) ≡ Some disk → disk ≡ row
+one-disk t row found own disk at =
+    let at_row : node_by_id t row.id ≡ Some disk = subst (λ n. node_by_id t n ≡ Some disk) (own_disk t row.id row found own) at in
+    cc
 
 -- so does one on a node that may be written, and is neither a filter nor a `file` node
 pub own_writable : (s : State) (row : NodeRecord) → Stands s → Contains s.table.nodes row → filter_role row.kind ≡ None → row.filename ≡ None
@@ -133,4 +135,8 @@ pub own_writable : (s : State) (row : NodeRecord) → Stands s → Contains s.ta
 own_writable s row h there own none writable =
     subst (IsGuestWritable s) (own_disk s.table row.id row (h.table.apart row there) own)
     (drive_may s (record { id = []; number = 0; share_rw = false; read_only = row.read_only }) row h there refl
-    (λ some. absurd (let bad = subst IsSome none some in cc)) (λ name is. absurd cc) (rw writable refl))
+    (λ disk at some. absurd (let bad = subst IsSome (unnamed disk at) some in cc)) (λ disk name at is. absurd (let bad = unnamed disk at in cc))
+    (rw writable refl))
+  where
+    unnamed : (disk : NodeRecord) → node_by_id s.table (disk_node s.table row.id) ≡ Some disk → disk.filename ≡ None
+    unnamed disk at = ap (λ r. r.filename) (one-disk s.table row (h.table.apart row there) own disk at) ∙ none

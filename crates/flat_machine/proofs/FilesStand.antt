@@ -90,14 +90,14 @@ module _ (s now : State) (name : List ℕ) (state : FileState) (content : Conten
 
   pub files_writing : now.files ≡ with_content name content s.files → now.disks ≡ s.disks → now.table.devices ≡ s.table.devices
       → ((n : List ℕ) → has_name n s.named ≡ true → has_name n now.named ≡ true) → Forgets s now name state
-      → ((content ≡ Unknown) ⊎ IsSpared s.table name) → WritingStands now
+      → (((content ≡ Unknown) × (state ≡ Used)) ⊎ IsSpared s.table name) → WritingStands now
   files_writing contents disks devices names forgets spared =
       grown_writing s now (IsThere s.table) NoRow NoEdge grow
       (record {
         names = names;
         names_new = λ n r never. absurd never;
         known = λ n over under f is known. still_unknown n known
-            (λ same. elim spared [ inl unknown ↦ unknown | inr spare ↦ absurd (spare.taken over under f (is ∙ ap Some same)) ]);
+            (λ same. elim spared [ inl used ↦ used.0 | inr spare ↦ absurd (spare.taken over under f (is ∙ ap Some same)) ]);
         known_new = λ n over under f never. absurd never;
         bytes = λ node here some. subst (λ ds. IsSome (find (λ d. d.node == node) ds)) (sym disks) some;
         bytes_new = λ r never. absurd never;
@@ -107,7 +107,10 @@ module _ (s now : State) (name : List ℕ) (state : FileState) (content : Conten
           | inr gone ↦ subst (All (IsUsedUp now)) (sym gone) (left_filtered s.left h.writing.left)
         ];
         written = λ node n here entered of known. still_unknown n known
-            (λ same. elim spared [ inl unknown ↦ unknown | inr spare ↦ absurd (spare.written node entered (subst (WritesFileUnder s.table node) same of)) ]);
+            (λ same. elim spared [ inl used ↦ used.0 | inr spare ↦ absurd (spare.written node entered (subst (WritesFileUnder s.table node) same of)) ]);
+        used = λ node n here entered of used. still_of n used
+            (λ same. elim spared [ inl both ↦ both.1 | inr spare ↦ absurd (spare.written node entered (subst (WritesFileUnder s.table node) same of)) ]);
+        copies_new = λ r disk never. absurd never;
         emptied = λ node n here entered of none. elim forgets [
           | inl kept ↦ subst (All (λ l. l.file ≢ n)) (sym kept.0) none
           | inr gone ↦ subst (All (λ l. l.file ≢ n)) (sym gone) (all-filter (λ l. l.file ≢ n) (λ l. not (bytes_eq l.file name)) s.left none)
@@ -115,8 +118,15 @@ module _ (s now : State) (name : List ℕ) (state : FileState) (content : Conten
         devices = same_devices s now devices (λ g. ap (child_of (Guest g) Drive) edges);
         drives = λ g node is. drive_there s.table h.table.edges g node is;
       })
-      h.table.apart h.writing
+      h.table h.writing
     where
+      still_of : (n : List ℕ) → file_state s.table n ≡ Some Used → (n ≡ name → state ≡ Used) → file_state now.table n ≡ Some Used
+      still_of n used same = by_name (cases_name n name)
+        where
+          by_name : ((n ≡ name) ⊎ (n ≢ name)) → file_state now.table n ≡ Some Used
+          by_name (inl is) = subst (λ m. file_state now.table m ≡ Some Used) (sym is) (files.here ∙ ap Some (same is))
+          by_name (inr differ) = files.others n differ ∙ used
+
       still_unknown : (n : List ℕ) → content_in s.files n ≡ Some Unknown → (n ≡ name → content ≡ Unknown) → content_in now.files n ≡ Some Unknown
       still_unknown n known same = subst (λ fs. content_in fs n ≡ Some Unknown) (sym contents) (by_name (cases_name n name))
         where
@@ -224,7 +234,7 @@ use_stands s name h =
       | inr differ ↦ inl (differ, subst (λ r. r.is_settled ≡ false) (same_row s.table h.table.apart row later over.there there like.id) gone)
     ])
     tt (λ never. absurd cc) (rows_table s.table now.table rows refl refl refl h.table)
-    (files_writing s now name Used Unknown rows refl files h refl refl refl (λ n named. named) (inl (refl, refl)) (inl refl)) h
+    (files_writing s now name Used Unknown rows refl files h refl refl refl (λ n named. named) (inl (refl, refl)) (inl (refl, refl))) h
 
 pub spoil_stands : (s : State) (name : List ℕ) → Stands s → Stands (stepped s (change.SpoilFile name))
 unfolding changed
@@ -241,7 +251,7 @@ spoil_stands s name h =
           inl (differ, subst (λ r. r.is_settled ≡ false) (is ∙ kept_lost name other row over.filename differ) gone)
     ])
     tt (λ never. absurd cc) (rows_table s.table now.table rows refl refl refl h.table)
-    (files_writing s now name Used Unknown rows refl files h refl refl refl (λ n named. has_name-grows name n s.named named) (inr refl) (inl refl)) h
+    (files_writing s now name Used Unknown rows refl files h refl refl refl (λ n named. has_name-grows name n s.named named) (inr refl) (inl (refl, refl))) h
 
 pub make_stands : (s : State) (name : List ℕ) (size : ℕ) → HasNoNode s.table name → Stands s → Stands (stepped s (change.MakeFile name size))
 unfolding changed
@@ -301,6 +311,6 @@ format_stands s node name size backing_file backing_fmt suits h =
       taken = λ over under f is. suits.alone f.edge f.there (f.child ∙ at_node under (record { there = f.under_there; filename = is }));
       written = λ other entered of. elim of.from [
         | inl own ↦ suits.alone entered.edge entered.there (entered.child ∙ sym own ∙ at_node of.row of.stands)
-        | inr child ↦ (let e = role_edge (Node other) File s.table.edges of.row.id child in suits.alone e.edge e.there (e.to ∙ at_node of.row of.stands))
+        | inr child ↦ (let e = role_edge (Node other) File s.table.edges of.row.id child.0 in suits.alone e.edge e.there (e.to ∙ at_node of.row of.stands))
       ];
     }

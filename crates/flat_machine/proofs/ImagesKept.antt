@@ -248,7 +248,7 @@ image_in_file t apart drivers node name is file =
           let kinds : Qcow2 ≡ Protocol = sym row.2 ∙ ap (λ (r : NodeRecord). r.kind) same ∙ driver in
           absurd cc
       | inr below ↦
-          let e = role_edge (Node node) File t.edges of.row.id below in
+          let e = role_edge (Node node) File t.edges of.row.id below.0 in
           record {
             over = row.0;
             found = row.1;
@@ -256,7 +256,7 @@ image_in_file t apart drivers node name is file =
             under = of.row;
             there = of.stands.there;
             filename = of.stands.filename;
-            below = below;
+            below = below.0;
             edge = e.edge;
             edge_there = e.there;
             parent = e.from;

@@ -12,7 +12,7 @@ use Rattle.trace_codec.specs.declared.op.Op.{Op}
 use Rattle.trace_codec.specs.declared.op.Op.TheVariants.{Read, Write, Zero, Flush, Discard}
 use Rattle.qmp_rules.specs.declared.rows.NodeRecord.{NodeRecord}
 use Rattle.qmp_rules.specs.Table.{RunTable, node_by_id, child}
-use Rattle.qmp_rules.specs.Chains.{is_listed, disk_node, is_over, unsettled_over, written_under}
+use Rattle.qmp_rules.specs.Chains.{filter_role, is_listed, disk_node, is_over, unsettled_over, written_under}
 use Rattle.blk_history.specs.Fold.{With}
 use Rattle.blk_history.specs.Disk.{done_in}
 use Rattle.blk_history.specs.Machine.{done_by}
@@ -26,7 +26,7 @@ use Rattle.flat_machine.specs.Writing.{PieceDone, written_file}
 use Rattle.flat_machine.specs.Wiring.{LeadsToFile, IsUnderOne, TableStands}
 use Rattle.flat_machine.specs.Imaging.{maps_some, image_at, is_qcow2_at, ShowsImage, ShowsImages, KeepsMapping}
 use Rattle.flat_machine.proofs.Finds.{find-map}
-use Rattle.flat_machine.proofs.WritingKept.{role_edge, IsEntered, drive-enters, disk-enters, WritesFileUnder, writes_file}
+use Rattle.flat_machine.proofs.WritingKept.{role_edge, IsEntered, drive-enters, disk-enters, IsNoFilter, WritesFileUnder, writes_file}
 use Rattle.flat_machine.proofs.ImagesKept.{mapped_of, mapped_at-found, nothing_said, image_still, AreOverFiles, IsSameRow, same_over_files, mapped_over_files, image_in_file, images_still}
 
 -- ---- an entry of which less is said
@@ -78,6 +78,11 @@ module _ (s now : State) (node : ℕ) (old new : Contents) (images : now.images 
           let there = find-Some (λ (r : NodeRecord). r.id == n) s.table.nodes i.over i.found in
           (i.over, i.found, eqb-true i.over.id n there.1, there.0)
 
+      mine_own : filter_role mine.0.kind ≡ None
+      mine_own =
+          let i = image_in_file s.table stands.apart stands.drivers n name image is in
+          ap filter_role i.qcow2
+
       under : (y : NodeRecord) × LeadsToFile s.table mine.0 y × (y.filename ≡ Some name)
       under =
           let i = image_in_file s.table stands.apart stands.drivers n name image is in (
@@ -101,16 +106,16 @@ module _ (s now : State) (node : ℕ) (old new : Contents) (images : now.images 
       ids = stands.alone name of.row under.0 of.stands (record { there = under.1.under_there; filename = under.2 })
 
       taken : IsUnderOne s.table mine.0 under.0
-      taken = stands.taken mine.0 under.0 under.1 (subst IsSome (sym under.2) refl)
+      taken = stands.taken mine.0 under.0 under.1 (subst IsSome (sym under.2) refl) mine_own
 
-      by_from : ((of.row.id ≡ node) ⊎ (child s.table node File ≡ Some of.row.id)) → ⊥
+      by_from : ((of.row.id ≡ node) ⊎ ((child s.table node File ≡ Some of.row.id) × IsNoFilter s.table node)) → ⊥
       by_from (inl own) =
           let sole = taken.sole entered.edge entered.there (entered.child ∙ sym own ∙ ids) in
           let filter = entered.from mine.0 mine.3 sole.0 in
-          let none = subst IsSome taken.format filter in
+          let none = subst IsSome mine_own filter in
           cc
       by_from (inr below) =
-          let e = role_edge (Node node) File s.table.edges of.row.id below in
+          let e = role_edge (Node node) File s.table.edges of.row.id below.0 in
           let sole = taken.sole e.edge e.there (e.to ∙ ids) in
           let same : node ≡ mine.0.id = (let both = sym e.from ∙ sole.0 in cc) in
           differ (sym mine.2 ∙ sym same)

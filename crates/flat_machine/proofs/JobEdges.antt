@@ -84,13 +84,15 @@ over_writing s number slot drops h =
       left = All-weaker (IsUsedUp s) (IsUsedUp now) (λ l used. left_still s now (IsThere s.table) NoRow NoEdge grow l used.used
           (λ r never. absurd never) (λ e r never. absurd never) used) s.left h.writing.left;
       written = λ other name here entered of known. known;
+      used = λ other name here entered of used. used;
+      copies_new = λ r disk never. absurd never;
       emptied = λ other name here entered of none. none;
       devices = same_devices s now refl (λ g.
           child_of-refreshed (kinds_of s.table.nodes) (Guest g) Drive (without_parent (Job slot) s.table.edges)
           ∙ child-without (Job slot) (Guest g) Drive s.table.edges (λ same. cc));
       drives = λ g drive is. drive_there s.table h.table.edges g drive is;
     })
-    h.table.apart h.writing
+    h.table h.writing
   where
     now : State
     now = stepped s (change.EndJob number slot drops)
@@ -155,13 +157,13 @@ module _ (t now : RunTable) (slot : ℕ) (what : JobUse) (node : ℕ) (plain : I
     };
     roles = λ e r is_new there is. absurd (of_no_node e r.id is_new is);
     single = λ e is_new role. absurd (no_file what (is_new.role ∙ role));
-    taken = λ over under f is_new some. absurd (of_no_node f.edge over.id is_new f.parent);
+    taken = λ over under f is_new some own. absurd (of_no_node f.edge over.id is_new f.parent);
+    first = λ over under f is_new some own. absurd (of_no_node f.edge over.id is_new f.parent);
     filtered = λ over under f is_new none. absurd (of_no_node f.edge over.id is_new f.parent);
     on_top = λ e r over is_new there from. absurd (of_no_node e over is_new from);
-    free = λ e over under is_new f some is.
+    free = λ e over under is_new f some own is.
         let same : node ≡ under.id = is_new.child ∙ is in
-        plain.free under (subst (λ n. node_by_id t n ≡ Some under) (sym same) (h.apart under f.under_there)) some
-        (record { edge = f.edge; there = f.there; over = f.role; child = f.child ∙ sym same });
+        plain.free under over (subst (λ n. node_by_id t n ≡ Some under) (sym same) (h.apart under f.under_there)) some f own;
   }
 
   pub use_table : now.guests ≡ t.guests → now.devices ≡ t.devices → TableStands now
@@ -185,13 +187,15 @@ use_writing s slot what node plain h =
       left = All-weaker (IsUsedUp s) (IsUsedUp now) (λ l used. left_still s now (IsThere s.table) NoRow New grow l used.used
           (λ r never. absurd never) (λ e r is_new role child over. absurd (no_file what (is_new.role ∙ role))) used) s.left h.writing.left;
       written = λ other name here entered of known. known;
+      used = λ other name here entered of used. used;
+      copies_new = λ r disk never. absurd never;
       emptied = λ other name here entered of none. none;
       devices = same_devices s now refl (λ g.
           child_of-refreshed kinds (Guest g) Drive (with_edge (job_edge slot what node) s.table.edges)
           ∙ child-kept (Guest g) Drive (job_edge slot what node) s.table.edges (λ same. cc));
       drives = λ g drive is. drive_there s.table h.table.edges g drive is;
     })
-    h.table.apart h.writing
+    h.table h.writing
   where
     now : State
     now = stepped s (change.UseNode slot what node)

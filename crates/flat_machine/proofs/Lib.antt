@@ -15,6 +15,7 @@ pub mod DevicesGone
 pub mod JobEdges
 pub mod FilesStand
 pub mod StandingKept
+pub mod CopiedFiles
 pub mod TableSuited
 pub mod Redirected
 pub mod RedirectedStates

@@ -23,7 +23,7 @@ use Rattle.flat_machine.specs.State.{drive_of}
 use Rattle.flat_machine.specs.Machine.{copies_at, copies_through, path, path_from}
 use Rattle.flat_machine.specs.Agreement.{HasDisk}
 use Rattle.flat_machine.specs.Suiting.{IsAlone}
-use Rattle.flat_machine.specs.Wiring.{HasEnds, StandsFor, LeadsToFile, IsDiskOf, InlineAreUnder, TableStands, writes_through}
+use Rattle.flat_machine.specs.Wiring.{HasEnds, StandsFor, LeadsToFile, IsDiskOf, IsInline, InlineAreUnder, IsUnderNoFormat, TableStands, writes_through}
 use Rattle.flat_machine.proofs.Tables.{HasLike}
 use Rattle.flat_machine.proofs.Rows.{same_row, from-child, path-child, copies-at}
 use Rattle.flat_machine.proofs.Wired.{with_at}
@@ -151,10 +151,11 @@ module _ (t : RunTable) (es : List Edge) (node overlay : NodeRecord) (to : ℕ �
   ]
 
   -- no format node is over the node, which has a flat disk
-  pub node_free : IsSome node.filename → (e : Edge) → Contains t.edges e → e.role ≡ File → e.child ≡ node.id → ⊥
-  node_free some e there role is =
-      settled-free t told_none h node over.node_there over.disk.settled node node_found some
-      (record { edge = e; there = there; over = role; child = is })
+  pub node_free : IsUnderNoFormat t node.id
+  node_free = settled-free t told_none h node over.node_there over.disk.settled
+
+  free_led : (n : ℕ) → IsUnderNoFormat t n → IsUnderNoFormat led n
+  free_led n free under over_row at some f own = free under over_row at some (was_under over_row under f some) own
 
   still_filtered : (over_row under : NodeRecord) → LeadsToFile led over_row under → under.filename ≡ None → IsSome (filter_role over_row.kind)
   still_filtered over_row under f none = elim (r.old f.edge f.there) [
@@ -185,7 +186,19 @@ module _ (t : RunTable) (es : List Edge) (node overlay : NodeRecord) (to : ℕ �
       by_name : (l : LedEdge t to f.edge) → l.edge.child ≡ node.id → (name : Option (List ℕ)) → node.filename ≡ name
           → IsSome (filter_role over_row.kind)
       by_name l at_it None e = into l node over.node_there at_it e
-      by_name l at_it (Some name) e = absurd (node_free (subst IsSome (sym e) refl) l.edge l.there (l.role ∙ f.role) at_it)
+      by_name l at_it (Some name) e = by_role (filter_role over_row.kind) refl
+        where
+          by_role : (role : Option Role) → filter_role over_row.kind ≡ role → IsSome (filter_role over_row.kind)
+          by_role (Some role) filter = subst IsSome (sym filter) refl
+          by_role None own = absurd (node_free node over_row node_found (subst IsSome (sym e) refl) (record {
+            over_there = f.over_there;
+            under_there = over.node_there;
+            edge = l.edge;
+            there = l.there;
+            parent = l.parent ∙ f.parent;
+            role = l.role ∙ f.role;
+            child = at_it;
+          }) own)
 
   still_on_top : (e : Edge) (row : NodeRecord) (above : ℕ) → Contains es e → Contains t.nodes row → e.parent ≡ Node above → e.child ≡ row.id
       → row.kind ≢ CopyOnRead
@@ -319,7 +332,7 @@ module _ (t : RunTable) (es : List Edge) (node overlay : NodeRecord) (to : ℕ �
           let is : row.id ≡ n = eqb-true row.id n here.1 in
           record {
             own = k.own;
-            itself = k.itself;
+            itself = λ some. elim (k.itself some) [ inl same ↦ inl same | inr free ↦ inr (free_led d.id free) ];
             writable = λ w. k.writable (sym (writes_led row.read_only row.id (λ same. differ (sym is ∙ same))) ∙ w);
           }
 
@@ -382,6 +395,7 @@ module _ (t : RunTable) (es : List Edge) (node overlay : NodeRecord) (to : ℕ �
     drivers = λ name row f. h.drivers name row (was_standing name row f);
     names = h.names;
     own_names = h.own_names;
+    hidden = h.hidden;
     alone = λ name a b fa fb. h.alone name a b (was_standing name a fa) (was_standing name b fb);
     edges = ends_led;
     roles = λ e row there row_there is. elim (r.old e there) [
@@ -405,10 +419,9 @@ module _ (t : RunTable) (es : List Edge) (node overlay : NodeRecord) (to : ℕ �
           )
       | inr own ↦ absurd (let bad = own.role ∙ role in cc)
     ];
-    taken = λ over_row under f some.
-        let k = h.taken over_row under (was_under over_row under f some) some in
+    taken = λ over_row under f some format.
+        let k = h.taken over_row under (was_under over_row under f some) some format in
         record {
-          format = k.format;
           gone = k.gone;
           sole = λ e there is. elim (r.old e there) [
             | inl l ↦
@@ -434,9 +447,7 @@ module _ (t : RunTable) (es : List Edge) (node overlay : NodeRecord) (to : ℕ �
   pub led_inline : InlineAreUnder t → InlineAreUnder led
   led_inline inline row above there made =
       let k = inline row above there made in
-      let like = r.keeps k.edge k.there (λ is.
-      let same : row ≡ node = same_row t h.apart node row over.node_there there (sym k.child ∙ is) in
-      node_free (subst (λ x. IsSome x.filename) same k.file) k.edge k.there k.role is) in
+      let like = r.keeps k.edge k.there (λ is. not_node k there (sym k.child ∙ is)) in
       record {
         file = k.file;
         edge = like.edge;
@@ -444,5 +455,26 @@ module _ (t : RunTable) (es : List Edge) (node overlay : NodeRecord) (to : ℕ �
         parent = like.same.parent ∙ k.parent;
         role = like.same.role ∙ k.role;
         child = like.same.child ∙ k.child;
+        format = k.format;
         named = k.named;
       }
+    where
+      not_node : {row : NodeRecord} {above : ℕ} → IsInline t row above → Contains t.nodes row → row.id ≡ node.id → ⊥
+      not_node {row} {above} k there is = by_row (node_by_id t above) refl k.format
+        where
+          same : row ≡ node
+          same = same_row t h.apart node row over.node_there there is
+
+          by_row : (found : Option NodeRecord) → node_by_id t above ≡ found → With found (λ x. filter_role x.kind ≡ None) → ⊥
+          by_row None e never = never
+          by_row (Some x) e own =
+              let here = find-Some (λ r. r.id == above) t.nodes x e in
+              node_free node x node_found (subst (λ y. IsSome y.filename) same k.file) (record {
+                over_there = here.0;
+                under_there = over.node_there;
+                edge = k.edge;
+                there = k.there;
+                parent = k.parent ∙ ap Node (sym (eqb-true x.id above here.1));
+                role = k.role;
+                child = k.child ∙ is;
+              }) own

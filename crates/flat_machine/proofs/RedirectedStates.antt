@@ -1,28 +1,32 @@
 -- What holds of states stays where the edges into a node lead on to it, or to an overlay of it.
-use Rattle.std.proofs.Common.{◌≡◌, ◌≢◌, ℕ, true, List, refl, sym, ap, subst, ◌∙◌, inl, inr, Option, Some, None, option_map}
+use Rattle.std.proofs.Common.{◌≡◌, ◌≢◌, ◌⊎◌, ℕ, true, false, List, refl, sym, ap, subst, ◌∙◌, inl, inr, Option, Some, None, option_map}
 use Rattle.std.specs.Prelude.{◌==◌, ◌||◌, not, IsSome, option_and_then}
 use Rattle.std.specs.List.{find}
 use Rattle.std.proofs.lemmas.Bool.{cases_eq}
 use Rattle.std.proofs.lemmas.List.Elements.{All-weaker}
 use Rattle.blk_graph.specs.declared.edge.Edge.{Edge}
+use Rattle.blk_graph.specs.declared.edge.Role.{Role}
 use Rattle.blk_graph.specs.declared.edge.Role.TheVariants.{File}
 use Rattle.blk_graph.specs.Paths.{IsAcyclic}
 use Rattle.blk_graph.specs.declared.kind.Kind.{Kind}
 use Rattle.blk_graph.specs.declared.kind.Kind.TheVariants.{Protocol, Raw, Qcow2, CopyOnRead, BeforeWrite, Mirror, Commit}
 use Rattle.qmp_rules.specs.declared.rows.NodeRecord.{NodeRecord}
 use Rattle.qmp_rules.specs.declared.rows.DeviceRow.{DeviceRow}
-use Rattle.qmp_rules.specs.Table.{node_by_id, child}
-use Rattle.qmp_rules.specs.Chains.{disk_node}
+use Rattle.qmp_rules.specs.declared.rows.FileState.{FileState}
+use Rattle.qmp_rules.specs.declared.rows.FileState.TheVariants.{Made, Formatted, Used}
+use Rattle.qmp_rules.specs.Table.{node_by_id, child, file_state}
+use Rattle.qmp_rules.specs.Chains.{filter_role, disk_node}
 use Rattle.blk_history.specs.Fold.{With}
-use Rattle.flat_machine.specs.State.{State, Disk, Left, filename_of, drive_of}
+use Rattle.flat_machine.specs.State.{State, Content, Disk, Left, content_in, filename_of, drive_of}
 use Rattle.flat_machine.specs.Changed.{own_filename}
 use Rattle.flat_machine.specs.Agreement.{HasDisk}
 use Rattle.flat_machine.specs.Writing.{IsGuestWritable, written_file}
-use Rattle.flat_machine.specs.Wiring.{StandsFor, IsUnder, writes_through}
-use Rattle.flat_machine.specs.Standing.{HasBytes, IsLostBy, IsUsedUp, MayGuestWrite, Stands}
+use Rattle.flat_machine.specs.Wiring.{StandsFor, IsUnder, LeadsToFile, writes_through}
+use Rattle.flat_machine.specs.Standing.{HasBytes, IsLostBy, IsOfState, IsOpenlyKnown, CopiedAreUsed, IsUsedUp, MayGuestWrite, Stands}
 use Rattle.flat_machine.proofs.Kept.{own_disk}
 use Rattle.flat_machine.proofs.Rows.{same_row}
 use Rattle.flat_machine.proofs.TablesKept.{own_copies}
+use Rattle.flat_machine.proofs.CopiedFiles.{file_parent, copied_used}
 use Rattle.flat_machine.proofs.Redirected.{LiesOver, Redirects, node_found, overlay_found, overlay_named, overlay_own, into_file, was_under, node_free, disk_led, writes_led, was_standing, led_stands}
 
 module _ (s : State) (es : List Edge) (node overlay : NodeRecord) (to : ℕ → ℕ) (over : LiesOver s.table node overlay)
@@ -40,12 +44,9 @@ module _ (s : State) (es : List Edge) (node overlay : NodeRecord) (to : ℕ → 
   named_row : (name : List ℕ) (row : NodeRecord) → StandsFor s.table name row → IsSome row.filename
   named_row name row of = subst IsSome (sym of.filename) refl
 
-  still_under : (name : List ℕ) (row : NodeRecord) → StandsFor s.table name row → IsUnder s.table.edges row.id → IsUnder es row.id
-  still_under name row of under =
-      let like = r.keeps under.edge under.there (λ is.
-      let same : row ≡ node = same_row s.table h.table.apart node row over.node_there of.there (sym under.child ∙ is) in
-      node_free s.table es node overlay to over r h.table (subst (λ x. IsSome x.filename) same (named_row name row of))
-      under.edge under.there under.over is) in
+  still_under : (row : NodeRecord) → row.id ≢ node.id → IsUnder s.table.edges row.id → IsUnder es row.id
+  still_under row apart under =
+      let like = r.keeps under.edge under.there (λ is. apart (sym under.child ∙ is)) in
       record { edge = like.edge; there = like.there; over = like.same.role ∙ under.over; child = like.same.child ∙ under.child }
 
   under_before : (name : List ℕ) (row : NodeRecord) → StandsFor s.table name row → IsUnder es row.id → IsUnder s.table.edges row.id
@@ -59,10 +60,46 @@ module _ (s : State) (es : List Edge) (node overlay : NodeRecord) (to : ℕ → 
     | inr own ↦ absurd (let bad = own.role ∙ under.over in cc)
   ]
 
-  still_lost : (name : List ℕ) (row : NodeRecord) → StandsFor s.table name row → IsLostBy s.table name row → IsLostBy led_state.table name row
-  still_lost name row of (inl used) = inl used
-  still_lost name row of (inr (inl formatted)) = inr (inl formatted)
-  still_lost name row of (inr (inr under)) = inr (inr (still_under name row of under))
+  -- the node has a flat disk
+  lost_apart : (name : List ℕ) (row : NodeRecord) → StandsFor s.table name row → row.is_settled ≡ false → row.id ≢ node.id
+  lost_apart name row of gone is =
+      let same : row ≡ node = same_row s.table h.table.apart node row over.node_there of.there is in
+      let settled = ap (λ x. x.is_settled) same ∙ over.disk.settled in
+      cc
+
+  still_lost : (name : List ℕ) (row : NodeRecord) → row.id ≢ node.id → IsLostBy s.table name row → IsLostBy led_state.table name row
+  still_lost name row apart (inl used) = inl used
+  still_lost name row apart (inr (inl formatted)) = inr (inl formatted)
+  still_lost name row apart (inr (inr under)) = inr (inr (still_under row apart under))
+
+  -- where a `copy-on-read` was over the node, the node's file was used
+  used_there : (name : List ℕ) (row : NodeRecord) → StandsFor s.table name row → row.id ≡ node.id → IsUnder s.table.edges row.id
+      → file_state s.table name ≡ Some Used
+  used_there name row of is under = by_role (filter_role above.0.kind) refl
+    where
+      above : (x : NodeRecord) × LeadsToFile s.table x row
+      above = file_parent s.table h.table under.edge under.there under.over row of.there under.child
+
+      at_node : node_by_id s.table node.id ≡ Some row
+      at_node = subst (λ n. node_by_id s.table n ≡ Some row) is (h.table.apart row of.there)
+
+      by_role : (role : Option Role) → filter_role above.0.kind ≡ role → file_state s.table name ≡ Some Used
+      by_role (Some role) e = (copied_used s h above.0 row above.1 (subst IsSome (sym e) refl) name of.filename).state
+      by_role None e = absurd (node_free s.table es node overlay to over r h.table row above.0 at_node (named_row name row of) above.1 e)
+
+  -- what is open then was open, unless the file was used
+  open_before : (name : List ℕ) → (file_state s.table name ≡ Some Used → ⊥) → IsOpenlyKnown led_state.table name → IsOpenlyKnown s.table name
+  open_before name unused closed row of under = elim (cases_eq row.id node.id) [
+    | inl is ↦ unused (used_there name row of is under)
+    | inr apart ↦ closed row (record { there = of.there; filename = of.filename }) (still_under row apart under)
+  ]
+
+  still_of_state : (name : List ℕ) (content : Content) (state : Option FileState) → file_state s.table name ≡ state
+      → content_in s.files name ≡ Some content → IsOpenlyKnown led_state.table name → IsOfState (file_state s.table name) content
+  still_of_state name content None e is closed = h.states name content is (open_before name (λ used. cc) closed)
+  still_of_state name content (Some Made) e is closed = h.states name content is (open_before name (λ used. cc) closed)
+  still_of_state name content (Some Formatted) e is closed = h.states name content is (open_before name (λ used. cc) closed)
+  still_of_state name content (Some Used) e is closed = subst (λ state. IsOfState state content) (sym e) tt
 
   -- ---- nodes that may be written
 
@@ -179,15 +216,44 @@ module _ (s : State) (es : List Edge) (node overlay : NodeRecord) (to : ℕ → 
         used.is_open row was (under_before l.file row was under);
   }
 
+  -- ---- files that `copy-on-read` nodes read
+
+  -- only a node that is no `file` node comes in the node's place
+  still_copied : CopiedAreUsed led_state
+  still_copied name row disk there copies at named =
+      let was = h.writing.copied name row disk there copies (was_at (cases_eq (disk_node s.table row.id) node.id)) named in
+      record { state = was.state; content = was.content }
+    where
+      apart : row.id ≢ node.id
+      apart is =
+          let same : row ≡ node = same_row s.table h.table.apart node row over.node_there there is in
+          let own : filter_role row.kind ≡ None = ap (λ x. filter_role x.kind) same ∙ over.disk.own in
+          cc
+
+      led_to : node_by_id s.table (to (disk_node s.table row.id)) ≡ Some disk
+      led_to = subst (λ n. node_by_id s.table n ≡ Some disk) (disk_led s.table es node overlay to over r h.table row.id apart) at
+
+      was_at : ((disk_node s.table row.id ≡ node.id) ⊎ (disk_node s.table row.id ≢ node.id)) → node_by_id s.table (disk_node s.table row.id) ≡ Some disk
+      was_at (inr other) = subst (λ n. node_by_id s.table n ≡ Some disk) (r.others (disk_node s.table row.id) other) led_to
+      was_at (inl at_it) = elim r.at_node [
+        | inl on ↦ subst (λ n. node_by_id s.table n ≡ Some disk) (ap to at_it ∙ on ∙ sym at_it) led_to
+        | inr over_it ↦
+            let at_overlay : node_by_id s.table overlay.id ≡ Some disk = subst (λ n. node_by_id s.table n ≡ Some disk) (ap to at_it ∙ over_it) led_to in
+            let found = overlay_found s.table es node overlay to over r h.table in
+            let same : overlay ≡ disk = cc in
+            let none = sym (ap (λ x. x.filename) same) ∙ overlay_named s.table es node overlay to over r h.table in
+            absurd cc
+      ]
+
   -- ---- all that holds of the state
 
   pub led_state_stands : IsAcyclic es → Stands led_state
   led_state_stands acyclic = record {
     table = led_stands s.table es node overlay to over r h.table acyclic;
     files = λ name row of. h.files name row (was_file name row of);
-    lost = λ name row of gone. let was = was_file name row of in still_lost name row was (h.lost name row was gone);
-    states = λ name content is closed. h.states name content is
-        (λ row of under. closed row (record { there = of.there; filename = of.filename }) (still_under name row of under));
+    lost = λ name row of gone.
+        let was = was_file name row of in still_lost name row (lost_apart name row was gone) (h.lost name row was gone);
+    states = λ name content is closed. still_of_state name content (file_state s.table name) refl is closed;
     formatted = λ name is.
         let stood = h.formatted name is in
         (stood.0, record { there = stood.1.there; filename = stood.1.filename });
@@ -196,6 +262,7 @@ module _ (s : State) (es : List Edge) (node overlay : NodeRecord) (to : ℕ → 
       unknown = λ name above under f is.
           h.writing.unknown name above under
           (was_under s.table es node overlay to over r h.table above under f (subst IsSome (sym is) refl)) is;
+      copied = still_copied;
       disks = λ row there own. more row.id (h.writing.disks row there own);
       left = All-weaker (IsUsedUp s) (IsUsedUp led_state) used_still s.left h.writing.left;
       writers = λ g device found.

@@ -36,8 +36,8 @@ use Rattle.qmp_rules.specs.Changes.{changed, all_changed, device_edge, kept_from
 use Rattle.qmp_rules.specs.Fitting.{ChangeFits, AllChangesFit}
 use Rattle.qmp_rules.specs.Table.{RunTable, child, kind_of_record, kinds_of, node_by_id}
 use Rattle.flat_machine.specs.Rewiring.{keeps_nodes, AllKeepNodes}
-use Rattle.flat_machine.specs.Suiting.{HaveOneSize, IsThere, IsUnderNoFormat, TableSuits, AllTableSuit}
-use Rattle.flat_machine.specs.Wiring.{HaveDistinctIds, TableStands}
+use Rattle.flat_machine.specs.Suiting.{HaveOneSize, IsThere, TableSuits, AllTableSuit}
+use Rattle.flat_machine.specs.Wiring.{IsUnderNoFormat, LeadsToFile, HaveDistinctIds, TableStands}
 use Rattle.flat_machine.proofs.Finds.{find-map}
 use Rattle.flat_machine.proofs.RowKinds.{kind_or, kind_by, kinds-mapped}
 use Rattle.flat_machine.proofs.Tables.{HasLike, refreshed-old, refreshed-new}
@@ -302,6 +302,19 @@ module _ (g : Graph) (small : (n : ℕ) → HasNode g n → n < 64) (t now : Run
     moved_files row found format =
         children_replaced from to (Some (Node but)) t.edges (Node row.id) File ∙ by_child (child t row.id File) refl
       where
+        leads : (e : Edge) → Contains t.edges e → e.parent ≡ Node row.id → e.role ≡ File → e.child ≡ from → LeadsToFile t row sizes.row
+        leads e in_table parent role to_from =
+            let here = find-Some (λ r. r.id == from) t.nodes sizes.row sizes.found in
+            record {
+              over_there = (find-Some (λ r. r.id == row.id) t.nodes row found).0;
+              under_there = here.0;
+              edge = e;
+              there = in_table;
+              parent = parent;
+              role = role;
+              child = to_from ∙ sym (eqb-true sizes.row.id from here.1);
+            }
+
         other : (c : ℕ) → child t row.id File ≡ Some c → c ≢ from
         other c is at =
             let e = role_edge (Node row.id) File t.edges c is in
@@ -310,18 +323,9 @@ module _ (g : Graph) (small : (n : ℕ) → HasNode g n → n < 64) (t now : Run
             by_name : (e : Edge) → Contains t.edges e → e.parent ≡ Node row.id → e.role ≡ File → e.child ≡ from → (name : Option (List ℕ))
                 → sizes.row.filename ≡ name → ⊥
             by_name e in_table parent role to_from (Some name) named =
-                free sizes.row sizes.found (subst IsSome (sym named) refl) (record { edge = e; there = in_table; over = role; child = to_from })
+                free sizes.row row sizes.found (subst IsSome (sym named) refl) (leads e in_table parent role to_from) format
             by_name e in_table parent role to_from None named =
-                let here = find-Some (λ r. r.id == from) t.nodes sizes.row sizes.found in
-                let filter = stands.filtered row sizes.row (record {
-                  over_there = (find-Some (λ r. r.id == row.id) t.nodes row found).0;
-                  under_there = here.0;
-                  edge = e;
-                  there = in_table;
-                  parent = parent;
-                  role = role;
-                  child = to_from ∙ sym (eqb-true sizes.row.id from here.1);
-                }) named in
+                let filter = stands.filtered row sizes.row (leads e in_table parent role to_from) named in
                 let none = subst IsSome format filter in
                 cc
 

@@ -196,11 +196,13 @@ lessened_stands s now rows edges guests devices states files left named bytes ke
             (All-weaker (IsUsedUp s) (IsUsedUp now) (λ l used. left_still s now (IsThere s.table) NoRow NoEdge grow l
             (state_same l.file ∙ used.used) (λ r never. absurd never) (λ e r never. absurd never) used) s.left h.writing.left);
         written = λ node name here entered of known. subst (λ fs. content_in fs name ≡ Some Unknown) (sym files) known;
+        used = λ node name here entered of used. state_same name ∙ used;
+        copies_new = λ r disk never. absurd never;
         emptied = λ node name here entered of none. subst (All (λ l. l.file ≢ name)) (sym left) none;
         devices = same_devices s now devices (λ g. ap (child_of (Guest g) Drive) edges);
         drives = λ g node is. drive_there s.table h.table.edges g node is;
       })
-      h.table.apart h.writing;
+      h.table h.writing;
 }
   where
     grow : Grows s.table now.table (IsThere s.table) NoRow NoEdge

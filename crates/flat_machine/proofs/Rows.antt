@@ -1,5 +1,5 @@
 -- Rows that stay, but for their disks, and edges that were derived anew.
-use Rattle.std.proofs.Common.{◌≡◌, ◌≢◌, ℕ, zero, suc, Bool, true, false, cond, List, map, refl, sym, ap, subst, ◌∙◌, Option, Some, None, option_map}
+use Rattle.std.proofs.Common.{◌≡◌, ◌≢◌, ◌⊎◌, inl, inr, ℕ, zero, suc, Bool, true, false, cond, List, map, refl, sym, ap, subst, ◌∙◌, Option, Some, None, option_map}
 use Rattle.std.specs.Prelude.{◌==◌, ◌||◌, IsSome}
 use Rattle.std.specs.List.{find, list_any, Contains}
 use Rattle.std.proofs.lemmas.Bool.{ne_eqb, eqb-true}
@@ -242,3 +242,9 @@ module _ (t now : RunTable) (P : ℕ → Type 0) (same : (node : ℕ) → P node
     pub copies-same : (node : ℕ) → P node → copies_through now node ≡ copies_through t node
     unfolding path
     copies-same node here = path_from-same 64 node here
+
+-- a node reads as itself, or as one to which a filter leads
+pub disk_reached : (t : RunTable) (P : ℕ → Type 0) → ((node below : ℕ) → filtered t node ≡ Some below → P below) → (node : ℕ)
+    → (disk_node t node ≡ node) ⊎ P (disk_node t node)
+disk_reached t P goes node =
+    disk_node-there t t (λ n. (n ≡ node) ⊎ P n) (λ n here. refl) (λ n below here is. inr (goes n below is)) node (inl refl)

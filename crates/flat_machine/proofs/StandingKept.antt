@@ -426,11 +426,14 @@ rows_stand s now rows edges guests devices states files disks left named loses h
             (ap (λ fs. option_map (λ r. r.state) (find (λ r. bytes_eq r.name l.file) fs)) states ∙ used.used)
             (λ r never. absurd never) (λ e r never. absurd never) used) s.left h.writing.left);
         written = λ node name here entered of known. subst (λ fs. content_in fs name ≡ Some Unknown) (sym files) known;
+        used = λ node name here entered of used.
+            ap (λ fs. option_map (λ r. r.state) (find (λ r. bytes_eq r.name name) fs)) states ∙ used;
+        copies_new = λ r disk never. absurd never;
         emptied = λ node name here entered of none. subst (All (λ l. l.file ≢ name)) (sym left) none;
         devices = same_devices s now devices (λ g. ap (child_of (Guest g) Drive) edges);
         drives = λ g node is. drive_there s.table h.table.edges g node is;
       })
-      h.table.apart h.writing;
+      h.table h.writing;
 }
   where
     grow : Grows s.table now.table (IsThere s.table) NoRow NoEdge

@@ -1,12 +1,13 @@
 -- The changes of an accepted command leave what holds of all states.
-use Rattle.std.proofs.Common.{◌≡◌, ◌⊎◌, ℕ, zero, suc, ◌+◌, ◌-◌, ◌<◌, ◌≤◌, Bool, true, false, cond, List, [], ◌∷◌, ◌++◌, map, length, refl, sym, ap, subst, ◌∙◌, inl, inr, arith, Option, Some, None}
+use Rattle.std.proofs.Common.{◌≡◌, ◌⊎◌, ℕ, zero, suc, ◌+◌, ◌-◌, ◌<◌, ◌≤◌, Bool, true, false, cond, List, [], ◌∷◌, ◌++◌, map, length, refl, sym, ap, subst, ◌∙◌, inl, inr, arith, Option, Some, None, option_map}
 use Rattle.std.specs.Prelude.{◌==◌, ◌||◌, if◌then◌else◌, not, nat_eq, nat_le, option_and_then, unwrap_or, IsSome, is_some, bytes_eq, codes}
 use Rattle.std.specs.List.{find, list_any, Contains}
 use Rattle.std.proofs.lemmas.Bool.{and_right, eqb-true, eq-eqb, ne_eqb, leb-false}
 use Rattle.std.proofs.lemmas.List.{length-map}
 use Rattle.blk_graph.specs.declared.edge.Edge.{Edge}
 use Rattle.blk_graph.specs.declared.edge.Parent.TheVariants.{Node}
-use Rattle.blk_graph.specs.declared.edge.Role.TheVariants.{File}
+use Rattle.blk_graph.specs.declared.edge.Role.{Role}
+use Rattle.blk_graph.specs.declared.edge.Role.TheVariants.{File, Filtered}
 use Rattle.blk_graph.specs.declared.kind.Kind.{Kind}
 use Rattle.blk_graph.specs.declared.kind.Kind.TheVariants.{Protocol, Raw, Qcow2, CopyOnRead, BeforeWrite, Mirror, Commit}
 use Rattle.blk_graph.specs.Permissions.{has_role}
@@ -36,7 +37,8 @@ use Rattle.qmp_rules.specs.declared.rows.FileState.{FileState}
 use Rattle.qmp_rules.specs.declared.rows.FileState.TheVariants.{Used}
 use Rattle.qmp_rules.specs.declared.told.Told.{Told}
 use Rattle.qmp_rules.specs.Table.{RunTable, node_by_id, node_named, device_by_number, device_named, file_state, child, kinds_of}
-use Rattle.qmp_rules.specs.Chains.{filter_role}
+use Rattle.qmp_asks.specs.Naming.{is_name}
+use Rattle.qmp_rules.specs.Chains.{filter_role, disk_node}
 use Rattle.qmp_rules.specs.Changes.{changed, without_record}
 use Rattle.qmp_rules.specs.Edits.{place_from, unused_from, device_number, inline_row, raw_edits, qcow2_edits, added_edits, add_edits, length_told, edits_of, file_uses, file_under, name_of_file_at, goes_with_node, with_inline, created_change, file_of_node, del_edits, new_device, device_add_edits, merges}
 use Rattle.qmp_asks.specs.NodeAsks.{create_values, create_names, create_rest, del_asks, device_add_asks, add_asks, option_values, added_values, added_names, is_read_only, added_rest, raw_rest, qcow2_rest, is_added, backing_name}
@@ -62,10 +64,12 @@ use Rattle.flat_machine.proofs.Tables.{file_state-with}
 use Rattle.flat_machine.proofs.Wired.{OldEdge, NoEdge}
 use Rattle.flat_machine.proofs.TablesKept.{IsOther, kept_row}
 use Rattle.flat_machine.proofs.FilesStand.{use_stands}
-use Rattle.flat_machine.proofs.TableSuited.{named-row, own-settled, file-own, inline-found, add-table, NamedDrive, named-drive, device-suits}
-use Rattle.flat_machine.proofs.DriveWrites.{drive_may}
+use Rattle.flat_machine.proofs.OwnNames.{named-if}
+use Rattle.flat_machine.proofs.CopiedFiles.{copied_used}
+use Rattle.flat_machine.proofs.TableSuited.{named-row, own-settled, file-own, inline-found, add-table, NamedDrive, named-drive, device-suits, free-used}
+use Rattle.flat_machine.proofs.DriveWrites.{drive_may, one-disk}
 use Rattle.flat_machine.proofs.SnapshotStates.{snapshot_suits}
-use Rattle.flat_machine.proofs.TableRests.{inline_change, inline-file, inline-left, made-goes_with, without_grow}
+use Rattle.flat_machine.proofs.TableRests.{inline_change, inline-file, inline-format, inline-left, made-goes_with, without_grow}
 
 with_some : {A : Type 0} (P : A → Type 0) (o : Option A) → With o P → IsSome o
 with_some P None h = absurd h
@@ -411,9 +415,42 @@ device_suits s told c h asks =
     fresh : device_by_number s.table (device_number s.table c.id) ≡ None
     fresh = fresh_number s.table told c.id h.table asks.1.1.1.1.1.0 asks.1.1.1.1.1.1.0
 
-    own_disk_of : (of : NamedDrive s.table told h.table c.drive) → IsSome of.row.filename → of.row.is_settled ≡ true
-    own_disk_of of some =
+    own_settled_of : (of : NamedDrive s.table told h.table c.drive) → IsSome of.row.filename → of.row.is_settled ≡ true
+    own_settled_of of some =
         own-settled s.table told h.table of.row (h.table.apart of.row of.there) (file-own s.table told h.table of.row of.there some) of.settled
+
+    settled_of : (of : NamedDrive s.table told h.table c.drive) (disk : NodeRecord) → node_by_id s.table (disk_node s.table of.row.id) ≡ Some disk
+        → disk.is_settled ≡ true
+    settled_of of disk at = sym (ap (λ found. unwrap_or (option_map (λ r. r.is_settled) found) false) at) ∙ of.settled
+
+    -- a drive that a command names is no filter of a job
+    not_hidden : (of : NamedDrive s.table told h.table c.drive) → filter_role of.row.kind ≡ Some Filtered → ⊥
+    not_hidden of filter =
+        let hidden = h.table.hidden of.row of.there filter in
+        let said : is_name c.drive ≡ true = named-if s.table told (codes "drive") (Some c.drive) asks.1.1.1.0 in
+        let same : of.row.name ≡ c.drive = same-bytes_eq of.row.name c.drive (named-row s.table told h.table c.drive of.row of.found).1 in
+        let bad : is_name of.row.name ≡ true = ap is_name same ∙ said in
+        cc
+
+    -- of the file of one that is no `file` node, but reads as one, nothing is known
+    known_of : (of : NamedDrive s.table told h.table c.drive) → ((name : List ℕ) → of.row.filename ≡ Some name → ⊥)
+        → (disk : NodeRecord) (name : List ℕ) → node_by_id s.table (disk_node s.table of.row.id) ≡ Some disk → disk.filename ≡ Some name
+        → content_in s.files name ≡ Some Unknown
+    known_of of none disk name at named = by_kind of.row.kind refl
+      where
+        own : filter_role of.row.kind ≡ None → content_in s.files name ≡ Some Unknown
+        own no_filter =
+            let same = one-disk s.table of.row (h.table.apart of.row of.there) no_filter disk at in
+            absurd (none name (sym (ap (λ r. r.filename) same) ∙ named))
+
+        by_kind : (kind : Kind) → of.row.kind ≡ kind → content_in s.files name ≡ Some Unknown
+        by_kind Protocol is = own (ap filter_role is)
+        by_kind Raw is = own (ap filter_role is)
+        by_kind Qcow2 is = own (ap filter_role is)
+        by_kind CopyOnRead is = (h.writing.copied name of.row disk of.there (ap filter_role is) at named).content
+        by_kind BeforeWrite is = absurd (not_hidden of (ap filter_role is))
+        by_kind Mirror is = absurd (not_hidden of (ap filter_role is))
+        by_kind Commit is = absurd (not_hidden of (ap filter_role is))
 
     -- a node that is no `file` node stands for no file
     no_file : (of : NamedDrive s.table told h.table c.drive) → is_file of.row ≡ false → (name : List ℕ) → of.row.filename ≡ Some name → ⊥
@@ -422,13 +459,22 @@ device_suits s told c h asks =
         let yes : is_file of.row ≡ true = ap (takes drivers.File) driver in
         cc
 
+    -- a `file` node reads as itself, also once its file was used
+    itself : (of : NamedDrive s.table told h.table c.drive) (name : List ℕ) → of.row.filename ≡ Some name → (disk : NodeRecord)
+        → node_by_id (stepped s (change.UseFile name)).table (disk_node (stepped s (change.UseFile name)).table of.row.id) ≡ Some disk
+        → disk ≡ of.row
+    itself of name is disk at =
+        one-disk (stepped s (change.UseFile name)).table of.row ((use_stands s name h).table.apart of.row of.there)
+        (file-own s.table told h.table of.row of.there (subst IsSome (sym is) refl)) disk at
+
     by_name : (of : NamedDrive s.table told h.table c.drive) (name : Option (List ℕ)) → of.row.filename ≡ name
         → AllSuit s (file_uses name ++ change.AddDevice (new_device s.table c of.row) of.row.id ∷ [])
     by_name of None is = (
       record {
         suits = device-suits s.table told h.table c of;
         fresh = fresh;
-        writes = drive_may s (new_device s.table c of.row) of.row h of.there refl (own_disk_of of) (λ name named. absurd cc);
+        writes = drive_may s (new_device s.table c of.row) of.row h of.there refl (λ disk at some. settled_of of disk at)
+            (known_of of (λ name named. cc));
       },
       tt,
     )
@@ -438,10 +484,12 @@ device_suits s told c h asks =
           tt,
           (
             record {
-              suits = record { there = suits.there; free = suits.free; number = suits.number };
+              suits = record { there = suits.there; free = free-used s.table name of.row.id suits.free; number = suits.number };
               fresh = fresh;
-              writes = drive_may now (new_device s.table c of.row) of.row (use_stands s name h) of.there refl (own_disk_of of)
-                  (λ other named.
+              writes = drive_may now (new_device s.table c of.row) of.row (use_stands s name h) of.there refl
+                  (λ disk at some. ap (λ r. r.is_settled) (itself of name is disk at) ∙ own_settled_of of (subst IsSome (sym is) refl))
+                  (λ disk other at named.
+                  let its = sym (ap (λ r. r.filename) (itself of name is disk at)) ∙ named in
                   let same : name ≡ other = cc in
                   subst (λ n. content_in now.files n ≡ Some Unknown) same (content_in-with name Unknown s.files));
             },
@@ -456,7 +504,8 @@ device_suits s told c h asks =
       record {
         suits = device-suits s.table told h.table c of;
         fresh = fresh;
-        writes = drive_may s (new_device s.table c of.row) of.row h of.there refl (own_disk_of of) (λ name named. absurd (no_file of is name named));
+        writes = drive_may s (new_device s.table c of.row) of.row h of.there refl (λ disk at some. settled_of of disk at)
+            (known_of of (no_file of is));
       },
       tt,
     )
@@ -473,12 +522,10 @@ file_by t row kind = elim kind as (λ _. Option (List ℕ)) [
 ]
 
 -- that of a format node is its `file` node's
-under-file : (t : RunTable) → TableStands t → (row file : NodeRecord) → LeadsToFile t row file → IsSome file.filename → file_under t row ≡ file.filename
-under-file t h row file f some = by_kind row.kind refl
+under-file : (t : RunTable) → TableStands t → (row file : NodeRecord) → LeadsToFile t row file → filter_role row.kind ≡ None
+    → file_under t row ≡ file.filename
+under-file t h row file f own = by_kind row.kind refl
   where
-    taken : filter_role row.kind ≡ None
-    taken = (h.taken row file f some).format
-
     role : has_role row.kind File ≡ true
     role = subst (λ r. has_role row.kind r ≡ true) f.role (h.roles f.edge row f.there f.over_there f.parent)
 
@@ -495,10 +542,10 @@ under-file t h row file f some = by_kind row.kind refl
     by_kind Protocol e = absurd (let never = subst (λ k. has_role k File ≡ true) e role in cc)
     by_kind Raw e = ap (file_by t row) e ∙ below
     by_kind Qcow2 e = ap (file_by t row) e ∙ below
-    by_kind CopyOnRead e = absurd (let never = subst (λ k. filter_role k ≡ None) e taken in cc)
-    by_kind BeforeWrite e = absurd (let never = subst (λ k. filter_role k ≡ None) e taken in cc)
-    by_kind Mirror e = absurd (let never = subst (λ k. filter_role k ≡ None) e taken in cc)
-    by_kind Commit e = absurd (let never = subst (λ k. filter_role k ≡ None) e taken in cc)
+    by_kind CopyOnRead e = absurd (let never = subst (λ k. filter_role k ≡ None) e own in cc)
+    by_kind BeforeWrite e = absurd (let never = subst (λ k. filter_role k ≡ None) e own in cc)
+    by_kind Mirror e = absurd (let never = subst (λ k. filter_role k ≡ None) e own in cc)
+    by_kind Commit e = absurd (let never = subst (λ k. filter_role k ≡ None) e own in cc)
 
 own-file : (t : RunTable) (row : NodeRecord) → row.kind ≡ Protocol → file_under t row ≡ row.filename
 own-file t row e = ap (file_by t row) e
@@ -528,8 +575,13 @@ module _ (s : State) (row : NodeRecord) (there : Contains s.table.nodes row) (al
           role = role;
           child = child;
         } in
-        used name (under-file s.table h.table row r f (subst IsSome (sym over.filename) refl) ∙ over.filename);
+        used_under name r f over.filename (filter_role row.kind) refl;
   }
+    where
+      used_under : (name : List ℕ) (r : NodeRecord) → LeadsToFile s.table row r → r.filename ≡ Some name → (role : Option Role) → filter_role row.kind ≡ role
+          → file_state s.table name ≡ Some Used
+      used_under name r f named None own = used name (under-file s.table h.table row r f own ∙ named)
+      used_under name r f named (Some role) filter = (copied_used s h row r f (subst IsSome (sym filter) refl) name named).state
 
   -- the `file` node that goes with it
   inline_suits : (file : NodeRecord) → Contains s.table.nodes file → file.made_with ≡ Some row.id → RemovalSuits (stepped s (change.RemoveNode row.id)).table file.id
@@ -541,8 +593,8 @@ module _ (s : State) (row : NodeRecord) (there : Contains s.table.nodes row) (al
         r over.there in
         let same = same_row r file kept.0 file_there is in
         let f = inline-file s.table row there alone h.table inline file file_there with in
-        let some = (inline file row.id file_there with).file in
-        used name (under-file s.table h.table row file f some ∙ ap (λ x. x.filename) (sym same) ∙ over.filename);
+        let own = inline-format s.table row there alone h.table inline file file_there with in
+        used name (under-file s.table h.table row file f own ∙ ap (λ x. x.filename) (sym same) ∙ over.filename);
     under = λ name r e over e_there parent role child. absurd (no_edge_of e e_there parent role);
   }
     where
@@ -586,7 +638,7 @@ del_suits s told name h asks = by_row (found-named s.table told name asks.1.0)
         )
       where
         moved : (file : List ℕ) {r : NodeRecord} {over : ℕ} → IsInline s.table r over → IsInline (changed s.table (change.UseFile file)) r over
-        moved file k = record { file = k.file; edge = k.edge; there = k.there; parent = k.parent; role = k.role; child = k.child; named = k.named }
+        moved file k = record { file = k.file; edge = k.edge; there = k.there; parent = k.parent; role = k.role; child = k.child; format = k.format; named = k.named }
 
         used : (file other : List ℕ) → Some file ≡ Some other → file_state (changed s.table (change.UseFile file)) other ≡ Some Used
         used file other same =

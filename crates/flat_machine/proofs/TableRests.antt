@@ -37,7 +37,7 @@ use Rattle.qmp_asks.specs.NodeAsks.{add_asks, del_asks, device_add_asks, is_read
 use Rattle.qmp_rules.specs.Asks.{first_unmet_ask, is_file}
 use Rattle.qmp_asks.specs.CommandAsks.{asks_of, negotiates}
 use Rattle.qmp_rules.specs.Answers.{unbuilt, out_of_turn, refusal_to, command_edits}
-use Rattle.qmp_rules.specs.Chains.{written_under, unsettled_over}
+use Rattle.qmp_rules.specs.Chains.{filter_role, written_under, unsettled_over}
 use Rattle.flat_machine.specs.Wiring.{LeadsToFile, IsInline, InlineAreUnder, TableStands, TableAtRest}
 use Rattle.flat_machine.specs.Suiting.{IsThere, IsAlone, TableSuits, AllTableSuit}
 use Rattle.flat_machine.proofs.Fresh.{no-found}
@@ -149,6 +149,9 @@ module _ (t now : RunTable) (P : ℕ → Type 0) (IsNewRow : NodeRecord → Type
             parent = to.same.parent ∙ k.parent;
             role = to.same.role ∙ k.role;
             child = to.same.child ∙ k.child ∙ sym old.like.id;
+            format = with_at (λ (node : NodeRecord). filter_role node.kind ≡ None) (node_by_id now over) both.later both.found_later
+                (ap filter_role both.like.kind
+                ∙ at_with (λ (node : NodeRecord). filter_role node.kind ≡ None) (node_by_id t over) both.row both.found k.format);
             named = with_at (λ (node : NodeRecord). row.name ≡ inline_name node.name None) (node_by_id now over) both.later both.found_later
                 (old.like.name ∙ was ∙ ap (λ n. inline_name n None) (sym both.like.name));
           }
@@ -322,6 +325,8 @@ pair_rests t row new backing mine named none suits h = record {
           parent = own.same.parent ∙ ap Node (sym (mine over with));
           role = own.same.role;
           child = own.same.child ∙ sym same;
+          format = with_at (λ (node : NodeRecord). filter_role node.kind ≡ None) (node_by_id now over) new
+              (subst (λ n. node_by_id now n ≡ Some new) (sym (mine over with)) new_found) suits.1.0.format;
           named = with_at (λ (node : NodeRecord). r.name ≡ inline_name node.name None) (node_by_id now over) new
               (subst (λ n. node_by_id now n ≡ Some new) (sym (mine over with)) new_found)
               (ap (λ x. x.name) row_is ∙ ap (λ x. x.name) under_is ∙ named over with);
@@ -362,10 +367,14 @@ module _ (t : RunTable) (row : NodeRecord) (row_there : Contains t.nodes row) (a
       let k = inline file row.id there is in
       record { over_there = row_there; under_there = there; edge = k.edge; there = k.there; parent = k.parent; role = k.role; child = k.child }
 
+  pub inline-format : (file : NodeRecord) → Contains t.nodes file → file.made_with ≡ Some row.id → filter_role row.kind ≡ None
+  inline-format file there is =
+      at_with (λ (node : NodeRecord). filter_role node.kind ≡ None) (node_by_id t row.id) row (h.apart row row_there) (inline file row.id there is).format
+
   pub inline-left : (file : NodeRecord) → Contains t.nodes file → file.made_with ≡ Some row.id → IsAlone table_without file.id
   inline-left file there is e e_there to = elim (without_grow.edges e e_there) [
     | inl old ↦
-        let taken = h.taken row file (inline-file file there is) (inline file row.id there is).file in
+        let taken = h.taken row file (inline-file file there is) (inline file row.id there is).file (inline-format file there is) in
         let sole = taken.sole old.edge old.there (old.same.child ∙ to) in
         (old.parent row.id sole.0).1 refl
     | inr never ↦ never

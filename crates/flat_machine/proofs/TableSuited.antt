@@ -1,8 +1,8 @@
 -- The changes of an accepted command leave what holds of tables, whatever is told of files.
-use Rattle.std.proofs.Common.{◌≡◌, ◌≢◌, ℕ, zero, suc, ◌+◌, ◌≤◌, Bool, true, false, cond, List, [], ◌∷◌, ◌++◌, length, refl, sym, ap, subst, ◌∙◌, arith, Option, Some, None}
+use Rattle.std.proofs.Common.{inl, inr, ◌≡◌, ◌≢◌, ℕ, zero, suc, ◌+◌, ◌≤◌, Bool, true, false, cond, List, [], ◌∷◌, ◌++◌, length, refl, sym, ap, subst, ◌∙◌, arith, Option, Some, None}
 use Rattle.std.specs.Prelude.{◌==◌, ◌||◌, ◌&&◌, not, if◌then◌else◌, option_and_then, unwrap_or, IsSome, bytes_eq, codes}
 use Rattle.std.specs.List.{list_any, Contains}
-use Rattle.std.proofs.lemmas.Bool.{eqb-true, eq-eqb, not-false}
+use Rattle.std.proofs.lemmas.Bool.{eq-eqb, not-false}
 use Rattle.blk_graph.specs.declared.edge.Parent.TheVariants.{Node}
 use Rattle.blk_graph.specs.declared.edge.Role.TheVariants.{Backing}
 use Rattle.blk_graph.specs.declared.kind.Kind.{Kind}
@@ -30,14 +30,13 @@ use Rattle.qmp_rules.specs.Edits.{free_id, next_free_id, place_from, unused_from
 use Rattle.qmp_asks.specs.Naming.{is_name}
 use Rattle.qmp_asks.specs.NodeAsks.{device_add_asks, add_asks, add_names, add_values, file_names, added_names, is_read_only, added_rest, raw_rest, qcow2_rest, copy_on_read_rest, is_added, backing_name}
 use Rattle.qmp_rules.specs.Asks.{id_or, holds, lends, takes, is_file}
-use Rattle.flat_machine.specs.Wiring.{IsNumberBy, TableStands}
-use Rattle.flat_machine.specs.Suiting.{IsThere, IsAlone, IsUnderNoFormat, SuitsFile, SuitsBacking, SuitsDevice, AllTableSuit}
+use Rattle.flat_machine.specs.Wiring.{IsNumberBy, IsUnderNoFormat, TableStands}
+use Rattle.flat_machine.specs.Suiting.{IsThere, IsAlone, SuitsFile, SuitsBacking, SuitsDevice, AllTableSuit}
 use Rattle.flat_machine.proofs.Finds.{bytes_eq-same, same-bytes_eq}
 use Rattle.flat_machine.proofs.Fresh.{found-longer, found-new}
-use Rattle.flat_machine.proofs.Tables.{refreshed-old}
+use Rattle.flat_machine.proofs.Tables.{pushed-cases, refreshed-old}
 use Rattle.flat_machine.proofs.Kept.{own_disk}
 use Rattle.flat_machine.proofs.OwnNames.{IsNameIf, inline-own, name-asked, named-if, names-asked, own-name}
-use Rattle.flat_machine.proofs.Rows.{under-before}
 use Rattle.flat_machine.proofs.Asked.{not-refused, NoneHolds, none-ahead, none-behind, good-value, found-named, takes-driver, room-left, none-stands, lone-node, settled-node}
 use Rattle.flat_machine.proofs.Accepted.{free_fresh, next_fresh, none-over, no_filter, is_protocol, no_edge}
 use Rattle.flat_machine.proofs.TablesKept.{not-there, not_copying}
@@ -49,37 +48,34 @@ plain-row : (t : RunTable) (row : NodeRecord) (node : ℕ) → filter_role row.k
     → (other : NodeRecord) → node_by_id t node ≡ Some other → other.kind ≢ CopyOnRead
 plain-row t row node own found other is = let same : other ≡ row = cc in not_copying other.kind (ap (λ r. filter_role r.kind) same ∙ own)
 
+-- a file that is used leaves what is over its node
+pub free-used : (t : RunTable) (name : List ℕ) (node : ℕ) → IsUnderNoFormat t node → IsUnderNoFormat (changed t (change.UseFile name)) node
+unfolding changed
+free-used t name node free row over at some f own =
+    free row over at some
+    (record {
+      over_there = f.over_there;
+      under_there = f.under_there;
+      edge = f.edge;
+      there = f.there;
+      parent = f.parent;
+      role = f.role;
+      child = f.child;
+    })
+    own
+
 module _ (t : RunTable) (told : Told) (h : TableStands t) where
   pub named-row : (name : List ℕ) (row : NodeRecord) → node_named t name ≡ Some row → Contains t.nodes row × (bytes_eq row.name name ≡ true)
   named-row name row found = find-Some (λ r. bytes_eq r.name name) t.nodes row found
 
   -- a `file` node with a flat disk is under no format node
   pub settled-free : (row : NodeRecord) → Contains t.nodes row → row.is_settled ≡ true → IsUnderNoFormat t row.id
-  settled-free row there settled other found some under =
-      let of = h.single under.edge under.there under.over in
-      let parent_there = (h.edges under.edge under.there).parent of.0 of.1.0 in
-      by_parent (node_by_id t of.0) refl parent_there
-    where
-      by_parent : (over : Option NodeRecord) → node_by_id t (h.single under.edge under.there under.over).0 ≡ over → IsSome over → ⊥
-      by_parent None e s = cc
-      by_parent (Some over) e s =
-          let of = h.single under.edge under.there under.over in
-          let here = find-Some (λ r. r.id == of.0) t.nodes over e in
-          let at_row = h.apart row there in
-          let same : other ≡ row = cc in
-          let some_row = subst (λ r. IsSome r.filename) same some in
-          let taken = h.taken over row
-          (record {
-            over_there = here.0;
-            under_there = there;
-            edge = under.edge;
-            there = under.there;
-            parent = of.1.0 ∙ ap Node (sym (eqb-true over.id of.0 here.1));
-            role = under.over;
-            child = under.child;
-          }) some_row in
-          let gone = taken.gone in
-          cc
+  settled-free row there settled other over found some f own =
+      let at_row = h.apart row there in
+      let same : other ≡ row = cc in
+      let gone = (h.taken over other f some own).gone in
+      let kept = ap (λ r. r.is_settled) same ∙ settled in
+      cc
 
   -- what the table says of a node that has a flat disk of its own
   pub own-settled : (row : NodeRecord) → node_by_id t row.id ≡ Some row → filter_role row.kind ≡ None → is_settled t row.id ≡ true
@@ -96,11 +92,11 @@ module _ (t : RunTable) (told : Told) (h : TableStands t) where
 
   -- a settled node is no `file` node under another one
   pub free-node : (row : NodeRecord) → Contains t.nodes row → is_settled t row.id ≡ true → IsUnderNoFormat t row.id
-  free-node row there settled other found some under =
+  free-node row there settled other over found some f format =
       let at_row = h.apart row there in
       let same : other ≡ row = cc in
       let own = file-own row there (subst (λ r. IsSome r.filename) same some) in
-      settled-free row there (own-settled row at_row own settled) other found some under
+      settled-free row there (own-settled row at_row own settled) other over found some f format
 
   -- ---- asks
 
@@ -362,11 +358,25 @@ module _ (t : RunTable) (told : Told) (h : TableStands t) where
 
     free-with : (r : NodeRecord) → Contains t.nodes r → IsUnderNoFormat t r.id → IsUnderNoFormat with_file_added r.id
     unfolding changed
-    free-with r there free other found some under =
+    free-with r there free other over found some f own =
         let at_row = there-with r there in
         let same : r ≡ other = cc in
-        free other (subst (λ x. node_by_id t r.id ≡ Some x) same (h.apart r there)) some
-        (under-before (kinds_of (t.nodes ++ row ∷ [])) t.edges r.id under)
+        let old = refreshed-old (kinds_of (t.nodes ++ row ∷ [])) t.edges f.edge f.there in
+        let from = old.same.parent ∙ f.parent in
+        free other over (subst (λ x. node_by_id t r.id ≡ Some x) same (h.apart r there)) some
+        (record {
+          over_there = elim (pushed-cases t.nodes row over f.over_there) [
+            | inl was ↦ was
+            | inr new ↦ absurd (not-there t (free_id t) (free_fresh t room)
+                ((h.edges old.edge old.there).parent (free_id t) (from ∙ ap (λ x. Node x.id) new ∙ ap Node id_is)))
+          ];
+          under_there = subst (Contains t.nodes) same there;
+          edge = old.edge;
+          there = old.there;
+          parent = from;
+          role = old.same.role ∙ f.role;
+          child = old.same.child ∙ f.child;
+        }) own
 
     backing-with : (new : NodeRecord) → has_role new.kind Backing ≡ true → (back : Option (List ℕ)) (node : ℕ) → NamedBacking back node
         → SuitsBacking with_file_added new (free_id t) node
@@ -535,7 +545,7 @@ module _ (t : RunTable) (told : Told) (h : TableStands t) where
         where
           moved : SuitsDevice t (new_device t c of.row) of.row.id
               → SuitsDevice (changed t (change.UseFile name)) (new_device t c of.row) of.row.id
-          moved suits = record { there = suits.there; free = suits.free; number = suits.number }
+          moved suits = record { there = suits.there; free = free-used t name of.row.id suits.free; number = suits.number }
 
       by_use : (of : NamedDrive c.drive) (b : Bool)
           → AllTableSuit t ((if b then file_uses of.row.filename else []) ++ change.AddDevice (new_device t c of.row) of.row.id ∷ [])

@@ -136,7 +136,7 @@ pub own_reads : (t : RunTable) (row : NodeRecord) → node_by_id t row.id ≡ So
     → With (node_by_id t (disk_node t row.id)) (IsDiskOf t row)
 own_reads t row found own =
     subst (λ n. With (node_by_id t n) (IsDiskOf t row)) (sym (own_disk t row.id row found own))
-    (with_at (IsDiskOf t row) (node_by_id t row.id) row found (record { own = own; itself = λ some. refl; writable = λ w. writes row.read_only (w_only w) }))
+    (with_at (IsDiskOf t row) (node_by_id t row.id) row found (record { own = own; itself = λ some. inl refl; writable = λ w. writes row.read_only (w_only w) }))
   where
     w_only : writes_through t row.read_only row.id ≡ true → (not row.read_only || false) ≡ true
     w_only w = subst (λ b. (not row.read_only || b) ≡ true) (own_copies t row.id row found own) w
@@ -271,6 +271,7 @@ module _ (t now : RunTable) (row : NodeRecord) (suits : SuitsFile t row) (nodes 
     drivers = λ name r is file. ap (λ x. x.kind) is ∙ suits.driver;
     names = λ r is driver. subst IsSome (sym (ap (λ x. x.filename) is ∙ suits.filename)) refl;
     own_names = λ r is. subst HasOwnName (sym is) suits.own_name;
+    hidden = λ r is filter. let none = ap (λ x. filter_role x.kind) is ∙ ap filter_role suits.driver in absurd cc;
     closed = λ name r old is file over.
         let mine = sym (ap (λ x. x.filename) is) ∙ file in
         let name_is = suits.filename in
@@ -462,6 +463,7 @@ module _ (t now : RunTable) (row : NodeRecord) (file : ℕ) (backing : Option �
         let never : has_role Protocol File ≡ true = subst (λ k. has_role k File ≡ true) kind role in
         absurd cc;
     own_names = λ r is. subst HasOwnName (sym is) suits.own_name;
+    hidden = λ r is filter. let none = ap (λ x. filter_role x.kind) is ∙ suits.format in absurd cc;
     closed = λ name r old is named over. let none = ap (λ x. x.filename) is ∙ suits.filename in cc;
     reads = λ r is. subst (λ x. With (node_by_id now (disk_node now x.id)) (IsDiskOf now x)) (sym is) (own_reads now row found_row suits.format);
   }
@@ -472,7 +474,6 @@ module _ (t now : RunTable) (row : NodeRecord) (file : ℕ) (backing : Option �
       let over_is = is_row over f.over_there (id_of f.edge over.id is_new f.parent) in
       let under_is = is_under under f.under_there (own.child ∙ f.child) in
       record {
-        format = ap (λ r. filter_role r.kind) over_is ∙ suits.format;
         gone = ap (λ r. r.is_settled) under_is;
         sole = λ e there is.
             let only = sole_now e there (is ∙ sym (own.child ∙ f.child)) in
@@ -480,12 +481,12 @@ module _ (t now : RunTable) (row : NodeRecord) (file : ℕ) (backing : Option �
         writable = λ w. ap (λ r. r.read_only) under_is ∙ suits.writable (ap (λ r. r.read_only) (sym over_is) ∙ w);
       }
 
-  format_free : (e : Edge) (over under : NodeRecord) → IsNewEdge e → LeadsToFile t over under → IsSome under.filename → e.child ≡ under.id → ⊥
-  format_free e over under (inl file_edge) f some is = suits.alone f.edge f.there (f.child ∙ sym is ∙ sym file_edge.child)
-  format_free e over under (inr backed) f some is =
+  format_free : (e : Edge) (over under : NodeRecord) → IsNewEdge e → LeadsToFile t over under → IsSome under.filename → filter_role over.kind ≡ None
+      → e.child ≢ under.id
+  format_free e over under (inl file_edge) f some own is = suits.alone f.edge f.there (f.child ∙ sym is ∙ sym file_edge.child)
+  format_free e over under (inr backed) f some own is =
       let same : backed.0 ≡ under.id = backed.1.1.child ∙ is in
-      (suits.backed backed.0 backed.1.0).free under (subst (λ n. node_by_id t n ≡ Some under) (sym same) (h.apart under f.under_there)) some
-      (record { edge = f.edge; there = f.there; over = f.role; child = f.child ∙ sym same })
+      (suits.backed backed.0 backed.1.0).free under over (subst (λ n. node_by_id t n ≡ Some under) (sym same) (h.apart under f.under_there)) some f own
 
   -- neither the file nor the backing node copies what is read
   format_on_top : (e : Edge) (r : NodeRecord) → IsNewEdge e → Contains now.nodes r → e.child ≡ r.id → r.kind ≢ CopyOnRead
@@ -515,7 +516,9 @@ module _ (t now : RunTable) (row : NodeRecord) (file : ℕ) (backing : Option �
               (backed-file row.id backing (with_edge own_edge t.edges) ∙ child-new own_edge t.edges apart_parents ∙ ap Some own.child)
               (parent_of e is_new),
         );
-    taken = λ over under f is_new some. format_taken over under f is_new;
+    taken = λ over under f is_new some own. format_taken over under f is_new;
+    first = λ over under f is_new some own e there to.
+        suits.alone e there (to ∙ sym f.child ∙ sym (of_file f.edge is_new f.role).child);
     filtered = λ over under f is_new none.
         let own = of_file f.edge is_new f.role in
         let under_is = is_under under f.under_there (own.child ∙ f.child) in
@@ -563,7 +566,7 @@ file_role Mirror h = absurd cc
 file_role Commit h = absurd cc
 
 -- a node over one that reads by itself reads as that
-over_own : (t : RunTable) (node below : ℕ) → filtered t node ≡ Some below → filtered t below ≡ None → disk_node t node ≡ below
+pub over_own : (t : RunTable) (node below : ℕ) → filtered t node ≡ Some below → filtered t below ≡ None → disk_node t node ≡ below
 unfolding disk_node
 over_own t node below over own = from_two 62 over own
   where
@@ -620,16 +623,19 @@ module _ (t now : RunTable) (row : NodeRecord) (child : ℕ) (suits : SuitsFilte
   own_file : IsFileOf now new_filter_edge row.id
   own_file = one_file t t now row IsNewFilterEdge filter_adds h [] new_filter_edge (child-new new_filter_edge t.edges apart_from) refl
 
-  filter_reads : With (node_by_id now (disk_node now row.id)) (IsDiskOf now row)
-  filter_reads =
+  pub filter_disk : node_by_id now (disk_node now row.id) ≡ Some suits.under
+  filter_disk =
       let over : filtered now row.id ≡ Some child = rw (filter_found, suits.filter) own_file.1 in
       let own : filtered now child ≡ None = rw (child_found, suits.own) refl in
-      subst (λ n. With (node_by_id now n) (IsDiskOf now row)) (sym (over_own now row.id child over own))
-      (with_at (IsDiskOf now row) (node_by_id now child) suits.under child_found (record {
+      ap (node_by_id now) (over_own now row.id child over own) ∙ child_found
+
+  filter_reads : With (node_by_id now (disk_node now row.id)) (IsDiskOf now row)
+  filter_reads =
+      with_at (IsDiskOf now row) (node_by_id now (disk_node now row.id)) suits.under filter_disk (record {
         own = suits.own;
         itself = λ some. absurd (let none = subst IsSome suits.no_file some in cc);
         writable = λ w. suits.writable;
-      }))
+      })
 
   filter_rows : NewRows t now (λ r. r ≡ row)
   filter_rows = record {
@@ -639,12 +645,19 @@ module _ (t now : RunTable) (row : NodeRecord) (child : ℕ) (suits : SuitsFilte
         let filter = suits.filter in
         absurd (let none = rw kind at filter in cc);
     own_names = λ r is. subst HasOwnName (sym is) suits.own_name;
+    hidden = λ r is filter. let other = ap (λ x. filter_role x.kind) is ∙ suits.filter in absurd cc;
     closed = λ name r old is named over. let none = ap (λ x. x.filename) is ∙ suits.filename in cc;
     reads = λ r is. subst (λ x. With (node_by_id now (disk_node now x.id)) (IsDiskOf now x)) (sym is) filter_reads;
   }
 
   over_is : (e : Edge) (node : ℕ) → IsNewFilterEdge e → e.parent ≡ Node node → row.id ≡ node
   over_is e node is_new from = let own = is_new.parent in cc
+
+  no_name : {over : NodeRecord} (under : NodeRecord) (f : LeadsToFile now over under) → IsNewFilterEdge f.edge → IsSome under.filename → ⊥
+  no_name under f is_new some =
+      let none = ap (λ r. r.filename) (is_child under f.under_there (is_new.child ∙ f.child)) ∙ suits.no_file in
+      let some_none = subst IsSome none some in
+      cc
 
   filter_new_edges : NewEdges t now IsNewFilterEdge
   filter_new_edges = record {
@@ -655,15 +668,14 @@ module _ (t now : RunTable) (row : NodeRecord) (child : ℕ) (suits : SuitsFilte
     roles = λ e r is_new there is. subst (λ x. has_role x.kind e.role ≡ true) (sym (is_filter r there (over_is e r.id is_new is)))
         (subst (λ x. has_role row.kind x ≡ true) is_new.role (file_role row.kind suits.filter));
     single = λ e is_new role. (row.id, (sym is_new.parent, own_file.1 ∙ ap Some is_new.child));
-    taken = λ over under f is_new some.
-        let none = ap (λ r. r.filename) (is_child under f.under_there (is_new.child ∙ f.child)) ∙ suits.no_file in
-        absurd (let some_none = subst IsSome none some in cc);
+    taken = λ over under f is_new some own. absurd (no_name under f is_new some);
+    first = λ over under f is_new some own. absurd (no_name under f is_new some);
     filtered = λ over under f is_new none.
         let same = is_filter over f.over_there (over_is f.edge over.id is_new f.parent) in
         subst IsSome (sym (ap (λ r. filter_role r.kind) same ∙ suits.filter)) refl;
     on_top = λ e r over is_new there from to.
         not_copying r.kind (ap (λ x. filter_role x.kind) (is_child r there (is_new.child ∙ to)) ∙ suits.own);
-    free = λ e over under is_new f some is.
+    free = λ e over under is_new f some own is.
         let same : child ≡ under.id = is_new.child ∙ is in
         let at_child = subst (λ n. node_by_id t n ≡ Some under) (sym same) (h.apart under f.under_there) in
         let found = suits.found in
@@ -816,13 +828,13 @@ module _ (t now : RunTable) (device : DeviceRow) (node : ℕ) (suits : SuitsDevi
     };
     roles = λ e r is_new there is. absurd (no_node e r.id is_new is);
     single = λ e is_new role. absurd (let is = is_new.role in cc);
-    taken = λ over under f is_new some. absurd (no_node f.edge over.id is_new f.parent);
+    taken = λ over under f is_new some own. absurd (no_node f.edge over.id is_new f.parent);
+    first = λ over under f is_new some own. absurd (no_node f.edge over.id is_new f.parent);
     filtered = λ over under f is_new none. absurd (no_node f.edge over.id is_new f.parent);
     on_top = λ e r over is_new there from. absurd (no_node e over is_new from);
-    free = λ e over under is_new f some is.
+    free = λ e over under is_new f some own is.
         let same : node ≡ under.id = is_new.child ∙ is in
-        suits.free under (subst (λ n. node_by_id t n ≡ Some under) (sym same) (h.apart under f.under_there)) some
-        (record { edge = f.edge; there = f.there; over = f.role; child = f.child ∙ sym same });
+        suits.free under over (subst (λ n. node_by_id t n ≡ Some under) (sym same) (h.apart under f.under_there)) some f own;
   }
 
   pub device_table : now.guests ≡ t.guests → now.devices ≡ t.devices ++ device ∷ [] → TableStands now

@@ -24,7 +24,7 @@ use Rattle.qmp_rules.specs.declared.rows.NodeRecord.{NodeRecord}
 use Rattle.qmp_rules.specs.declared.rows.DeviceRow.{DeviceRow}
 use Rattle.qmp_rules.specs.declared.rows.FileState.TheVariants.{Used}
 use Rattle.qmp_rules.specs.Table.{RunTable, node_by_id, child, device_by_number, file_state, has_name, kinds_of}
-use Rattle.qmp_rules.specs.Chains.{filter_role}
+use Rattle.qmp_rules.specs.Chains.{filter_role, disk_node}
 use Rattle.qmp_rules.specs.Changes.{changed, unsettled, with_unsettled, without_record, device_edge, with_backing_edge, with_format_edges}
 use Rattle.qmp_rules.specs.Asks.{name_of_file}
 use Rattle.blk_history.specs.Fold.{With}
@@ -37,8 +37,8 @@ use Rattle.flat_machine.specs.Suiting.{IsThere, FileSuits, FormatSuits, SuitsFil
 use Rattle.flat_machine.proofs.Finds.{find-filter, find-push, bytes_eq-same, cases_name, content_in-with, content_in-with_other}
 use Rattle.flat_machine.proofs.Kept.{with_format, left_alone}
 use Rattle.flat_machine.proofs.Wired.{OldEdge, Grows, NoRow, NoEdge}
-use Rattle.flat_machine.proofs.TablesKept.{IsOther, file_grow, IsNewEdge, format_grow, is_under, of_file, IsNewFilterEdge, filter_grow, is_child, kept_row, removed_grow, IsDriveEdge, device_grow}
-use Rattle.flat_machine.proofs.WritingKept.{role_edge, IsEntered, WritesFileUnder, writes_file, may_still, grown_writing, left_still}
+use Rattle.flat_machine.proofs.TablesKept.{IsOther, file_grow, IsNewEdge, format_grow, is_under, of_file, IsNewFilterEdge, filter_grow, filter_disk, is_child, kept_row, removed_grow, IsDriveEdge, device_grow}
+use Rattle.flat_machine.proofs.WritingKept.{role_edge, IsEntered, IsNoFilter, WritesFileUnder, writes_file, may_still, grown_writing, left_still}
 
 -- ---- names, bytes and drives
 
@@ -170,11 +170,13 @@ file_writing s row suits h =
           (All-weaker (IsUsedUp s) (IsUsedUp now) (λ l used. left_still s now (IsThere s.table) (λ r. r ≡ row) NoEdge grow l used.used
           (λ r is named. unused l used (sym (ap (λ x. x.filename) is) ∙ named)) (λ e r never. absurd never) used) s.left h.writing.left);
       written = λ node name here entered file known. subst (λ fs. content_in fs name ≡ Some Unknown) (sym same.files) known;
+      used = λ node name here entered file used. used;
+      copies_new = λ r disk is filter at. absurd (let none = ap (λ x. filter_role x.kind) is ∙ ap filter_role suits.suits.driver in cc);
       emptied = λ node name here entered file none. subst (All (λ l. l.file ≢ name)) (sym same.left) none;
       devices = same_devices s now refl (drive_derived s.table now.table kinds s.table.edges refl (λ g. refl));
       drives = λ g node is. drive_there s.table h.table.edges g node is;
     })
-    h.table.apart h.writing
+    h.table h.writing
   where
     now : State
     now = stepped s (change.AddFile row)
@@ -223,11 +225,13 @@ format_writing s row file backing suits h =
           (λ r is named. no_name l.file (sym (ap (λ x. x.filename) is) ∙ named))
           (λ e r is_new role child over. unused l used (under_is e r is_new role child over.there) over.filename) used) s.left h.writing.left);
       written = λ node name here entered of known. subst (λ fs. content_in fs name ≡ Some Unknown) (sym files_are) (known_if (filename_of s.table file) s name known);
+      used = λ node name here entered of used. used;
+      copies_new = λ r disk is filter at. absurd (let none = ap (λ x. filter_role x.kind) is ∙ suits.suits.format in cc);
       emptied = λ node name here entered of none. subst (All (λ l. l.file ≢ name)) (sym left_is) none;
       devices = same_devices s now refl (drive_derived s.table now.table kinds (with_format_edges row.id file backing s.table.edges) refl drives_same);
       drives = λ g node is. drive_there s.table h.table.edges g node is;
     })
-    h.table.apart h.writing
+    h.table h.writing
   where
     now : State
     now = stepped s (change.AddFormat row file backing)
@@ -306,12 +310,14 @@ filter_writing s row child suits h =
           (λ r is named. no_name l.file (sym (ap (λ x. x.filename) is) ∙ named))
           (λ e r is_new role to over. no_file e r l.file is_new to over.there over.filename) used) s.left h.writing.left;
       written = λ node name here entered of known. known;
+      used = λ node name here entered of used. used;
+      copies_new = λ r disk is filter at. new_disk disk (subst (λ x. node_by_id now.table (disk_node now.table x.id) ≡ Some disk) is at);
       emptied = λ node name here entered of none. none;
       devices = same_devices s now refl (drive_derived s.table now.table kinds (with_edge (node_edge row.id File child) s.table.edges) refl
           (λ g. child-kept (Guest g) Drive (node_edge row.id File child) s.table.edges (λ is. cc)));
       drives = λ g node is. drive_there s.table h.table.edges g node is;
     })
-    h.table.apart h.writing
+    h.table h.writing
   where
     now : State
     now = stepped s (change.AddFilter row child)
@@ -327,6 +333,12 @@ filter_writing s row child suits h =
 
     no_name : (name : List ℕ) → row.filename ≡ Some name → ⊥
     no_name name named = let none = suits.filename in cc
+
+    new_disk : (disk : NodeRecord) → node_by_id now.table (disk_node now.table row.id) ≡ Some disk → disk.filename ≡ None
+    new_disk disk at =
+        let is = filter_disk s.table now.table row child suits refl kinds refl h.table in
+        let same : disk ≡ suits.under = cc in
+        ap (λ r. r.filename) same ∙ suits.no_file
 
     no_file : (e : Edge) (r : NodeRecord) (name : List ℕ) → New e → e.child ≡ r.id → Contains now.table.nodes r → r.filename ≡ Some name → ⊥
     no_file e r name is_new to there named =
@@ -350,6 +362,8 @@ remove_writing s node suits h =
       bytes_new = λ r never. absurd never;
       left = by_row (node_by_id s.table node) refl refl;
       written = λ other name here entered of known. subst (λ fs. content_in fs name ≡ Some Unknown) (sym files_are) known;
+      used = λ other name here entered of used. used;
+      copies_new = λ r disk never. absurd never;
       emptied = λ other name here entered of none. empty_row other name here entered of none (node_by_id s.table node) refl refl;
       devices = same_devices s now refl (drive_derived s.table now.table kinds (without_parent (Node node) s.table.edges) refl
           (λ g. child-without (Node node) (Guest g) Drive s.table.edges (λ is. cc)));
@@ -358,7 +372,7 @@ remove_writing s node suits h =
         λ gone. (let e = role_edge (Guest g) Drive s.table.edges drive is in suits.alone e.edge e.there (e.to ∙ gone)),
       );
     })
-    h.table.apart h.writing
+    h.table h.writing
   where
     now : State
     now = stepped s (change.RemoveNode node)
@@ -421,15 +435,15 @@ remove_writing s node suits h =
             let old = kept_row s.table now.table node suits.alone refl kinds refl h.table later over.there in
             (h.table.alone name later of.row (record { there = old.0; filename = over.filename }) of.stands, old.1)
 
-        by_from : ((of.row.id ≡ node) ⊎ (child s.table node File ≡ Some of.row.id)) → IsUsedUp now (left_in s.disks row name)
+        by_from : ((of.row.id ≡ node) ⊎ ((child s.table node File ≡ Some of.row.id) × IsNoFilter s.table node)) → IsUsedUp now (left_in s.disks row name)
         by_from (inl own) = record {
           used = suits.own name of.row of.stands own;
           gone = λ later over. let is = alone later over in absurd (is.1 (is.0 ∙ own));
           is_open = λ later over under. let is = alone later over in is.1 (is.0 ∙ own);
         }
         by_from (inr child) =
-            let f = file_edge row of.row found of.stands.there child in
-            let taken = h.table.taken row of.row f (subst IsSome (sym of.stands.filename) refl) in
+            let f = file_edge row of.row found of.stands.there child.0 in
+            let taken = h.table.taken row of.row f (subst IsSome (sym of.stands.filename) refl) (child.1 row found) in
             record {
               used = suits.under name of.row f.edge of.stands f.there (f.parent ∙ ap Node (row_of row found).1) f.role f.child;
               gone = λ later over.
@@ -443,8 +457,8 @@ remove_writing s node suits h =
                 → (OldEdge s.table (IsOther s.table node) under.edge ⊎ NoEdge under.edge) → ⊥
             not_under later over under (inr never) = never
             not_under later over under (inl old) =
-                let f = file_edge row of.row found of.stands.there child in
-                let taken = h.table.taken row of.row f (subst IsSome (sym of.stands.filename) refl) in
+                let f = file_edge row of.row found of.stands.there child.0 in
+                let taken = h.table.taken row of.row f (subst IsSome (sym of.stands.filename) refl) (child.1 row found) in
                 let sole = taken.sole old.edge old.there (old.same.child ∙ under.child ∙ (alone later over).0) in
                 (old.parent node (sole.0 ∙ ap Node (row_of row found).1)).1 refl
 
@@ -492,22 +506,22 @@ remove_writing s node suits h =
         own : Contains s.table.nodes row × (row.id ≡ node)
         own = row_of row found
 
-        by_from : ((mine.row.id ≡ node) ⊎ (child s.table node File ≡ Some mine.row.id))
-            → ((its.row.id ≡ other) ⊎ (child s.table other File ≡ Some its.row.id)) → ⊥
+        by_from : ((mine.row.id ≡ node) ⊎ ((child s.table node File ≡ Some mine.row.id) × IsNoFilter s.table node))
+            → ((its.row.id ≡ other) ⊎ ((child s.table other File ≡ Some its.row.id) × IsNoFilter s.table other)) → ⊥
         by_from (inl a) (inl b) = here.1 (sym b ∙ sym ids ∙ a)
         by_from (inl a) (inr b) =
-            let e = role_edge (Node other) File s.table.edges its.row.id b in
+            let e = role_edge (Node other) File s.table.edges its.row.id b.0 in
             suits.alone e.edge e.there (e.to ∙ sym ids ∙ a)
         by_from (inr a) (inl b) =
-            let f = file_edge row mine.row found mine.stands.there a in
-            let taken = h.table.taken row mine.row f (subst IsSome (sym mine.stands.filename) refl) in
+            let f = file_edge row mine.row found mine.stands.there a.0 in
+            let taken = h.table.taken row mine.row f (subst IsSome (sym mine.stands.filename) refl) (a.1 row found) in
             let sole = taken.sole entered.edge entered.there (entered.child ∙ sym b ∙ sym ids) in
-            let filter = subst IsSome taken.format (entered.from row own.0 sole.0) in
+            let filter = subst IsSome (a.1 row found) (entered.from row own.0 sole.0) in
             cc
         by_from (inr a) (inr b) =
-            let f = file_edge row mine.row found mine.stands.there a in
-            let taken = h.table.taken row mine.row f (subst IsSome (sym mine.stands.filename) refl) in
-            let e = role_edge (Node other) File s.table.edges its.row.id b in
+            let f = file_edge row mine.row found mine.stands.there a.0 in
+            let taken = h.table.taken row mine.row f (subst IsSome (sym mine.stands.filename) refl) (a.1 row found) in
+            let e = role_edge (Node other) File s.table.edges its.row.id b.0 in
             let sole = taken.sole e.edge e.there (e.to ∙ sym ids) in
             let same : other ≡ row.id = (let both = sym e.from ∙ sole.0 in cc) in
             here.1 (same ∙ own.1)
@@ -569,6 +583,8 @@ device_writing s device node suits h =
       left = All-weaker (IsUsedUp s) (IsUsedUp now) (λ l used. left_still s now (IsThere s.table) NoRow New grow l used.used
           (λ r never. absurd never) (λ e r is_new role child over. absurd (let is = is_new.role ∙ role in cc)) used) s.left h.writing.left;
       written = λ other name here entered of known. known;
+      used = λ other name here entered of used. used;
+      copies_new = λ r disk never. absurd never;
       emptied = λ other name here entered of none. none;
       devices = λ number other found. elim (find-push (λ d. d.number == number) s.table.devices device other found) [
         | inl was ↦ inl (was, by_other number other was)
@@ -576,7 +592,7 @@ device_writing s device node suits h =
       ];
       drives = λ g drive is. drive_there s.table h.table.edges g drive is;
     })
-    h.table.apart h.writing
+    h.table h.writing
   where
     now : State
     now = stepped s (change.AddDevice device node)

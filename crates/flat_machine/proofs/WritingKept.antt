@@ -24,9 +24,9 @@ use Rattle.blk_history.specs.Fold.{With}
 use Rattle.flat_machine.specs.State.{State, Unknown, Left, content_in, filename_of, drive_of}
 use Rattle.flat_machine.specs.Changed.{own_filename}
 use Rattle.flat_machine.specs.Writing.{IsGuestWritable, written_file}
-use Rattle.flat_machine.specs.Wiring.{HaveDistinctIds, StandsFor, LeadsToFile, writes_through}
-use Rattle.flat_machine.specs.Standing.{HasBytes, IsUsedUp, MayGuestWrite, WritingStands}
-use Rattle.flat_machine.proofs.Rows.{BothAt, disk_node-there}
+use Rattle.flat_machine.specs.Wiring.{HaveDistinctIds, StandsFor, LeadsToFile, TableStands, writes_through}
+use Rattle.flat_machine.specs.Standing.{HasBytes, IsUsedFile, IsUsedUp, MayGuestWrite, WritingStands}
+use Rattle.flat_machine.proofs.Rows.{BothAt, disk_node-there, disk_reached}
 use Rattle.flat_machine.proofs.Wired.{OldRow, Grows, was_file, stood_for, same_disk, disk_there, same_copies}
 
 -- ---- nodes that guests reach
@@ -103,18 +103,23 @@ disk-enters t apart drive here =
 
 -- ---- the file that a node writes
 
--- the `file` node is the node or under it
+-- it is no filter
+abbrev pub IsNoFilter : RunTable → ℕ → Type 0
+IsNoFilter t node = (row : NodeRecord) → node_by_id t node ≡ Some row → filter_role row.kind ≡ None
+
+-- the `file` node is the node, or under it where that is a format node
 pub record WritesFileUnder (t : RunTable) (node : ℕ) (name : List ℕ) : Type 0 where
   pub row : NodeRecord
   pub stands : StandsFor t name row
-  pub from : (row.id ≡ node) ⊎ (child t node File ≡ Some row.id)
+  pub from : (row.id ≡ node) ⊎ ((child t node File ≡ Some row.id) × IsNoFilter t node)
 
 pub writes_file : (t : RunTable) (node : ℕ) (name : List ℕ) → written_file t node ≡ Some name → WritesFileUnder t node name
 writes_file t node name = by_row (node_by_id t node) refl
   where
-    under : (found : Option ℕ) → child t node File ≡ found → option_and_then (filename_of t) found ≡ Some name → WritesFileUnder t node name
-    under None e is = absurd cc
-    under (Some file) e is = at_file (node_by_id t file) refl is
+    under : IsNoFilter t node → (found : Option ℕ) → child t node File ≡ found → option_and_then (filename_of t) found ≡ Some name
+        → WritesFileUnder t node name
+    under own None e is = absurd cc
+    under own (Some file) e is = at_file (node_by_id t file) refl is
       where
         at_file : (row : Option NodeRecord) → node_by_id t file ≡ row → option_and_then (λ r. r.filename) row ≡ Some name → WritesFileUnder t node name
         at_file None f named = absurd cc
@@ -123,28 +128,32 @@ writes_file t node name = by_row (node_by_id t node) refl
             record {
               row = row;
               stands = record { there = here.0; filename = named };
-              from = inr (e ∙ ap Some (sym (eqb-true row.id file here.1)));
+              from = inr (e ∙ ap Some (sym (eqb-true row.id file here.1)), own);
             }
 
-    by_kind : (row : NodeRecord) → node_by_id t node ≡ Some row → (kind : Kind) → own_filename t row kind ≡ Some name → WritesFileUnder t node name
-    by_kind row e Protocol is =
+    no_filter : (row : NodeRecord) → node_by_id t node ≡ Some row → filter_role row.kind ≡ None → IsNoFilter t node
+    no_filter row e own other f = let same : other ≡ row = cc in ap (λ r. filter_role r.kind) same ∙ own
+
+    by_kind : (row : NodeRecord) → node_by_id t node ≡ Some row → (kind : Kind) → row.kind ≡ kind → own_filename t row kind ≡ Some name
+        → WritesFileUnder t node name
+    by_kind row e Protocol k is =
         let here = find-Some (λ r. r.id == node) t.nodes row e in
         record { row = row; stands = record { there = here.0; filename = is }; from = inl (eqb-true row.id node here.1) }
-    by_kind row e Raw is =
+    by_kind row e Raw k is =
         let id_is = eqb-true row.id node (find-Some (λ r. r.id == node) t.nodes row e).1 in
-        under (child t node File) refl (subst (λ n. option_and_then (filename_of t) (child t n File) ≡ Some name) id_is is)
-    by_kind row e Qcow2 is =
+        under (no_filter row e (ap filter_role k)) (child t node File) refl (subst (λ n. option_and_then (filename_of t) (child t n File) ≡ Some name) id_is is)
+    by_kind row e Qcow2 k is =
         let id_is = eqb-true row.id node (find-Some (λ r. r.id == node) t.nodes row e).1 in
-        under (child t node File) refl (subst (λ n. option_and_then (filename_of t) (child t n File) ≡ Some name) id_is is)
-    by_kind row e CopyOnRead is = absurd cc
-    by_kind row e BeforeWrite is = absurd cc
-    by_kind row e Mirror is = absurd cc
-    by_kind row e Commit is = absurd cc
+        under (no_filter row e (ap filter_role k)) (child t node File) refl (subst (λ n. option_and_then (filename_of t) (child t n File) ≡ Some name) id_is is)
+    by_kind row e CopyOnRead k is = absurd cc
+    by_kind row e BeforeWrite k is = absurd cc
+    by_kind row e Mirror k is = absurd cc
+    by_kind row e Commit k is = absurd cc
 
     by_row : (found : Option NodeRecord) → node_by_id t node ≡ found → option_and_then (λ row. own_filename t row row.kind) found ≡ Some name
         → WritesFileUnder t node name
     by_row None e is = absurd cc
-    by_row (Some row) e is = by_kind row e row.kind is
+    by_row (Some row) e is = by_kind row e row.kind refl is
 
 module _ (s now : State) (P : ℕ → Type 0) (IsNewRow : NodeRecord → Type 0) (IsNewEdge : Edge → Type 0)
     (g : Grows s.table now.table P IsNewRow IsNewEdge) where
@@ -241,6 +250,11 @@ module _ (s now : State) (P : ℕ → Type 0) (IsNewRow : NodeRecord → Type 0)
     -- of the file that a guest may write nothing is known, and no disk is left in it
     pub written : (node : ℕ) (name : List ℕ) → P node → IsEntered s.table node → WritesFileUnder s.table node name
         → content_in s.files name ≡ Some Unknown → content_in now.files name ≡ Some Unknown
+    pub used : (node : ℕ) (name : List ℕ) → P node → IsEntered s.table node → WritesFileUnder s.table node name
+        → file_state s.table name ≡ Some Used → file_state now.table name ≡ Some Used
+    -- a new `copy-on-read` reads as no `file` node
+    pub copies_new : (row disk : NodeRecord) → IsNewRow row → filter_role row.kind ≡ Some File
+        → node_by_id now.table (disk_node now.table row.id) ≡ Some disk → disk.filename ≡ None
     pub emptied : (node : ℕ) (name : List ℕ) → P node → IsEntered s.table node → WritesFileUnder s.table node name
         → All (λ l. l.file ≢ name) s.left → All (λ l. l.file ≢ name) now.left
     -- a device was there, with its drive, or it may write as it does
@@ -266,8 +280,61 @@ module _ (s now : State) (P : ℕ → Type 0) (IsNewRow : NodeRecord → Type 0)
       })
       may
 
-  pub grown_writing : KeepsWritable → HaveDistinctIds s.table → WritingStands s → WritingStands now
-  grown_writing keeps apart h = record {
+  -- the file that a `copy-on-read` reads stays used
+  copied_still : KeepsWritable → TableStands s.table → WritingStands s → (name : List ℕ) (row disk : NodeRecord) → OldRow s.table P row
+      → filter_role row.kind ≡ Some File → node_by_id now.table (disk_node now.table row.id) ≡ Some disk → disk.filename ≡ Some name
+      → IsUsedFile now name
+  copied_still keeps t h name row disk old filter at named =
+      let used = h.copied name old.row both.row old.there filter_was (subst (λ n. node_by_id s.table n ≡ Some both.row) (ap (disk_node s.table) old.like.id) both.found)
+      stands.filename in
+      record {
+        state = keeps.used (disk_node s.table row.id) name there entered writes used.state;
+        content = keeps.written (disk_node s.table row.id) name there entered writes used.content;
+      }
+    where
+      here : P row.id
+      here = subst P (sym old.like.id) old.kept
+
+      there : P (disk_node s.table row.id)
+      there = disk_there s.table now.table P IsNewRow IsNewEdge g row.id here
+
+      both : BothAt s.table now.table (disk_node s.table row.id)
+      both = g.stays (disk_node s.table row.id) there
+
+      filter_was : filter_role old.row.kind ≡ Some File
+      filter_was = sym (ap filter_role old.like.kind) ∙ filter
+
+      found : Contains s.table.nodes both.row × (both.row.id ≡ disk_node s.table row.id)
+      found =
+          let f = find-Some (λ r. r.id == disk_node s.table row.id) s.table.nodes both.row both.found in
+          (f.0, eqb-true both.row.id (disk_node s.table row.id) f.1)
+
+      stands : StandsFor s.table name both.row
+      stands =
+          let same_disk_now = same_disk s.table now.table P IsNewRow IsNewEdge g row.id here in
+          let at_later : node_by_id now.table (disk_node s.table row.id) ≡ Some disk =
+          subst (λ n. node_by_id now.table n ≡ Some disk) same_disk_now at in
+          let found_later = both.found_later in
+          let same : both.later ≡ disk = cc in
+          record { there = found.0; filename = sym both.like.filename ∙ ap (λ r. r.filename) same ∙ named }
+
+      writes : WritesFileUnder s.table (disk_node s.table row.id) name
+      writes = record { row = both.row; stands = stands; from = inl found.1 }
+
+      entered : IsEntered s.table (disk_node s.table row.id)
+      entered = elim (disk_reached s.table (IsEntered s.table) (λ n below is. filtered-enters s.table t.apart n below is) row.id) [
+        | inr reached ↦ reached
+        | inl own ↦
+            let at_old = t.apart old.row old.there in
+            let at_both : node_by_id s.table old.row.id ≡ Some both.row =
+            subst (λ n. node_by_id s.table n ≡ Some both.row) (own ∙ old.like.id) both.found in
+            let same : old.row ≡ both.row = cc in
+            let none : filter_role old.row.kind ≡ None = ap (λ r. filter_role r.kind) same ∙ ap filter_role (t.drivers name both.row stands) in
+            absurd cc
+      ]
+
+  pub grown_writing : KeepsWritable → TableStands s.table → WritingStands s → WritingStands now
+  grown_writing keeps t h = record {
     named = λ name row over writes. elim (g.rows row over.there) [
       | inl old ↦
           keeps.names name (h.named name old.row (stood_for s.table now.table P IsNewRow IsNewEdge g name row old over)
@@ -281,6 +348,10 @@ module _ (s now : State) (P : ℕ → Type 0) (IsNewRow : NodeRecord → Type 0)
           keeps.known name w.over_row.row w.under_row.row w.file name_is (h.unknown name w.over_row.row w.under_row.row w.file name_is)
       | inr is_new ↦ keeps.known_new name over under f is_new is
     ];
+    copied = λ name row disk there filter at named. elim (g.rows row there) [
+      | inl old ↦ copied_still keeps t h name row disk old filter at named
+      | inr is_new ↦ let none = keeps.copies_new row disk is_new filter at in absurd cc
+    ];
     disks = λ row there own. elim (g.rows row there) [
       | inl old ↦ subst (HasBytes now) (sym old.like.id)
           (keeps.bytes old.row.id old.kept (h.disks old.row old.there (sym (ap filter_role old.like.kind) ∙ own)))
@@ -290,7 +361,7 @@ module _ (s now : State) (P : ℕ → Type 0) (IsNewRow : NodeRecord → Type 0)
     writers = λ number device found. elim (keeps.devices number device found) [
       | inl was ↦
           subst (λ drive. With drive (MayGuestWrite now device)) (sym was.1)
-          (drive_still keeps apart device number (drive_of s.table number) refl (h.writers number device was.0))
+          (drive_still keeps t.apart device number (drive_of s.table number) refl (h.writers number device was.0))
       | inr may ↦ may
     ];
   }

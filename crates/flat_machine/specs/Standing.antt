@@ -1,10 +1,11 @@
 -- What holds of every state that a run comes to.
 use Rattle.std.specs.Prelude.{◌≡◌, ◌⊎◌, ℕ, true, false, ◌==◌, List, Contains, All, find, Option, Some, None, IsSome}
+use Rattle.blk_graph.specs.declared.edge.Role.TheVariants.{File}
 use Rattle.qmp_rules.specs.declared.rows.NodeRecord.{NodeRecord}
 use Rattle.qmp_rules.specs.declared.rows.DeviceRow.{DeviceRow}
 use Rattle.qmp_rules.specs.declared.rows.FileState.{FileState}
 use Rattle.qmp_rules.specs.declared.rows.FileState.TheVariants.{Made, Formatted, Used}
-use Rattle.qmp_rules.specs.Table.{RunTable, device_by_number, file_state, has_name}
+use Rattle.qmp_rules.specs.Table.{RunTable, node_by_id, device_by_number, file_state, has_name}
 use Rattle.qmp_rules.specs.Chains.{filter_role, disk_node}
 use Rattle.blk_history.specs.Fold.{With}
 use Rattle.flat_machine.specs.State.{State, Content, Bytes, Blank, Unknown, Left, content_in, drive_of}
@@ -25,7 +26,7 @@ AreNamed s =
     (name : List ℕ) (row : NodeRecord) → StandsFor s.table name row → row.read_only ≡ false
     → has_name name s.named ≡ true
 
--- why a `file` node has no flat disk: its file was used or formatted, or a format node is over it
+-- why a `file` node has no flat disk: its file was used or formatted, or a node has it as its file
 abbrev pub IsLostBy : RunTable → List ℕ → NodeRecord → Type 0
 IsLostBy t name row =
     (file_state t name ≡ Some Used)
@@ -53,7 +54,7 @@ IsOfState (Some Made) content = IsKnownWhole content
 IsOfState (Some Formatted) content = IsBlankFile content
 IsOfState (Some Used) content = Unit {0}
 
--- so it is with each file of which there is word, but for one under a format node
+-- so it is with each file of which there is word, but for one that a node has as its file
 abbrev pub IsOpenlyKnown : RunTable → List ℕ → Type 0
 IsOpenlyKnown t name = (row : NodeRecord) → StandsFor t name row → IsUnder t.edges row.id → ⊥
 
@@ -63,12 +64,25 @@ FilesAreOfState s =
     → IsOpenlyKnown s.table name
     → IsOfState (file_state s.table name) content
 
--- of one under a format node nothing is known
+-- of such a one nothing is known
 abbrev pub TakenAreUnknown : State → Type 0
 TakenAreUnknown s =
     (name : List ℕ) (over under : NodeRecord) → LeadsToFile s.table over under
     → under.filename ≡ Some name
     → content_in s.files name ≡ Some Unknown
+
+-- a file that was used, and of which nothing is known
+pub record IsUsedFile (s : State) (name : List ℕ) : Type 0 where
+  pub state : file_state s.table name ≡ Some Used
+  pub content : content_in s.files name ≡ Some Unknown
+
+-- so it is where a `copy-on-read` node reads as the `file` node: a job that used the file left it so
+abbrev pub CopiedAreUsed : State → Type 0
+CopiedAreUsed s =
+    (name : List ℕ) (row disk : NodeRecord) → Contains s.table.nodes row
+    → filter_role row.kind ≡ Some File
+    → node_by_id s.table (disk_node s.table row.id) ≡ Some disk → disk.filename ≡ Some name
+    → IsUsedFile s name
 
 -- a formatted file has a node over it
 abbrev pub FormattedAreOpen : RunTable → Type 0
@@ -111,6 +125,7 @@ WritersStand s =
 pub record WritingStands (s : State) : Type 0 where
   pub named : AreNamed s
   pub unknown : TakenAreUnknown s
+  pub copied : CopiedAreUsed s
   pub disks : HaveBytes s
   pub left : All (IsUsedUp s) s.left
   pub writers : WritersStand s

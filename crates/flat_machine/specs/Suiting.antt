@@ -15,7 +15,7 @@ use Rattle.qmp_rules.specs.Chains.{filter_role}
 use Rattle.qmp_rules.specs.Changes.{changed}
 use Rattle.flat_machine.specs.State.{State, content_in}
 use Rattle.flat_machine.specs.Changed.{stepped}
-use Rattle.flat_machine.specs.Wiring.{StandsFor, IsUnder, HasDeviceNumber, HasOwnName, TableStands}
+use Rattle.flat_machine.specs.Wiring.{StandsFor, IsUnderNoFormat, HasDeviceNumber, HasOwnName, TableStands}
 use Rattle.flat_machine.specs.Standing.{IsLostBy, MayGuestWrite, Stands}
 
 abbrev pub IsThere : RunTable → ℕ → Type 0
@@ -28,12 +28,6 @@ HasNoNode t name = (row : NodeRecord) → StandsFor t name row → ⊥
 -- no edge leads to the node
 abbrev pub IsAlone : RunTable → ℕ → Type 0
 IsAlone t node = (edge : Edge) → Contains t.edges edge → edge.child ≡ node → ⊥
-
--- it is no `file` node that a format node is over
-abbrev pub IsUnderNoFormat : RunTable → ℕ → Type 0
-IsUnderNoFormat t node =
-    (row : NodeRecord) → node_by_id t node ≡ Some row → IsSome row.filename → IsUnder t.edges node
-    → ⊥
 
 -- a node that is no filter, and no `file` node under a format node
 pub record IsPlainNode (t : RunTable) (node : ℕ) : Type 0 where

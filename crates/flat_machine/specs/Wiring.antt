@@ -1,8 +1,8 @@
 -- What holds of the table of every state that a run comes to: how its rows and edges hang together.
-use Rattle.std.specs.Prelude.{◌≡◌, ◌≢◌, ◌≤◌, ℕ, true, false, Bool, not, ◌||◌, List, length, Contains, Option, Some, None, IsSome}
+use Rattle.std.specs.Prelude.{◌≡◌, ◌≢◌, ◌⊎◌, ◌≤◌, ℕ, true, false, Bool, not, ◌||◌, List, length, Contains, Option, Some, None, IsSome}
 use Rattle.blk_graph.specs.declared.edge.Edge.{Edge}
 use Rattle.blk_graph.specs.declared.edge.Parent.TheVariants.{Node}
-use Rattle.blk_graph.specs.declared.edge.Role.TheVariants.{File}
+use Rattle.blk_graph.specs.declared.edge.Role.TheVariants.{File, Filtered}
 use Rattle.blk_graph.specs.declared.kind.Kind.TheVariants.{Protocol, CopyOnRead}
 use Rattle.blk_graph.specs.Paths.{IsAcyclic}
 use Rattle.blk_graph.specs.Permissions.{has_role}
@@ -45,6 +45,12 @@ HasOwnName row =
 abbrev pub HaveOwnNames : RunTable → Type 0
 HaveOwnNames t = (row : NodeRecord) → Contains t.nodes row → HasOwnName row
 
+-- a job's filter has no name that a command can say
+abbrev pub FiltersAreHidden : RunTable → Type 0
+FiltersAreHidden t =
+    (row : NodeRecord) → Contains t.nodes row → filter_role row.kind ≡ Some Filtered
+    → is_name row.name ≡ false
+
 -- ---- edges
 
 -- a node's edge is that of a node that is there, and leads to one
@@ -70,7 +76,7 @@ abbrev pub HaveOneFile : RunTable → Type 0
 HaveOneFile t =
     (edge : Edge) → Contains t.edges edge → edge.role ≡ File → (node : ℕ) × IsFileOf t edge node
 
--- a format node is over the `file` node
+-- a node has the `file` node as its file: a format node, or a `copy-on-read` node that a job left over it
 pub record IsUnder (edges : List Edge) (file : ℕ) : Type 0 where
   pub edge : Edge
   pub there : Contains edges edge
@@ -87,10 +93,9 @@ pub record LeadsToFile (t : RunTable) (over under : NodeRecord) : Type 0 where
   pub role : edge.role ≡ File
   pub child : edge.child ≡ under.id
 
--- A `file` node that is under another one: that is no filter and the only one over it. It has no flat disk, and may be written
--- where the node over it may.
+-- A `file` node that is under a format node, and under that alone. It has no flat disk, and may be written where the node over
+-- it may.
 pub record IsUnderOne (t : RunTable) (over under : NodeRecord) : Type 0 where
-  pub format : filter_role over.kind ≡ None
   pub gone : under.is_settled ≡ false
   pub sole : (edge : Edge) → Contains t.edges edge → edge.child ≡ under.id
       → (edge.parent ≡ Node over.id) × (edge.role ≡ File)
@@ -99,7 +104,15 @@ pub record IsUnderOne (t : RunTable) (over under : NodeRecord) : Type 0 where
 abbrev pub FilesAreTaken : RunTable → Type 0
 FilesAreTaken t =
     (over under : NodeRecord) → LeadsToFile t over under → IsSome under.filename
+    → filter_role over.kind ≡ None
     → IsUnderOne t over under
+
+-- it is no `file` node that a format node is over
+abbrev pub IsUnderNoFormat : RunTable → ℕ → Type 0
+IsUnderNoFormat t node =
+    (row over : NodeRecord) → node_by_id t node ≡ Some row → IsSome row.filename
+    → LeadsToFile t over row → filter_role over.kind ≡ None
+    → ⊥
 
 -- no node is over one that copies what is read
 abbrev pub CopiesAreOnTop : RunTable → Type 0
@@ -119,11 +132,11 @@ OthersAreFiltered t =
 abbrev pub writes_through : RunTable → Bool → ℕ → Bool
 writes_through t read_only node = not read_only || copies_through t node
 
--- The node that a node reads as is there and no filter, and a `file` node only where it is that node itself. It may be
--- written where that one may, or where a read writes it.
+-- The node that a node reads as is there and no filter, and where it is another one no `file` node under a format node. It may
+-- be written where that one may, or where a read writes it.
 pub record IsDiskOf (t : RunTable) (row disk : NodeRecord) : Type 0 where
   pub own : filter_role disk.kind ≡ None
-  pub itself : IsSome disk.filename → disk.id ≡ row.id
+  pub itself : IsSome disk.filename → (disk.id ≡ row.id) ⊎ IsUnderNoFormat t disk.id
   pub writable : writes_through t row.read_only row.id ≡ true → disk.read_only ≡ false
 
 abbrev pub ReadAsNodes : RunTable → Type 0
@@ -153,6 +166,7 @@ pub record TableStands (t : RunTable) : Type 0 where
   pub drivers : AreFileNodes t
   pub names : HaveNames t
   pub own_names : HaveOwnNames t
+  pub hidden : FiltersAreHidden t
   pub alone : StandAlone t
   pub edges : EdgesHaveEnds t
   pub roles : HaveRoles t
@@ -164,7 +178,7 @@ pub record TableStands (t : RunTable) : Type 0 where
   pub reads : ReadAsNodes t
   pub numbers : AreNumbered t
 
--- a `file` node that was made with another one is under that, and has the name that it gets by that one's
+-- a `file` node that was made with a format node is under that, and has the name that it gets by that one's
 pub record IsInline (t : RunTable) (row : NodeRecord) (over : ℕ) : Type 0 where
   pub file : IsSome row.filename
   pub edge : Edge
@@ -172,6 +186,7 @@ pub record IsInline (t : RunTable) (row : NodeRecord) (over : ℕ) : Type 0 wher
   pub parent : edge.parent ≡ Node over
   pub role : edge.role ≡ File
   pub child : edge.child ≡ row.id
+  pub format : With (node_by_id t over) (λ node. filter_role node.kind ≡ None)
   pub named : With (node_by_id t over) (λ node. row.name ≡ inline_name node.name None)
 
 abbrev pub InlineAreUnder : RunTable → Type 0

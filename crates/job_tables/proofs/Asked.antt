@@ -24,13 +24,13 @@ use Rattle.qmp_rules.specs.declared.rows.AskedEnd.{AskedEnd}
 use Rattle.qmp_rules.specs.declared.rows.JobRecord.{JobRecord}
 use Rattle.qmp_rules.specs.Changes.{changed, all_changed, followed, asked_for, ready_for}
 use Rattle.qmp_rules.specs.Table.{RunTable, node_by_id, kinds_of, child}
-use Rattle.flat_machine.specs.Wiring.{IsUnder}
 use Rattle.flat_machine.proofs.Tables.{refreshed-old}
 use Rattle.job_edges.specs.Copies.{Copied, AreApart}
 use Rattle.job_tables.specs.Rows.{edges_by, edges_of_job, nodes_of_job, AreLinked, HasFilterOf, mirror_to, mirrors}
 use Rattle.job_tables.specs.Jobs.{CopyStands, IsOverFilter, StandsByKind, filter_kind, JobStands, JobsStand}
 use Rattle.job_tables.specs.Changes.{LeavesBySnapshot}
 use Rattle.job_tables.proofs.RowEdges.{in_left, copy_holds, holds_source}
+use Rattle.job_tables.proofs.Plain.{HasFile, formats-same, plain_same}
 use Rattle.job_tables.proofs.Kept.{mirror_row}
 use Rattle.job_tables.proofs.Others.{OthersStand, IsNobodys, move_others, rebase_others}
 
@@ -116,13 +116,8 @@ module _ (t now : RunTable) (f : JobRecord → JobRecord) (says : (row : JobReco
   stands_as row s = record {
     slot = subst (λ n. n < 16) (sym (says row).slot) s.slot;
     plain = λ node held.
-        let p = s.plain node (subst (λ ids. Contains ids node) (nodes_of row) held) in
-        record {
-          row = p.row;
-          there = found_as node ∙ p.there;
-          own = p.own;
-          free = λ r at named under. p.free r (sym (found_as node) ∙ at) named (subst (λ es. IsUnder es node) edges under);
-        };
+        plain_same t now node (found_as node) (formats-same t now node nodes) (λ over file. subst (λ es. HasFile es over node) edges file)
+        (s.plain node (subst (λ ids. Contains ids node) (nodes_of row) held));
     edges = λ e own. subst (λ es. Contains es e) (sym edges) (s.edges e (subst (λ es. Contains es e) (says row).edges own));
     shape = subst (StandsByKind now (f row)) (sym (says row).kind) (shape_as row row.kind s.shape);
   }

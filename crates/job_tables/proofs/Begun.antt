@@ -23,11 +23,10 @@ use Rattle.qmp_rules.specs.declared.change.Change.{Change}
 use Rattle.qmp_rules.specs.declared.change.Change.TheVariants as change
 use Rattle.qmp_rules.specs.declared.rows.NodeRecord.{NodeRecord}
 use Rattle.qmp_rules.specs.declared.rows.JobRecord.{JobRecord}
-use Rattle.qmp_rules.specs.Chains.{filter_role}
 use Rattle.qmp_rules.specs.Changes.{changed, all_changed, node_changed, unsettled, writable}
 use Rattle.qmp_rules.specs.Table.{RunTable, node_by_id, child, kinds_of}
 use Rattle.flat_machine.specs.Suiting.{IsPlainNode}
-use Rattle.flat_machine.specs.Wiring.{IsUnder, EdgesHaveEnds}
+use Rattle.flat_machine.specs.Wiring.{EdgesHaveEnds}
 use Rattle.flat_machine.proofs.Tables.{HasLike, same-edge, pushed-cases, refreshed-old}
 use Rattle.job_edges.specs.Copies.{Copied, IsApartFrom, AreApart}
 use Rattle.job_tables.specs.Rows.{edges_of_job, nodes_of_job, AreLinked, HasFilterOf, mirror_to, mirrors}
@@ -35,7 +34,8 @@ use Rattle.job_tables.specs.Jobs.{CopyStands, IsOverFilter, StandsByKind, JobSta
 use Rattle.job_tables.proofs.NodeKinds.{found_mapped}
 use Rattle.job_tables.proofs.RowEdges.{in_left, in_right, in_either, edge_slot}
 use Rattle.job_tables.proofs.Kept.{HaveSameJobEdges, refreshed_jobs, refreshed_jobs_back}
-use Rattle.job_tables.proofs.Others.{OthersStand, RowStays, row_stays, KeepsRow, unsettled_row, mapped_others, plain_same, filter_same}
+use Rattle.job_tables.proofs.Plain.{HasFile, KeepsRow, formats-same, formats-mapped, plain-back, plain_same}
+use Rattle.job_tables.proofs.Others.{OthersStand, RowStays, row_stays, unsettled_row, mapped_others, filter_same}
 use Rattle.job_tables.proofs.Left.{LeadsAs, leads_then, apart_as}
 use Rattle.job_tables.proofs.Uses.{UseOf, change_of, edge_of, Used, used_all, uses_by, uses_apart, edges_are}
 
@@ -79,10 +79,16 @@ module _ (t now : RunTable) (f : NodeRecord → NodeRecord) (keeps : (row : Node
   found_as : (node : ℕ) → node_by_id now node ≡ option_map f (node_by_id t node)
   found_as node = found_mapped t now f (λ r. (keeps r).id) nodes node
 
-  under_as : (node : ℕ) → IsUnder now.edges node → IsUnder t.edges node
-  under_as node under =
-      let x = like under.edge under.there in
-      record { edge = x.edge; there = x.there; over = x.same.role ∙ under.over; child = x.same.child ∙ under.child }
+  files_as : (node over : ℕ) → HasFile now.edges over node → HasFile t.edges over node
+  files_as node over file =
+      let x = like file.edge file.there in
+      record {
+        edge = x.edge;
+        there = x.there;
+        parent = x.same.parent ∙ file.parent;
+        role = x.same.role ∙ file.role;
+        child = x.same.child ∙ file.child;
+      }
 
   some_as : (o : Option NodeRecord) → IsSome o → IsSome (option_map f o)
   some_as None some = some
@@ -90,14 +96,8 @@ module _ (t now : RunTable) (f : NodeRecord → NodeRecord) (keeps : (row : Node
 
   pub mapped_like : IsLikeTable t now
   mapped_like = record {
-    plain = λ node p. record {
-      row = f p.row;
-      there = found_as node ∙ ap (option_map f) p.there;
-      own = ap filter_role (keeps p.row).kind ∙ p.own;
-      free = λ row at named under.
-          let one : row ≡ f p.row = let both : Some row ≡ Some (f p.row) = sym at ∙ found_as node ∙ ap (option_map f) p.there in cc both in
-          p.free p.row p.there (subst IsSome (ap (λ (r : NodeRecord). r.filename) one ∙ (keeps p.row).filename) named) (under_as node under);
-    };
+    plain = λ node p.
+        plain-back t now node p (f p.row) (found_as node ∙ ap (option_map f) p.there) (keeps p.row) (formats-mapped t now f keeps nodes node) (files_as node);
     absent = λ node none. found_as node ∙ ap (option_map f) none;
     children = children;
     jobs = jobs;
@@ -111,7 +111,7 @@ module _ (t now : RunTable) (f : NodeRecord → NodeRecord) (keeps : (row : Node
           parent = λ node from. subst IsSome (sym (found_as node)) (some_as (node_by_id t node) (h.parent node (x.same.parent ∙ from)));
           child = subst IsSome (sym (found_as e.child)) (some_as (node_by_id t e.child) (subst (λ n. IsSome (node_by_id t n)) x.same.child h.child));
         };
-    others = λ o. mapped_others t now f keeps nodes jobs same under_as children None o;
+    others = λ o. mapped_others t now f keeps nodes jobs same files_as children None o;
   }
 
 abbrev pub IsBefore : Change → Type 0
@@ -289,9 +289,9 @@ module _ (t : RunTable) (row : JobRecord) (loose : Option ℕ) (o : OthersStand 
   unfolding changed
   jobs_now = used.jobs
 
-  under_now : (node : ℕ) → IsUnder now.edges node → IsUnder t.edges node
+  files_now : (node over : ℕ) → HasFile now.edges over node → HasFile t.edges over node
   unfolding changed
-  under_now node under = used.under node under
+  files_now node over file = used.files node over file
 
   leads_now : LeadsAs t.edges now.edges
   unfolding changed
@@ -307,7 +307,7 @@ module _ (t : RunTable) (row : JobRecord) (loose : Option ℕ) (o : OthersStand 
   back_now e there is = used.back e there is
 
   plain_now : (node : ℕ) → IsPlainNode t node → IsPlainNode now node
-  plain_now node p = plain_same t now node (ap (find (λ r. r.id == node)) same_nodes) (under_now node) p
+  plain_now node p = plain_same t now node (ap (find (λ r. r.id == node)) same_nodes) (formats-same t now node same_nodes) (files_now node) p
 
   row_cases : (b : JobRecord) → Contains now.jobs b → Contains t.jobs b ⊎ (b ≡ row)
   row_cases b there = pushed-cases t.jobs row b (subst (λ rows. Contains rows b) jobs_now there)

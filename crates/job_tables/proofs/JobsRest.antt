@@ -26,7 +26,7 @@ use Rattle.qmp_rules.specs.declared.rows.JobRecord.{JobRecord}
 use Rattle.qmp_rules.specs.Chains.{filter_role}
 use Rattle.qmp_rules.specs.Table.{RunTable, node_by_id, child, kinds_of}
 use Rattle.flat_machine.specs.Suiting.{IsPlainNode}
-use Rattle.flat_machine.specs.Wiring.{TableStands}
+use Rattle.flat_machine.specs.Wiring.{LeadsToFile, TableStands}
 use Rattle.flat_machine.proofs.WritingKept.{role_edge}
 use Rattle.job_edges.specs.Chains.{is_plain}
 use Rattle.job_edges.specs.Held.{EdgesStand, IsOneJobs, IsUnread, FilterStands, HasBacking, is_job_filter}
@@ -95,7 +95,8 @@ module _ (t : RunTable) (h : TableStands t) (j : JobsStand t) (d : EdgesAreDrawn
 
   -- An edge of no job is open, unless it leads a format node to a `file` node.
   open_unless : (e : Edge) → Contains t.edges e → is_job e.parent ≡ false
-      → ((row : NodeRecord) (name : List ℕ) → node_by_id t e.child ≡ Some row → row.filename ≡ Some name → e.role ≡ File → ⊥)
+      → ((over row : NodeRecord) (name : List ℕ) → LeadsToFile t over row → filter_role over.kind ≡ None → node_by_id t e.child ≡ Some row
+      → row.filename ≡ Some name → ⊥)
       → is_open kinds e ≡ true
   open_unless e there own unless = by_parent e.parent refl own
     where
@@ -112,20 +113,25 @@ module _ (t : RunTable) (h : TableStands t) (j : JobsStand t) (d : EdgesAreDrawn
           closed : (filter_role (kind_at kinds n).kind ≡ None) × (e.role ≡ File)
           closed = closed_by (kind_at kinds n).kind e.role is
 
+          leads : LeadsToFile t over.row under.row
+          leads = record {
+            over_there = over.there;
+            under_there = under.there;
+            edge = e;
+            there = there;
+            parent = from ∙ ap Node (sym over.id);
+            role = closed.1;
+            child = sym under.id;
+          }
+
+          format : filter_role over.row.kind ≡ None
+          format = ap filter_role (sym (row_kind n (small_parent e n there from) over)) ∙ closed.0
+
           by_name : (name : Option (List ℕ)) → under.row.filename ≡ name → ⊥
-          by_name (Some name) named = unless under.row name under.found named closed.1
+          by_name (Some name) named = unless over.row under.row name leads format under.found named
           by_name None named =
-              let filter : IsSome (filter_role over.row.kind) = h.filtered over.row under.row (record {
-                over_there = over.there;
-                under_there = under.there;
-                edge = e;
-                there = there;
-                parent = from ∙ ap Node (sym over.id);
-                role = closed.1;
-                child = sym under.id;
-              }) named in
-              let none : filter_role over.row.kind ≡ None = ap filter_role (sym (row_kind n (small_parent e n there from) over)) ∙ closed.0 in
-              let bad = subst IsSome none filter in
+              let filter : IsSome (filter_role over.row.kind) = h.filtered over.row under.row leads named in
+              let bad = subst IsSome format filter in
               cc
 
       by_parent : (p : Parent) → e.parent ≡ p → is_job p ≡ false → is_open_from kinds e.role p ≡ true
@@ -135,10 +141,8 @@ module _ (t : RunTable) (h : TableStands t) (j : JobsStand t) (d : EdgesAreDrawn
 
   open_plain : (node : ℕ) → IsPlainNode t node → (e : Edge) → Contains t.edges e → e.child ≡ node → is_job e.parent ≡ false → is_open kinds e ≡ true
   open_plain node p e there at own =
-      open_unless e there own (λ row name found named role.
-      let same : row ≡ p.row = let both : Some row ≡ Some p.row = sym found ∙ ap (node_by_id t) at ∙ p.there in cc both in
-      p.free p.row p.there (subst IsSome (ap (λ (r : NodeRecord). r.filename) same) (subst IsSome (sym named) refl))
-      (record { edge = e; there = there; over = role; child = at }))
+      open_unless e there own (λ over row name leads format found named.
+      p.free row over (ap (node_by_id t) (sym at) ∙ found) (subst IsSome (sym named) refl) leads format)
 
   -- ---- filters
 
@@ -161,7 +165,7 @@ module _ (t : RunTable) (h : TableStands t) (j : JobsStand t) (d : EdgesAreDrawn
           on_parent (Job slot) from yes' = absurd (false≢true (sym filter ∙ plain_child e slot there from))
           on_parent (Node n) from yes' = absurd (false≢true yes')
           on_parent (Guest n) from yes' = absurd (false≢true yes')
-      by_job e there filter false is = open_unless e there is (λ row name found named role.
+      by_job e there filter false is = open_unless e there is (λ over row name leads format found named.
           let under : IsRowOf e.child = row_of e.child (h.edges e there).child in
           let same : under.row ≡ row = let both : Some under.row ≡ Some row = sym under.found ∙ found in cc both in
           let protocol : under.row.kind ≡ driver.Protocol

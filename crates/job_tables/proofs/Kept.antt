@@ -1,8 +1,8 @@
 -- Jobs stand in a table to which other nodes and guests come, or from which they go.
 use Rattle.std.proofs.Common.{◌≡◌, ℕ, List, [], ◌∷◌, ◌++◌, refl, sym, ◌∙◌, ap, subst, inl, inr, true, Option, Some, None}
-use Rattle.std.specs.Prelude.{IsSome}
+use Rattle.std.specs.Prelude.{◌==◌, IsSome}
 use Rattle.std.specs.List.{Contains}
-use Rattle.std.proofs.lemmas.Bool.{false≢true}
+use Rattle.std.proofs.lemmas.Bool.{false≢true, eqb-true}
 use Rattle.blk_graph.specs.declared.edge.Edge.{Edge}
 use Rattle.blk_graph.specs.declared.edge.Parent.{Parent}
 use Rattle.blk_graph.specs.declared.edge.Parent.TheVariants.{Node, Guest, Job}
@@ -13,7 +13,7 @@ use Rattle.blk_graph.specs.declared.kind.NodeKind.{NodeKind}
 use Rattle.blk_graph.specs.Edges.{is_job}
 use Rattle.blk_graph.specs.Paths.{IsPath, Reaches}
 use Rattle.blk_graph.specs.Refreshed.{uses_into, ruled, ruled_from, turned, refreshed}
-use Rattle.blk_graph.proofs.Members.{Contains-nil, Contains-here, Contains-there, Contains-cases, Contains-map, map-Contains}
+use Rattle.blk_graph.proofs.Members.{find-Some, Contains-nil, Contains-here, Contains-there, Contains-cases, Contains-map, map-Contains}
 use Rattle.blk_graph.proofs.PathLemmas.{Reaches-edge, Reaches-joined}
 use Rattle.blk_graph.proofs.RefreshLemmas.{refreshed-by, ruled-same}
 use Rattle.qmp_codec.specs.declared.event.JobKind.{JobKind}
@@ -101,18 +101,30 @@ module _ (t now : RunTable) (P : ℕ → Type 0) (IsNewRow : NodeRecord → Type
     row = b.later;
     there = b.found_later;
     own = ap filter_role (b.like.kind ∙ ap (λ (r : NodeRecord). r.kind) same_row) ∙ p.own;
-    free = λ r found named under.
+    free = λ r x found named f own.
         let is_later : r ≡ b.later = let both : Some r ≡ Some b.later = sym found ∙ b.found_later in cc both in
         let file : IsSome p.row.filename
         = subst IsSome (ap (λ (x : NodeRecord). x.filename) is_later ∙ b.like.filename ∙ ap (λ (x : NodeRecord). x.filename) same_row) named in
-        elim (g.edges under.edge under.there) [
-          | inl old ↦ p.free p.row p.there file (record {
-            edge = old.edge;
-            there = old.there;
-            over = old.same.role ∙ under.over;
-            child = old.same.child ∙ under.child;
-          })
-          | inr new ↦ over under.edge row node p.row new under.over here held under.child p.there file
+        let at : r.id ≡ node = eqb-true r.id node (find-Some (λ (y : NodeRecord). y.id == node) now.nodes r found).1 in
+        elim (g.edges f.edge f.there) [
+          | inr new ↦ over f.edge row node p.row new f.role here held (f.child ∙ at) p.there file
+          | inl old ↦
+              let from : old.edge.parent ≡ Node x.id = old.same.parent ∙ f.parent in
+              elim (g.rows x f.over_there) [
+                | inr new ↦ g.others x new (old.parent x.id from)
+                | inl was ↦
+                    p.free p.row was.row p.there file
+                    (record {
+                      over_there = was.there;
+                      under_there = row_there;
+                      edge = old.edge;
+                      there = old.there;
+                      parent = from ∙ ap Node was.like.id;
+                      role = old.same.role ∙ f.role;
+                      child = old.same.child ∙ f.child ∙ at ∙ sym row_id;
+                    })
+                    (sym (ap filter_role was.like.kind) ∙ own)
+              ]
         ];
   }
     where
@@ -121,6 +133,12 @@ module _ (t now : RunTable) (P : ℕ → Type 0) (IsNewRow : NodeRecord → Type
 
       b : BothAt t now node
       b = g.stays node (stay row node here held)
+
+      row_there : Contains t.nodes p.row
+      row_there = (find-Some (λ (y : NodeRecord). y.id == node) t.nodes p.row p.there).0
+
+      row_id : p.row.id ≡ node
+      row_id = eqb-true p.row.id node (find-Some (λ (y : NodeRecord). y.id == node) t.nodes p.row p.there).1
 
       same_row : b.row ≡ p.row
       same_row = let both : Some b.row ≡ Some p.row = sym b.found ∙ p.there in cc both

@@ -30,7 +30,6 @@ use Rattle.qmp_rules.specs.Changes.{changed, all_changed, node_changed, settled,
 use Rattle.qmp_rules.specs.Ends.{drops_aside, filter_gone as pulled_edits, moves, given_back_to, end_edits}
 use Rattle.qmp_rules.specs.Table.{RunTable, child, kinds_of}
 use Rattle.flat_machine.specs.Wiring.{TableStands}
-use Rattle.flat_machine.proofs.Rows.{under-before}
 use Rattle.flat_machine.proofs.Tables.{refreshed-old}
 use Rattle.job_edges.specs.Copies.{Copied as Mirrored, IsApartFrom, AreApart}
 use Rattle.job_edges.specs.Held.{is_job_filter}
@@ -41,7 +40,8 @@ use Rattle.job_tables.proofs.RowEdges.{in_left, in_right, in_either, copy_holds,
 use Rattle.job_tables.proofs.Shapes.{in_mirrors, mirror_target, top_down, overlay_stands, stream_way, base_in, is_held}
 use Rattle.job_tables.proofs.Kept.{refreshed_jobs, refreshed_jobs_back}
 use Rattle.job_tables.proofs.Changes.{filter_of, plain_no_filter}
-use Rattle.job_tables.proofs.Others.{OthersStand, over_others, IsNobodys, pull_others, pull_leads, child_over_filter, child_left, move_others, move_leads, NoLinkFrom, rebase_others, KeepsRow, unsettled_row, mapped_others}
+use Rattle.job_tables.proofs.Plain.{KeepsRow, file-before}
+use Rattle.job_tables.proofs.Others.{OthersStand, over_others, IsNobodys, pull_others, pull_leads, child_over_filter, child_left, move_others, move_leads, NoLinkFrom, rebase_others, unsettled_row, mapped_others}
 use Rattle.job_tables.proofs.Ended.{IsQuiet, AreQuiet, all_changed-append, moves_by, rest_by, end_is, quiet-append, quiet_rest, quiet_given}
 
 -- ---- mirrors of fewer jobs
@@ -237,13 +237,13 @@ quiet_others : (t : RunTable) (c : Change) → IsQuiet c → OthersStand t None 
 unfolding changed
 quiet_others t (change.Settle node disk) q o = record {
   others = mapped_others t (changed t (change.Settle node disk)) (node_changed node settled) (settled_row node) refl refl
-      (record { kept = λ e there is. there; back = λ e there is. there }) (λ n under. under) (λ n role. refl) None o;
+      (record { kept = λ e there is. there; back = λ e there is. there }) (λ n over file. file) (λ n role. refl) None o;
   leads = λ a e there from. Reaches-edge t.edges a e there from;
   jobs = refl;
 }
 quiet_others t (change.Unsettle node) q o = record {
   others = mapped_others t (changed t (change.Unsettle node)) (node_changed node unsettled) (unsettled_row node) refl refl
-      (record { kept = λ e there is. there; back = λ e there is. there }) (λ n under. under) (λ n role. refl) None o;
+      (record { kept = λ e there is. there; back = λ e there is. there }) (λ n over file. file) (λ n role. refl) None o;
   leads = λ a e there from. Reaches-edge t.edges a e there from;
   jobs = refl;
 }
@@ -252,7 +252,7 @@ quiet_others t (change.MakeReadOnly node) q o =
     record {
       others = mapped_others t now (node_changed node kept_from_writes) (read_only_row node) refl refl
           (record { kept = λ e there is. refreshed_jobs (kinds_of now.nodes) t.edges e is there; back = λ e there is. refreshed_jobs_back (kinds_of now.nodes) t.edges e is there })
-          (λ n under. under-before (kinds_of now.nodes) t.edges n under) (λ n role. child_of-refreshed (kinds_of now.nodes) (Node n) role t.edges) None o;
+          (λ n over file. file-before (kinds_of now.nodes) t.edges over n file) (λ n role. child_of-refreshed (kinds_of now.nodes) (Node n) role t.edges) None o;
       leads = leads_derived (kinds_of now.nodes) t.edges;
       jobs = refl;
     }

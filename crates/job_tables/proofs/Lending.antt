@@ -21,7 +21,7 @@ use Rattle.qmp_rules.specs.Changes.{changed, node_changed, settled, writable, ke
 use Rattle.qmp_rules.specs.Table.{RunTable, node_by_id, child, kinds_of}
 use Rattle.flat_machine.specs.Machine.{copies_at, is_copying, copies_through}
 use Rattle.flat_machine.specs.Suiting.{IsPlainNode}
-use Rattle.flat_machine.specs.Wiring.{LeadsToFile, writes_through, IsDiskOf, TableStands}
+use Rattle.flat_machine.specs.Wiring.{LeadsToFile, writes_through, IsDiskOf, IsUnderNoFormat, TableStands}
 use Rattle.flat_machine.proofs.Rows.{disk_node-same, copies-same}
 use Rattle.flat_machine.proofs.Tables.{HasLike, same-edge, refreshed-old}
 use Rattle.flat_machine.proofs.TablesKept.{same_numbers, own_copies}
@@ -42,8 +42,9 @@ pub record KeepsMost (row later : NodeRecord) : Type 0 where
 module _ (t now : RunTable) (f : NodeRecord → NodeRecord) (keeps : (row : NodeRecord) → KeepsMost row (f row)) (nodes : now.nodes ≡ map f t.nodes)
     (like : (e : Edge) → Contains now.edges e → HasLike t.edges e) (children : (node : ℕ) (role : Role) → child now node role ≡ child t node role)
     (acyclic : IsAcyclic now.edges) (guests : now.guests ≡ t.guests) (devices : now.devices ≡ t.devices) (h : TableStands t)
-    (gone : (over under : NodeRecord) → LeadsToFile t over under → IsSome under.filename → (f under).is_settled ≡ false)
-    (taken : (over under : NodeRecord) → LeadsToFile t over under → IsSome under.filename → (f over).read_only ≡ false → (f under).read_only ≡ false)
+    (gone : (over under : NodeRecord) → LeadsToFile t over under → IsSome under.filename → filter_role over.kind ≡ None → (f under).is_settled ≡ false)
+    (taken : (over under : NodeRecord) → LeadsToFile t over under → IsSome under.filename → filter_role over.kind ≡ None → (f over).read_only ≡ false
+    → (f under).read_only ≡ false)
     (reads : (row disk : NodeRecord) → Contains t.nodes row → Contains t.nodes disk → disk_node t row.id ≡ disk.id → writes_through t (f row).read_only row.id ≡ true
     → (f disk).read_only ≡ false) where
   record IsLater (later : NodeRecord) : Type 0 where
@@ -126,6 +127,10 @@ module _ (t now : RunTable) (f : NodeRecord → NodeRecord) (keeps : (row : Node
         let r = was later there in
         λ same. h.own_names r.row r.there (sym (ap (λ (x : NodeRecord). x.made_with) r.is ∙ (keeps r.row).made_with) ∙ none) over is
         (sym (ap (λ (x : NodeRecord). x.name) r.is ∙ (keeps r.row).name) ∙ same);
+    hidden = λ later there filter.
+        let r = was later there in
+        let name : later.name ≡ r.row.name = ap (λ (x : NodeRecord). x.name) r.is ∙ (keeps r.row).name in
+        rw name (h.hidden r.row r.there (sym (ap filter_role (kind_of later r)) ∙ filter));
     alone = λ name a b of_a of_b.
         let p = was a of_a.there in
         let q = was b of_b.there in
@@ -149,20 +154,20 @@ module _ (t now : RunTable) (f : NodeRecord → NodeRecord) (keeps : (row : Node
         let x = like e there in
         let one = h.single x.edge x.there (x.same.role ∙ role) in
         (one.0, (sym x.same.parent ∙ one.1.0, children one.0 File ∙ one.1.1 ∙ ap Some x.same.child));
-    taken = λ over under l file.
+    taken = λ over under l file own.
         let a = was over l.over_there in
         let b = was under l.under_there in
         let old = was_over over under a b l in
         let named = subst IsSome (file_of under b) file in
-        let k = h.taken a.row b.row old named in
+        let format = sym (ap filter_role (kind_of over a)) ∙ own in
+        let k = h.taken a.row b.row old named format in
         record {
-          format = ap filter_role (kind_of over a) ∙ k.format;
-          gone = ap (λ (x : NodeRecord). x.is_settled) b.is ∙ gone a.row b.row old named;
+          gone = ap (λ (x : NodeRecord). x.is_settled) b.is ∙ gone a.row b.row old named format;
           sole = λ e there at.
               let x = like e there in
               let s = k.sole x.edge x.there (x.same.child ∙ at ∙ id_of under b) in
               (sym x.same.parent ∙ s.0 ∙ ap Node (sym (id_of over a)), sym x.same.role ∙ s.1);
-          writable = λ w. ap (λ (x : NodeRecord). x.read_only) b.is ∙ taken a.row b.row old named (sym (ap (λ (x : NodeRecord). x.read_only) a.is) ∙ w);
+          writable = λ w. ap (λ (x : NodeRecord). x.read_only) b.is ∙ taken a.row b.row old named format (sym (ap (λ (x : NodeRecord). x.read_only) a.is) ∙ w);
         };
     filtered = λ over under l none.
         let a = was over l.over_there in
@@ -176,6 +181,14 @@ module _ (t now : RunTable) (f : NodeRecord → NodeRecord) (keeps : (row : Node
     numbers = same_numbers t now guests devices h.numbers;
   }
     where
+      free_still : (node : ℕ) → IsUnderNoFormat t node → IsUnderNoFormat now node
+      free_still node free under over at some l own =
+          let a = was over l.over_there in
+          let b = was under l.under_there in
+          let id_is : under.id ≡ node = eqb-true under.id node (find-Some (λ (r : NodeRecord). r.id == node) now.nodes under at).1 in
+          free b.row a.row (ap (node_by_id t) (sym id_is ∙ id_of under b) ∙ h.apart b.row b.there) (subst IsSome (file_of under b) some) (was_over over under a b l)
+          (sym (ap filter_role (kind_of over a)) ∙ own)
+
       reads_disk : (node : ℕ) (row : NodeRecord) → node_by_id t node ≡ Some row → (disk : Option NodeRecord) → node_by_id t (disk_node t node) ≡ disk → With disk (IsDiskOf t row)
           → With (node_by_id now (disk_node now node)) (IsDiskOf now (f row))
       reads_disk node row at None is of = absurd of
@@ -186,7 +199,10 @@ module _ (t now : RunTable) (f : NodeRecord → NodeRecord) (keeps : (row : Node
           let there : node_by_id now (disk_node now node) ≡ Some (f disk) = ap (node_by_id now) (same_disk node) ∙ found (disk_node t node) ∙ ap (option_map f) is in
           with_at (IsDiskOf now (f row)) (node_by_id now (disk_node now node)) (f disk) there (record {
             own = ap filter_role (keeps disk).kind ∙ of.own;
-            itself = λ file. (keeps disk).id ∙ of.itself (subst IsSome (keeps disk).filename file) ∙ sym (keeps row).id;
+            itself = λ file. elim (of.itself (subst IsSome (keeps disk).filename file)) [
+              | inl same ↦ inl ((keeps disk).id ∙ same ∙ sym (keeps row).id)
+              | inr free ↦ inr (free_still (f disk).id (subst (IsUnderNoFormat t) (sym (keeps disk).id) free))
+            ];
             writable = λ w.
                 reads row disk row_at.0 disk_at.0 (ap (disk_node t) id ∙ sym (eqb-true disk.id (disk_node t node) disk_at.1))
                 (sym (ap (λ b. not (f row).read_only || b) (ap (copies_through now) (keeps row).id ∙ same_copies row.id)) ∙ w);
@@ -241,7 +257,7 @@ module _ (t : RunTable) (h : TableStands t) where
   settled_stands node disk p =
       mapped_table t (changed t (change.Settle node disk)) f (most_settled node) refl (λ e there. record { edge = e; there = there; same = same-edge e }) (λ n role. refl)
       h.acyclic refl refl h gone
-      (λ over under l file w. same_read_only under ∙ (h.taken over under l file).writable (sym (same_read_only over) ∙ w))
+      (λ over under l file own w. same_read_only under ∙ (h.taken over under l file own).writable (sym (same_read_only over) ∙ w))
       (λ row d at_row at_disk is w. same_read_only d ∙ disk_writable row d at_row at_disk is (ap (λ b. not b || copies_through t row.id) (sym (same_read_only row)) ∙ w))
     where
       f : NodeRecord → NodeRecord
@@ -254,12 +270,11 @@ module _ (t : RunTable) (h : TableStands t) where
           by_test true = refl
           by_test false = refl
 
-      gone : (over under : NodeRecord) → LeadsToFile t over under → IsSome under.filename → (node_changed node settled under).is_settled ≡ false
-      gone over under l file = elim (cases_eq under.id node) [
-        | inl same ↦
-            let one : under ≡ p.row = let both : Some under ≡ Some p.row = sym (h.apart under l.under_there) ∙ ap (node_by_id t) same ∙ p.there in cc both in
-            absurd (p.free p.row p.there (subst IsSome (ap (λ (r : NodeRecord). r.filename) one) file) (record { edge = l.edge; there = l.there; over = l.role; child = l.child ∙ same }))
-        | inr other ↦ ap (λ (r : NodeRecord). r.is_settled) (changed_not node settled under other) ∙ (h.taken over under l file).gone
+      gone : (over under : NodeRecord) → LeadsToFile t over under → IsSome under.filename → filter_role over.kind ≡ None
+          → (node_changed node settled under).is_settled ≡ false
+      gone over under l file own = elim (cases_eq under.id node) [
+        | inl same ↦ absurd (p.free under over (ap (node_by_id t) (sym same) ∙ h.apart under l.under_there) file l own)
+        | inr other ↦ ap (λ (r : NodeRecord). r.is_settled) (changed_not node settled under other) ∙ (h.taken over under l file own).gone
       ]
 
   pub writable_stands : (node : ℕ) → MayBeWritten t node → TableStands (changed t (change.MakeWritable node))
@@ -267,7 +282,7 @@ module _ (t : RunTable) (h : TableStands t) where
   writable_stands node m =
       mapped_table t now f (most_writable node) refl (λ e there. refreshed-old (kinds_of now.nodes) t.edges e there)
       (λ n role. child_of-refreshed (kinds_of now.nodes) (Node n) role t.edges) (IsAcyclic-refreshed (kinds_of now.nodes) t.edges h.acyclic) refl refl h
-      (λ over under l file. same_settled under ∙ (h.taken over under l file).gone) taken reads
+      (λ over under l file own. same_settled under ∙ (h.taken over under l file own).gone) taken reads
     where
       now : RunTable
       now = changed t (change.MakeWritable node)
@@ -289,13 +304,14 @@ module _ (t : RunTable) (h : TableStands t) where
           by_test true = refl
           by_test false = is
 
-      taken : (over under : NodeRecord) → LeadsToFile t over under → IsSome under.filename → (node_changed node writable over).read_only ≡ false → (node_changed node writable under).read_only ≡ false
-      taken over under l file w = elim (cases_eq over.id node) [
+      taken : (over under : NodeRecord) → LeadsToFile t over under → IsSome under.filename → filter_role over.kind ≡ None
+          → (node_changed node writable over).read_only ≡ false → (node_changed node writable under).read_only ≡ false
+      taken over under l file own w = elim (cases_eq over.id node) [
         | inl same ↦
             let one = h.single l.edge l.there l.role in
             let at : one.0 ≡ node = let both : Node one.0 ≡ Node node = sym one.1.0 ∙ l.parent ∙ ap Node same in cc both in
             still under (m.under l.edge.child under (subst (λ n. child t n File ≡ Some l.edge.child) at one.1.1) (ap (node_by_id t) l.child ∙ h.apart under l.under_there))
-        | inr other ↦ still under ((h.taken over under l file).writable (sym (ap (λ (r : NodeRecord). r.read_only) (changed_not node writable over other)) ∙ w))
+        | inr other ↦ still under ((h.taken over under l file own).writable (sym (ap (λ (r : NodeRecord). r.read_only) (changed_not node writable over other)) ∙ w))
       ]
 
       reads : (row disk : NodeRecord) → Contains t.nodes row → Contains t.nodes disk → disk_node t row.id ≡ disk.id → writes_through t (node_changed node writable row).read_only row.id ≡ true
@@ -313,7 +329,7 @@ module _ (t : RunTable) (h : TableStands t) where
   kept_stands node m =
       mapped_table t now f (most_kept node) refl (λ e there. refreshed-old (kinds_of now.nodes) t.edges e there)
       (λ n role. child_of-refreshed (kinds_of now.nodes) (Node n) role t.edges) (IsAcyclic-refreshed (kinds_of now.nodes) t.edges h.acyclic) refl refl h
-      (λ over under l file. same_settled under ∙ (h.taken over under l file).gone) taken reads
+      (λ over under l file own. same_settled under ∙ (h.taken over under l file own).gone) taken reads
     where
       now : RunTable
       now = changed t (change.MakeReadOnly node)
@@ -335,12 +351,13 @@ module _ (t : RunTable) (h : TableStands t) where
         | inr other ↦ (other, sym (ap (λ (r : NodeRecord). r.read_only) (changed_not node kept_from_writes row other)) ∙ w)
       ]
 
-      taken : (over under : NodeRecord) → LeadsToFile t over under → IsSome under.filename → (node_changed node kept_from_writes over).read_only ≡ false → (node_changed node kept_from_writes under).read_only ≡ false
-      taken over under l file w =
+      taken : (over under : NodeRecord) → LeadsToFile t over under → IsSome under.filename → filter_role over.kind ≡ None
+          → (node_changed node kept_from_writes over).read_only ≡ false → (node_changed node kept_from_writes under).read_only ≡ false
+      taken over under l file own w =
           let was = before over w in
           elim (cases_eq under.id node) [
             | inl same ↦ absurd (false≢true (sym was.1 ∙ m.over l.edge over l.there l.over_there l.parent l.role (l.child ∙ same)))
-            | inr other ↦ ap (λ (r : NodeRecord). r.read_only) (changed_not node kept_from_writes under other) ∙ (h.taken over under l file).writable was.1
+            | inr other ↦ ap (λ (r : NodeRecord). r.read_only) (changed_not node kept_from_writes under other) ∙ (h.taken over under l file own).writable was.1
           ]
 
       -- what writes through a row wrote through it before

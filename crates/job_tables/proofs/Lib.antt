@@ -3,6 +3,7 @@ pub mod RowEdges
 pub mod JobsRest
 pub mod Shapes
 pub mod Ended
+pub mod Plain
 pub mod Kept
 pub mod Changes
 pub mod Others

@@ -1,6 +1,6 @@
 -- Each change of an end leaves the other jobs standing.
 use Rattle.std.proofs.Common.{◌≡◌, ◌≢◌, ◌⊎◌, ℕ, List, [], ◌∷◌, ◌++◌, map, refl, sym, ◌∙◌, ap, subst, inl, inr, Bool, true, false, cond, Option, Some, None}
-use Rattle.std.specs.Prelude.{◌==◌, ◌&&◌, ◌||◌, not, IsSome}
+use Rattle.std.specs.Prelude.{◌==◌, ◌&&◌, ◌||◌, not}
 use Rattle.std.specs.Option.{option_map}
 use Rattle.std.specs.List.{Contains, filter, find, list_any}
 use Rattle.std.proofs.lemmas.Bool.{false≢true, eqb-true, eqb-false, eq-eqb, ne_eqb, cases_eq}
@@ -32,12 +32,9 @@ use Rattle.qmp_rules.specs.declared.change.Change.{Change}
 use Rattle.qmp_rules.specs.declared.change.Change.TheVariants as change
 use Rattle.qmp_rules.specs.declared.rows.NodeRecord.{NodeRecord}
 use Rattle.qmp_rules.specs.declared.rows.JobRecord.{JobRecord}
-use Rattle.qmp_rules.specs.Chains.{filter_role}
 use Rattle.qmp_rules.specs.Changes.{changed, node_changed, unsettled, with_backing, without_job, without_record}
 use Rattle.qmp_rules.specs.Table.{RunTable, node_by_id, child, kinds_of}
 use Rattle.flat_machine.specs.Suiting.{IsPlainNode}
-use Rattle.flat_machine.specs.Wiring.{IsUnder}
-use Rattle.flat_machine.proofs.Rows.{under-before}
 use Rattle.flat_machine.proofs.Tables.{filter-keeps, with_edge-keeps, apart-parents}
 use Rattle.flat_machine.proofs.WritingKept.{role_edge}
 use Rattle.flat_machine.proofs.TablesKept.{child-role}
@@ -46,6 +43,7 @@ use Rattle.job_tables.specs.Rows.{edges_of_job, nodes_of_job, AreLinked, HasFilt
 use Rattle.job_tables.specs.Jobs.{CopyStands, IsOverFilter, StandsByKind, JobStands, IsFilterOfRow, HaveDistinctSlots, HaveDistinctNumbers, EdgesAreOfRows, HoldApart, JobsStand}
 use Rattle.job_tables.proofs.NodeKinds.{still_found, found_mapped}
 use Rattle.job_tables.proofs.RowEdges.{in_left, in_right, holds_source, edge_slot, edge_node}
+use Rattle.job_tables.proofs.Plain.{HasFile, file-before, KeepsRow, formats-same, formats-mapped, plain-back, plain_same}
 use Rattle.job_tables.proofs.Kept.{HaveSameJobEdges, refreshed_jobs, refreshed_jobs_back}
 
 -- ---- a job whose nodes, edges, links and filter stay
@@ -125,18 +123,10 @@ pub record OthersStand (t : RunTable) (loose : Option ℕ) : Type 0 where
   pub apart : HoldApart t
   pub filters : (node : NodeRecord) → Contains t.nodes node → is_job_filter node.kind ≡ true → (loose ≡ Some node.id) ⊎ IsFilterOfRow t node
 
--- ---- plain nodes and filters of tables with the same rows
+-- ---- filters of tables with the same rows
 
 abbrev pub HasSame : RunTable → RunTable → ℕ → Type 0
 HasSame t now node = node_by_id now node ≡ node_by_id t node
-
-pub plain_same : (t now : RunTable) (node : ℕ) → HasSame t now node → (IsUnder now.edges node → IsUnder t.edges node) → IsPlainNode t node → IsPlainNode now node
-plain_same t now node same back p = record {
-  row = p.row;
-  there = same ∙ p.there;
-  own = p.own;
-  free = λ row found named under. p.free row (sym same ∙ found) named (back under);
-}
 
 pub filter_same : (t now : RunTable) (row : JobRecord) (kind : Kind) (f : HasFilterOf t row kind) → HasSame t now f.filter
     → child now f.filter Filtered ≡ Some row.source → HasFilterOf now row kind
@@ -172,13 +162,14 @@ module _ (t : RunTable) (j : JobsStand t) (row : JobRecord) (here : Contains t.j
   in_left_edges e there differ =
       filter-keeps (λ x. not (same_parent x.parent (Job row.slot))) t.edges e (ap not (same_parent-false e.parent (Job row.slot) differ)) there
 
-  was_under : (node : ℕ) → IsUnder (refreshed (kinds_of t.nodes) left) node → IsUnder t.edges node
-  was_under node under =
-      let u = under-before (kinds_of t.nodes) left node under in
+  file_was : (node above : ℕ) → HasFile (refreshed (kinds_of t.nodes) left) above node → HasFile t.edges above node
+  file_was node above file =
+      let u = file-before (kinds_of t.nodes) left above node file in
       record {
         edge = u.edge;
         there = (Contains-filter (λ x. not (same_parent x.parent (Job row.slot))) t.edges u.edge u.there).0;
-        over = u.over;
+        parent = u.parent;
+        role = u.role;
         child = u.child;
       }
 
@@ -191,7 +182,7 @@ module _ (t : RunTable) (j : JobsStand t) (row : JobRecord) (here : Contains t.j
       let at = other_row b there in
       let stands = j.each b at.0 in
       record {
-        plain = λ node held. plain_same t (changed t over) node refl (was_under node) (stands.plain node held);
+        plain = λ node held. plain_same t (changed t over) node refl (formats-same t (changed t over) node refl) (file_was node) (stands.plain node held);
         edges = λ e own.
             let slot : e.parent ≡ Job b.slot = edge_slot b e own in
             refreshed_jobs (kinds_of t.nodes) left e (ap is_job slot)
@@ -317,15 +308,16 @@ module _ (t : RunTable) (f source : ℕ) (o : OthersStand t (Some f)) (over : ch
   job_filters : (e : Edge) (slot : ℕ) → e.parent ≡ Job slot → is_filters f e ≡ false
   job_filters e slot is = rw is refl
 
-  under_was : (node : ℕ) → node ≢ source → IsUnder (refreshed after pulled) node → IsUnder t.edges node
-  under_was node other under =
-      let u = under-before after pulled node under in
+  file_left : (node : ℕ) → node ≢ source → (above : ℕ) → HasFile (refreshed after pulled) above node → HasFile t.edges above node
+  file_left node other above file =
+      let u = file-before after pulled above node file in
       let p = pulled_cases u.edge u.there in
       elim p.is [
         | inl same ↦ record {
           edge = p.edge;
           there = p.there;
-          over = ap (λ (x : Edge). x.role) (sym same) ∙ u.over;
+          parent = sym p.parent ∙ u.parent;
+          role = ap (λ (x : Edge). x.role) (sym same) ∙ u.role;
           child = ap (λ (x : Edge). x.child) (sym same) ∙ u.child;
         }
         | inr moved_there ↦ absurd (other (sym u.child ∙ moved_there.1))
@@ -385,7 +377,13 @@ module _ (t : RunTable) (f source : ℕ) (o : OthersStand t (Some f)) (over : ch
       record {
         plain = λ node held.
             plain_same t (changed t pull) node (same_found node (λ is. no_filter.held b here (subst (Contains (nodes_of_job b)) is held)))
-            (under_was node (λ is. no_source.held b here (subst (Contains (nodes_of_job b)) is held))) (stands.plain node held);
+            (λ above there own file. record {
+              row = above;
+              there = (Contains-filter (λ (r : NodeRecord). not (r.id == f)) t.nodes above there).0;
+              id = refl;
+              own = own;
+            })
+            (file_left node (λ is. no_source.held b here (subst (Contains (nodes_of_job b)) is held))) (stands.plain node held);
         edges = λ e own.
             let slot : e.parent ≡ Job b.slot = edge_slot b e own in
             refreshed_jobs after pulled e (ap is_job slot)
@@ -454,16 +452,17 @@ module _ (t : RunTable) (source target but : ℕ) (o : OthersStand t None) (no_s
       last_false true = refl
       last_false false = refl
 
-  under_moved : (node : ℕ) → node ≢ target → IsUnder (refreshed kinds over_there) node → IsUnder t.edges node
-  under_moved node other under =
-      let u = under-before kinds over_there node under in
+  file_moved : (node : ℕ) → node ≢ target → (above : ℕ) → HasFile (refreshed kinds over_there) above node → HasFile t.edges above node
+  file_moved node other above file =
+      let u = file-before kinds over_there above node file in
       let r = Contains-map replacing t.edges u.edge u.there in
       elim (replaced-cases source target (Some (Node but)) r.0) [
         | inl to ↦ absurd (other (sym u.child ∙ ap (λ (x : Edge). x.child) r.2 ∙ to))
         | inr same ↦ record {
           edge = r.0;
           there = r.1;
-          over = ap (λ (x : Edge). x.role) (sym (r.2 ∙ same)) ∙ u.over;
+          parent = ap (λ (x : Edge). x.parent) (sym (r.2 ∙ same)) ∙ u.parent;
+          role = ap (λ (x : Edge). x.role) (sym (r.2 ∙ same)) ∙ u.role;
           child = ap (λ (x : Edge). x.child) (sym (r.2 ∙ same)) ∙ u.child;
         }
       ]
@@ -501,7 +500,7 @@ module _ (t : RunTable) (source target but : ℕ) (o : OthersStand t None) (no_s
       let stands = o.each b here in
       record {
         plain = λ node held.
-            plain_same t (changed t move) node refl (under_moved node (λ is. no_target.held b here (subst (Contains (nodes_of_job b)) is held))) (stands.plain node held);
+            plain_same t (changed t move) node refl (formats-same t (changed t move) node refl) (file_moved node (λ is. no_target.held b here (subst (Contains (nodes_of_job b)) is held))) (stands.plain node held);
         edges = λ e own.
             let job : is_job e.parent ≡ true = ap is_job (edge_slot b e own) in
             refreshed_jobs kinds over_there e job
@@ -574,15 +573,21 @@ module _ (t : RunTable) (at : ℕ) (backing : Option ℕ) (o : OthersStand t Non
     | inr old ↦ old
   ]
 
-  under_backed : (o : Option ℕ) (node : ℕ) → IsUnder (refreshed kinds_still (with_backing at o t.edges)) node → IsUnder t.edges node
-  under_backed None node under =
-      let u = under-before kinds_still (with_backing at None t.edges) node under in
-      record { edge = u.edge; there = (Contains-filter (λ x. not (is_edge (Node at) Backing x)) t.edges u.edge u.there).0; over = u.over; child = u.child }
-  under_backed (Some base) node under =
-      let u = under-before kinds_still (with_backing at (Some base) t.edges) node under in
+  file_backed : (o : Option ℕ) (node above : ℕ) → HasFile (refreshed kinds_still (with_backing at o t.edges)) above node → HasFile t.edges above node
+  file_backed None node above file =
+      let u = file-before kinds_still (with_backing at None t.edges) above node file in
+      record {
+        edge = u.edge;
+        there = (Contains-filter (λ x. not (is_edge (Node at) Backing x)) t.edges u.edge u.there).0;
+        parent = u.parent;
+        role = u.role;
+        child = u.child;
+      }
+  file_backed (Some base) node above file =
+      let u = file-before kinds_still (with_backing at (Some base) t.edges) above node file in
       elim (Contains-with_edge (node_edge at Backing base) t.edges u.edge u.there) [
-        | inl own ↦ let bad : Backing ≡ File = ap (λ (x : Edge). x.role) (sym own) ∙ u.over in cc bad
-        | inr old ↦ record { edge = u.edge; there = old; over = u.over; child = u.child }
+        | inl own ↦ let bad : Backing ≡ File = ap (λ (x : Edge). x.role) (sym own) ∙ u.role in absurd (cc bad)
+        | inr old ↦ record { edge = u.edge; there = old; parent = u.parent; role = u.role; child = u.child }
       ]
 
   child_role : (o : Option ℕ) (node : ℕ) (role : Role) → same_role Backing role ≡ false → same_role role Backing ≡ false
@@ -614,7 +619,7 @@ module _ (t : RunTable) (at : ℕ) (backing : Option ℕ) (o : OthersStand t Non
   rebase_stays b here =
       let stands = o.each b here in
       record {
-        plain = λ node held. plain_same t (changed t rebase) node refl (under_backed backing node) (stands.plain node held);
+        plain = λ node held. plain_same t (changed t rebase) node refl (formats-same t (changed t rebase) node refl) (file_backed backing node) (stands.plain node held);
         edges = λ e own.
             let job : is_job e.parent ≡ true = ap is_job (edge_slot b e own) in
             refreshed_jobs kinds_still backed e job (backed_forth backing e (stands.edges e own) job);
@@ -644,11 +649,6 @@ module _ (t : RunTable) (at : ℕ) (backing : Option ℕ) (o : OthersStand t Non
 
 -- ---- rows that keep their ids, kinds and files
 
-pub record KeepsRow (row later : NodeRecord) : Type 0 where
-  pub id : later.id ≡ row.id
-  pub kind : later.kind ≡ row.kind
-  pub filename : later.filename ≡ row.filename
-
 pub unsettled_row : (id : ℕ) (row : NodeRecord) → KeepsRow row (node_changed id unsettled row)
 unsettled_row id row = by_test (row.id == id)
   where
@@ -657,7 +657,7 @@ unsettled_row id row = by_test (row.id == id)
     by_test false = record { id = refl; kind = refl; filename = refl }
 
 module _ (t now : RunTable) (f : NodeRecord → NodeRecord) (keeps : (row : NodeRecord) → KeepsRow row (f row)) (nodes : now.nodes ≡ map f t.nodes)
-    (jobs : now.jobs ≡ t.jobs) (same : HaveSameJobEdges t now) (under : (node : ℕ) → IsUnder now.edges node → IsUnder t.edges node)
+    (jobs : now.jobs ≡ t.jobs) (same : HaveSameJobEdges t now) (files : (node over : ℕ) → HasFile now.edges over node → HasFile t.edges over node)
     (children : (node : ℕ) (role : Role) → child now node role ≡ child t node role) (loose : Option ℕ) (o : OthersStand t loose) where
   was : (b : JobRecord) → Contains now.jobs b → Contains t.jobs b
   was b here = subst (λ rows. Contains rows b) jobs here
@@ -671,14 +671,7 @@ module _ (t now : RunTable) (f : NodeRecord → NodeRecord) (keeps : (row : Node
       record {
         plain = λ node held.
             let p = stands.plain node held in
-            record {
-              row = f p.row;
-              there = found node p.row p.there;
-              own = ap filter_role (keeps p.row).kind ∙ p.own;
-              free = λ row at named below.
-                  let one : row ≡ f p.row = let both : Some row ≡ Some (f p.row) = sym at ∙ found node p.row p.there in cc both in
-                  p.free p.row p.there (subst IsSome (ap (λ (r : NodeRecord). r.filename) one ∙ (keeps p.row).filename) named) (under node below);
-            };
+            plain-back t now node p (f p.row) (found node p.row p.there) (keeps p.row) (formats-mapped t now f keeps nodes node) (files node);
         edges = λ e own. same.kept e (stands.edges e own) (ap is_job (edge_slot b e own));
         links = λ node below held is which. children node Backing ∙ is;
         filter = λ kind g. record {

@@ -26,12 +26,12 @@ use Rattle.qmp_rules.specs.declared.rows.JobRecord.{JobRecord}
 use Rattle.qmp_rules.specs.Changes.{changed, filtered_edges}
 use Rattle.qmp_rules.specs.Table.{RunTable, node_by_id, child, kinds_of}
 use Rattle.flat_machine.specs.Suiting.{IsPlainNode}
-use Rattle.flat_machine.specs.Wiring.{IsUnder, EdgesHaveEnds}
+use Rattle.flat_machine.specs.Wiring.{EdgesHaveEnds}
 use Rattle.flat_machine.proofs.Fresh.{found-longer, found-new}
-use Rattle.flat_machine.proofs.Rows.{under-before}
 use Rattle.flat_machine.proofs.Tables.{filter-keeps, pushed-cases, refreshed-old}
 use Rattle.job_tables.specs.Rows.{edges_of_job, nodes_of_job}
 use Rattle.job_tables.proofs.RowEdges.{in_left, edge_slot, edge_node}
+use Rattle.job_tables.proofs.Plain.{HasFile, file-before, FormatsWere, plain-back}
 use Rattle.job_tables.proofs.Kept.{refreshed_jobs, refreshed_jobs_back}
 use Rattle.job_tables.proofs.Others.{OthersStand, RowStays, row_stays, IsNobodys, source_of}
 
@@ -93,16 +93,17 @@ module _ (t : RunTable) (row : NodeRecord) (source : ℕ) (fresh : node_by_id t 
       no_double true b c d is = rw is refl
       no_double false b c d is = refl
 
-  under_was : (node : ℕ) → node ≢ row.id → IsUnder (refreshed after over) node → IsUnder t.edges node
-  under_was node other under =
-      let u = under-before after over node under in
+  file_was : (node : ℕ) → node ≢ row.id → (above : ℕ) → HasFile (refreshed after over) above node → HasFile t.edges above node
+  file_was node other above file =
+      let u = file-before after over above node file in
       elim (put_cases u.edge u.there) [
-        | inr new ↦ absurd (let bad : Filtered ≡ File = ap (λ (x : Edge). x.role) (sym new) ∙ u.over in cc bad)
+        | inr new ↦ absurd (let bad : Filtered ≡ File = ap (λ (x : Edge). x.role) (sym new) ∙ u.role in cc bad)
         | inl p ↦ elim p.how [
           | inl same ↦ record {
             edge = p.edge;
             there = p.there;
-            over = ap (λ (x : Edge). x.role) (sym same.0) ∙ u.over;
+            parent = sym p.parent ∙ u.parent;
+            role = ap (λ (x : Edge). x.role) (sym same.0) ∙ u.role;
             child = ap (λ (x : Edge). x.child) (sym same.0) ∙ u.child;
           }
           | inr moved_there ↦ absurd (other (sym u.child ∙ moved_there.0))
@@ -113,15 +114,14 @@ module _ (t : RunTable) (row : NodeRecord) (source : ℕ) (fresh : node_by_id t 
   unfolding changed
   plain_put node p =
       let there : find (λ r. r.id == node) (t.nodes ++ row ∷ []) ≡ Some p.row = found-longer (λ r. r.id == node) t.nodes row p.row p.there in
-      record {
-        row = p.row;
-        there = there;
-        own = p.own;
-        free = λ r found named under.
-            let same : r ≡ p.row = let both : Some r ≡ Some p.row = sym found ∙ there in cc both in
-            p.free p.row p.there (subst IsSome (ap (λ (x : NodeRecord). x.filename) same) named)
-            (under_was node (absent node (subst IsSome (sym p.there) refl)) under);
-      }
+      plain-back t (changed t put) node p p.row there (record { id = refl; kind = refl; filename = refl }) (formats node)
+      (file_was node (absent node (subst IsSome (sym p.there) refl)))
+    where
+      formats : (node : ℕ) → FormatsWere t (changed t put) node
+      formats node above in_now own file = elim (pushed-cases t.nodes row above in_now) [
+        | inl old ↦ record { row = above; there = old; id = refl; own = own }
+        | inr new ↦ absurd (lone.leaves file.edge file.there (file.parent ∙ ap (λ (r : NodeRecord). Node r.id) new))
+      ]
 
   pub child_put : (node : ℕ) (role : Role) (below : ℕ) → node ≢ row.id → role ≢ Between → below ≢ source → child t node role ≡ Some below
       → child (changed t put) node role ≡ Some below

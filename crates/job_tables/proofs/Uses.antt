@@ -30,11 +30,10 @@ use Rattle.qmp_rules.specs.Asks.{is_base}
 use Rattle.qmp_rules.specs.Changes.{changed, all_changed}
 use Rattle.qmp_rules.specs.Edits.{under_top, uses_as, commit_uses, uses_target}
 use Rattle.qmp_rules.specs.Table.{RunTable, child, kinds_of}
-use Rattle.flat_machine.specs.Wiring.{IsUnder}
 use Rattle.flat_machine.proofs.JobEdges.{no_file}
-use Rattle.flat_machine.proofs.Rows.{under-before}
 use Rattle.flat_machine.proofs.Tables.{with_edge-keeps}
 use Rattle.job_tables.specs.Rows.{target_edges, edges_by}
+use Rattle.job_tables.proofs.Plain.{HasFile, file-before}
 use Rattle.job_tables.proofs.Kept.{refreshed_jobs, refreshed_jobs_back}
 use Rattle.job_tables.proofs.Left.{LeadsAs, leads_then, leads_derived}
 
@@ -61,7 +60,7 @@ pub record Used (t now : RunTable) (slot : ℕ) (uses : List UseOf) : Type 0 whe
       → ((u : UseOf) → Contains uses u → takes_place (edge_of slot u) e ≡ true → edge_of slot u ≡ e) → Contains now.edges e
   pub own : AreApartUses slot uses → (u : UseOf) → Contains uses u → Contains now.edges (edge_of slot u)
   pub back : (e : Edge) → Contains now.edges e → is_job e.parent ≡ true → Contains t.edges e ⊎ ((u : UseOf) × Contains uses u × (e ≡ edge_of slot u))
-  pub under : (node : ℕ) → IsUnder now.edges node → IsUnder t.edges node
+  pub files : (node over : ℕ) → HasFile now.edges over node → HasFile t.edges over node
   pub children : (node : ℕ) (role : Role) → child now node role ≡ child t node role
   pub leads : LeadsAs t.edges now.edges
 
@@ -72,7 +71,7 @@ used_none t slot = record {
   kept = λ e there is apart. there;
   own = λ apart u there. absurd (Contains-nil u there);
   back = λ e there is. inl there;
-  under = λ node under. under;
+  files = λ node over file. file;
   children = λ node role. refl;
   leads = λ a e there from. Reaches-edge t.edges a e there from;
 }
@@ -91,11 +90,11 @@ used_one t slot u = record {
     | inl own ↦ inr (u, Contains-here u [], own)
     | inr old ↦ inl old
   ];
-  under = λ node under.
-      let v = under-before kinds put node under in
+  files = λ node over file.
+      let v = file-before kinds put over node file in
       elim (Contains-with_edge new t.edges v.edge v.there) [
-        | inl own ↦ absurd (no_file u.what (ap (λ (x : Edge). x.role) (sym own) ∙ v.over))
-        | inr old ↦ record { edge = v.edge; there = old; over = v.over; child = v.child }
+        | inl own ↦ absurd (no_file u.what (ap (λ (x : Edge). x.role) (sym own) ∙ v.role))
+        | inr old ↦ record { edge = v.edge; there = old; parent = v.parent; role = v.role; child = v.child }
       ];
   children = λ node role. child_of-refreshed kinds (Node node) role put ∙ child-kept (Node node) role new t.edges (λ same. cc);
   leads = leads_then t.edges put (refreshed kinds put)
@@ -157,7 +156,7 @@ used_all (u ∷ uses) t slot =
           )
         ]
       ];
-      under = λ node under. first.under node (rest.under node under);
+      files = λ node over file. first.files node over (rest.files node over file);
       children = λ node role. rest.children node role ∙ first.children node role;
       leads = leads_then t.edges (changed t (change_of slot u)).edges (all_changed (changed t (change_of slot u)) (map (change_of slot) uses)).edges first.leads rest.leads;
     }

@@ -4,6 +4,7 @@ use Rattle.std.specs.Prelude.{◌==◌, IsSome}
 use Rattle.std.specs.List.{Contains}
 use Rattle.std.proofs.lemmas.Bool.{eqb-true}
 use Rattle.blk_graph.specs.declared.edge.Parent.TheVariants.{Node}
+use Rattle.blk_graph.specs.declared.edge.Role.{Role}
 use Rattle.blk_graph.specs.declared.edge.Role.TheVariants.{File, Backing}
 use Rattle.blk_graph.specs.declared.kind.Kind.{Kind}
 use Rattle.blk_graph.specs.declared.kind.Kind.TheVariants.{Qcow2}
@@ -99,9 +100,13 @@ module _ (t : RunTable) (node overlay : NodeRecord) (over : LiesOver t node over
 
             by_name : (name : Option (List ℕ)) → node.filename ≡ name → IsSome (filter_role r.kind)
             by_name None is = h.filtered r node edge is
-            by_name (Some name) is =
-                let gone = (h.taken r node edge (subst IsSome (sym is) refl)).gone in
-                absurd (let bad : ⊥ = cc (sym gone ∙ over.disk.settled) in bad)
+            by_name (Some name) is = by_role (filter_role r.kind) refl
+              where
+                by_role : (role : Option Role) → filter_role r.kind ≡ role → IsSome (filter_role r.kind)
+                by_role (Some role) filter = subst IsSome (sym filter) refl
+                by_role None own =
+                    let gone = (h.taken r node edge (subst IsSome (sym is) refl) own).gone in
+                    absurd (let bad : ⊥ = cc (sym gone ∙ over.disk.settled) in bad)
 
         by_row : (found : Option NodeRecord) → node_by_id t parent ≡ found → AreAlike found (row_at nodes parent) → row.driver ≡ drivers.CopyOnRead
         by_row None is same = absurd (let none = subst (AreAlike None) there same in none)

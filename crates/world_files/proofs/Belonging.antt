@@ -1,5 +1,5 @@
 -- What the parts of a world that belong together say of the nodes that may go.
-use Rattle.std.proofs.Common.{◌≡◌, ℕ, ◌==◌, Option, Some, None, refl, sym, ◌∙◌, ap}
+use Rattle.std.proofs.Common.{◌≡◌, ℕ, ◌==◌, Option, Some, None, refl, sym, ◌∙◌, ap, subst}
 use Rattle.std.specs.Prelude.{IsSome, Contains}
 use Rattle.std.proofs.lemmas.Bool.{eqb-true}
 use Rattle.blk_graph.specs.declared.edge.Edge.{Edge}
@@ -8,6 +8,8 @@ use Rattle.blk_graph.specs.declared.edge.Role.TheVariants.{File}
 use Rattle.blk_graph.proofs.Members.{find-Some}
 use Rattle.qmp_rules.specs.Table.{RunTable, node_by_id}
 use Rattle.qmp_rules.specs.declared.rows.NodeRecord.{NodeRecord}
+use Rattle.qmp_rules.specs.Chains.{filter_role}
+use Rattle.blk_history.specs.Fold.{With}
 use Rattle.flat_machine.specs.Wiring.{TableAtRest}
 use Rattle.world_parts.specs.Coherent.{IsCoherent}
 use Rattle.world_parts.specs.Deleting.{Ground}
@@ -27,7 +29,7 @@ only_under t rest row over there made =
       parent = inline.parent ∙ ap (λ (n : ℕ). Node n) (sym (eqb-true above.id over (find-Some (λ (r : NodeRecord). r.id == over) t.nodes above at).1));
       role = inline.role;
       child = inline.child;
-    }) inline.file).sole)
+    }) inline.file (subst (λ (found : Option NodeRecord). With found (λ node. filter_role node.kind ≡ None)) at inline.format)).sole)
   where
     by_over : (edge : Edge) → Contains t.edges edge → edge.parent ≡ Node over → edge.child ≡ row.id → (found : Option NodeRecord) → node_by_id t over ≡ found → IsSome found
         → ((above : NodeRecord) → node_by_id t over ≡ Some above → (other : Edge) → Contains t.edges other → other.child ≡ row.id → (other.parent ≡ Node above.id) × (other.role ≡ File))

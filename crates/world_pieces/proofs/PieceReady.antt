@@ -11,6 +11,7 @@ use Rattle.blk_graph.specs.Edits.{child_of, without_parent}
 use Rattle.blk_graph.specs.Paths.{IsPath, Reaches}
 use Rattle.blk_graph.specs.declared.edge.Edge.{Edge}
 use Rattle.blk_graph.specs.declared.edge.Parent.TheVariants.{Node}
+use Rattle.blk_graph.specs.declared.edge.Role.{Role}
 use Rattle.blk_graph.specs.declared.edge.Role.TheVariants.{File, Backing}
 use Rattle.blk_graph.proofs.NodeLemmas.{without_parent-apart}
 use Rattle.blk_graph.proofs.PathLemmas.{Reaches-edge, Reaches-joined}
@@ -88,9 +89,13 @@ module _ (t : RunTable) (nodes : Nodes) (joined : IsJoined nodes) (are : AreNode
     where
       by_name : (name : Option (List ℕ)) → row.filename ≡ name → IsSome (filter_role over.kind)
       by_name None is = stands.filtered over row file is
-      by_name (Some name) is =
-          let taken = stands.taken over row file (subst IsSome (sym is) refl) in
-          absurd (false≢true (sym taken.gone ∙ has.settled))
+      by_name (Some name) is = by_role (filter_role over.kind) refl
+        where
+          by_role : (role : Option Role) → filter_role over.kind ≡ role → IsSome (filter_role over.kind)
+          by_role (Some role) filter = subst IsSome (sym filter) refl
+          by_role None own =
+              let taken = stands.taken over row file (subst IsSome (sym is) refl) own in
+              absurd (false≢true (sym taken.gone ∙ has.settled))
 
   -- ---- its file
 
@@ -113,7 +118,7 @@ module _ (t : RunTable) (nodes : Nodes) (joined : IsJoined nodes) (are : AreNode
         child = e.to ∙ sym under.id_is;
       } in
       let named : IsSome under.row.filename = by_name under.row below under.row.filename refl in
-      record { under = under.row; under_is = under.id_is; taken = stands.taken row under.row below named }
+      record { under = under.row; under_is = under.id_is; taken = stands.taken row under.row below named has.own }
     where
       by_name : (under : NodeRecord) → LeadsToFile t row under → (name : Option (List ℕ)) → under.filename ≡ name → IsSome under.filename
       by_name under below None is =
