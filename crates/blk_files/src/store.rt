@@ -11,12 +11,11 @@ use crate::opening::Opening;
 use crate::{Failure, FileDevice, access, said};
 use blk_base::{Bytes, Device, DeviceCall, Store, StoreCall, StoreStop, Text};
 use std::alloc::Global;
-use std::fs;
 use std::fs::File;
-use std::io;
 use std::io::Read;
 use std::marker::Model;
 use std::rt::Files;
+use std::{fs, io};
 
 /// How much is read at once.
 const CHUNK: usize = 65536;
