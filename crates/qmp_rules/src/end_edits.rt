@@ -14,7 +14,7 @@ use qmp_codec::{BitmapMode, JobKind};
 use std::alloc::Global;
 use std::marker::Model;
 
-// as many as an end makes at most
+// no end makes as many
 const MOST_CHANGES: usize = 8;
 
 /// Memory for the changes of one event of a job: that it is ready, or its end.

@@ -17,7 +17,7 @@ use crate::row::{Driver, Row};
 use blk_base::{Device, Fault};
 use blk_graph::{NodeId, Parent, Role};
 
-/// Gives the image in a row another backing name. The look for room behind the call tells that the image is open.
+/// Gives the image in a row another backing name.
 fn rename_row<D: Device>(
     row: &mut Option<Row>,
     devices: &mut Devices<D>,
@@ -44,6 +44,7 @@ fn rename_row<D: Device>(
         unreachable!()
     };
     let answer = devices.rename_image(file, &mut image, name, format);
+    // looked at so that its type is known to keep what holds of an open image
     let _ = image.name_fits(None, None, 0);
     *row = Some(Row {
         driver: Driver::Qcow2(image),
