@@ -1,5 +1,5 @@
 -- What the last flush leaves of the nodes and of the device that is given back.
-use Rattle.std.proofs.Common.{◌≡◌, ℕ, ◌≤◌, ◌||◌, Bool, true, false, List, [], ◌∷◌, refl, sym, ◌∙◌, ap, subst, arith, Option, Some, None}
+use Rattle.std.proofs.Common.{◌≡◌, ℕ, ◌≤◌, ◌||◌, Bool, true, false, List, [], ◌∷◌, refl, sym, ◌∙◌, ap, subst, arith, Option, Some, None, inl, inr}
 use Rattle.std.specs.Prelude.{is_some, is_none, option_map}
 use Rattle.std.proofs.lemmas.Bool.{false≢true}
 use Rattle.blk_base.specs.Counts.{Rose}
@@ -10,16 +10,16 @@ use Rattle.blk_base.specs.declared.fault.FaultFrom.TheVariants.{Dev}
 use Rattle.blk_base.specs.declared.fault.Outcome.{Outcome}
 use Rattle.blk_base.specs.declared.fault.Outcome.TheVariants.{Good, Torn, Io, NoSpace}
 use Rattle.blk_nodes.specs.Contents.{disk_of, Unfolds}
-use Rattle.blk_nodes.specs.Flushing.{base_of, HasFlushCause, IsFlushAt}
+use Rattle.blk_nodes.specs.Flushing.{base_of, HasFlushCause, IsFlushOn, IsFlushAt}
 use Rattle.blk_nodes.specs.Joined.{IsJoined}
-use Rattle.blk_nodes.specs.Nodes.{Nodes, DeviceSeen}
+use Rattle.blk_nodes.specs.Nodes.{Nodes, DeviceSeen, device_in, filtered_of}
 use Rattle.blk_nodes.specs.Reading.{StoppedBy}
 use Rattle.qblk_core.specs.Along.{CountsOutcome}
 use Rattle.qblk_core.specs.ImageNodes.{only_device, HaveOneImage, HaveShapeOf, content_of, device_faults, capacity_of, told_disk}
 use Rattle.qblk_core.specs.Session.{flush_fault, AreNodesClosed}
 use Rattle.qblk_core.proofs.OneDevice.{head-same, content-is, faults-is, capacity-is}
 use Rattle.blk_pieces.proofs.Rows.{rows_kept}
-use Rattle.qblk_core.proofs.OneImage.{StepsOnDevice, flush-goes, flush-size, shape-after, one-after, the-one}
+use Rattle.qblk_core.proofs.OneImage.{StepsOnDevice, base-is, no-filter, flush-goes, flush-size, shape-after, one-after, the-one}
 
 -- the last flush was good, or its fault is told
 abbrev pub IsFlushed : DeviceSeen → ℕ → Option FaultAt → Type 0
@@ -49,10 +49,24 @@ flushed-by before n (Torn done dev count) number cause is tells = absurd cause
 flushed-by before n (Io dev count) number cause is tells = ((ap Dev (cause.named ∙ number), cause.rose, cause.now), refl)
 flushed-by before n (NoSpace dev) number cause is tells = absurd cause
 
+flushed-on : (left last : Nodes) (flush : Outcome) {n : DeviceSeen} {fault : Option FaultAt} → HaveOneImage left → AreNodesClosed left last flush n fault
+    → IsFlushOn (base_of left 1) left.devices last.devices flush
+flushed-on left last flush one closed = by closed.flushed.flushed
+  where
+    same : filtered_of left 0 ≡ None
+    same = sym (ap (λ (nodes : Nodes). filtered_of nodes 0) closed.flushed.kept) ∙ no-filter last closed.joined closed.one
+
+    by : IsFlushAt (base_of left 1) left.devices last.devices flush → IsFlushOn (base_of left 1) left.devices last.devices flush
+    by (inl on) = on
+    by (inr none) =
+        let at : device_in left.devices 0 ≡ Some one.device = rw (one.only, one.node) refl in
+        let bad : Some one.device ≡ None = sym at ∙ ap (device_in left.devices) (sym (base-is left one same)) ∙ none.0 in
+        absurd (cc bad)
+
 pub closed-facts : (left last : Nodes) (flush : Outcome) (n : DeviceSeen) (fault : Option FaultAt) → HaveOneImage left → AreNodesClosed left last flush n fault
     → ((bytes : List ℕ) → n.content ≡ Some bytes → is_some n.is_flushed ≡ true) → HasClosed left last flush n fault
 closed-facts left last flush n fault one closed tells =
-    let f = closed.flushed.flushed in
+    let f = flushed-on left last flush one closed in
     let r = the-one left last one (base_of left 1) f.before f.after f.only f.held f.left in
     let after : f.after ≡ n = head-same f.after n [] (sym r.0 ∙ closed.given) in
     let was : f.before ≡ one.device = r.1 in
@@ -70,7 +84,7 @@ closed-facts left last flush n fault one closed tells =
       good = by.1 ∙ ap is_none (sym closed.told);
       more = let least : f.before.faults ≤ n.faults = subst (λ (x : DeviceSeen). f.before.faults ≤ x.faults) after f.flush.faults in omega (arith, least, faults);
       counts =
-          let g = flush-goes left last one (base_of left 1) flush f in
+          let g = flush-goes left last one (base_of left 1) flush (inl f) in
           subst (λ (k : ℕ). CountsOutcome k n.faults flush) (sym (faults-is left one.device one.only one.node))
           (subst (λ (x : DeviceSeen). CountsOutcome one.device.faults x.faults flush) (head-same g.device n [] (sym g.is ∙ closed.given)) g.steps.cause);
       content = content;

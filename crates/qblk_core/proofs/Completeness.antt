@@ -21,8 +21,8 @@ use Rattle.qblk_core.specs.declared.status.InputWhy.{InputWhy}
 use Rattle.qblk_core.specs.declared.status.InputWhy.TheVariants as why
 use Rattle.qblk_core.specs.declared.status.Status.{Status}
 use Rattle.qblk_core.specs.declared.status.Status.TheVariants.{Done, Usage, Input, Fault, Stuck, NoMemory}
-use Rattle.qblk_core.specs.declared.words.Format.{Format}
-use Rattle.qblk_core.specs.declared.words.Format.TheVariants.{Raw, Qcow2}
+use Rattle.qblk_words.specs.declared.words.Format.{Format}
+use Rattle.qblk_words.specs.declared.words.Format.TheVariants.{Raw, Qcow2}
 use Rattle.qblk_core.proofs.Quiet.{grows}
 
 -- ---- good inputs aren't refused

@@ -11,7 +11,6 @@ pub mod Progress
 pub mod Sessions
 pub mod Sending
 pub mod Whole
-pub mod Forms
 pub mod Returned
 pub mod Quiet
 pub mod OneTranscript

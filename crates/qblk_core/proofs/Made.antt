@@ -46,8 +46,8 @@ use Rattle.qblk_core.specs.Face.{state_with, new_io_guest, machine_on}
 use Rattle.qblk_core.specs.Format.{disk_by_format, IsGoodImage, IsSoundAs}
 use Rattle.qblk_core.specs.ImageNodes.{file_name, image_name, only_device, file_node_alone, with_raw, asked_image, IsImageNodeOver, AreMadeOf, IsOnFile, HaveOneImage, HaveShapeOf, content_of, told_disk}
 use Rattle.qblk_core.specs.Run.{machine_of}
-use Rattle.qblk_core.specs.declared.words.Format.{Format}
-use Rattle.qblk_core.specs.declared.words.Format.TheVariants.{Raw, Qcow2}
+use Rattle.qblk_words.specs.declared.words.Format.{Format}
+use Rattle.qblk_words.specs.declared.words.Format.TheVariants.{Raw, Qcow2}
 use Rattle.qblk_core.proofs.OneDevice.{found-at, content-is}
 
 -- ---- the numbers of both nodes
@@ -314,9 +314,11 @@ module _ (nodes : Nodes) (joined : IsJoined nodes) (disks : Unfolds nodes) (one 
   by-driver Raw drivers.File driver kind on = absurd on
   by-driver Raw (drivers.Qcow2 image) driver kind on = absurd (let bad : ⊥ = cc kind in bad)
   by-driver Raw drivers.CopyOnRead driver kind on = absurd on
+  by-driver Raw (drivers.Filter of) driver kind on = absurd on
   by-driver Qcow2 drivers.File driver kind on = absurd on
   by-driver Qcow2 (drivers.Raw p) driver kind on = absurd (let bad : ⊥ = cc kind in bad)
   by-driver Qcow2 drivers.CopyOnRead driver kind on = absurd on
+  by-driver Qcow2 (drivers.Filter of) driver kind on = absurd on
 
   pub image-as : (format : Format) → option_map kind_in (row_at nodes 1) ≡ Some (format_kind format)
       → (disk_of nodes 1 ≡ disk_by_format format bytes) × (node_size nodes 1 ≡ length (disk_by_format format bytes)) × IsSoundAs format bytes

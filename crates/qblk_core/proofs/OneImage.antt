@@ -1,6 +1,6 @@
 -- What a piece leaves of the nodes of one image.
-use Rattle.std.proofs.Common.{◌≡◌, ℕ, ◌+◌, ◌/◌, ◌≤◌, List, [], ◌∷◌, length, take, replicate, zero, suc, Option, Some, None, refl, sym, ◌∙◌, ap, subst, inl, inr, arith}
-use Rattle.std.specs.Prelude.{is_some, option_map}
+use Rattle.std.proofs.Common.{◌≡◌, ℕ, ◌+◌, ◌/◌, ◌≤◌, Bool, true, List, [], ◌∷◌, length, take, replicate, zero, suc, Option, Some, None, refl, sym, ◌∙◌, ap, subst, inl, inr, arith}
+use Rattle.std.specs.Prelude.{is_some, option_map, find}
 use Rattle.std.proofs.lemmas.Bool.{false≢true, cases_eq}
 use Rattle.std.proofs.lemmas.List.{length-replicate, length-take}
 use Rattle.blk_base.specs.Content.{with_bytes, size_with}
@@ -11,10 +11,21 @@ use Rattle.blk_base.specs.declared.fault.Outcome.{Outcome}
 use Rattle.blk_base.specs.declared.fault.Outcome.TheVariants.{Good, Torn, Io, NoSpace}
 use Rattle.trace_codec.specs.declared.op.Op.{Op}
 use Rattle.trace_codec.specs.declared.op.Op.TheVariants.{Read, Write, Zero, Flush, Discard}
-use Rattle.blk_graph.specs.Edits.{child_of}
+use Rattle.blk_graph.specs.Edges.{same_parent, same_role}
+use Rattle.blk_graph.specs.Edits.{child_of, is_edge}
+use Rattle.blk_graph.specs.Permissions.{has_role}
+use Rattle.blk_graph.specs.Refreshed.{kind_at, IsOf}
+use Rattle.blk_graph.specs.declared.edge.Edge.{Edge}
+use Rattle.blk_graph.specs.declared.edge.Role.{Role}
+use Rattle.blk_graph.specs.declared.kind.Kind.{Kind}
+use Rattle.blk_graph.specs.declared.kind.Kind.TheVariants.{Protocol}
+use Rattle.blk_graph.specs.declared.kind.NodeKind.{NodeKind}
+use Rattle.blk_graph.proofs.CycleLemmas.{same_parent-true, and-left, and-right}
+use Rattle.blk_graph.proofs.Members.{find-Some}
+use Rattle.blk_graph.proofs.RoleLemmas.{same_role-true}
 use Rattle.blk_graph.specs.Graph.{Graph, HasNode}
 use Rattle.blk_graph.specs.declared.edge.Parent.TheVariants.{Node}
-use Rattle.blk_graph.specs.declared.edge.Role.TheVariants.{File, Backing}
+use Rattle.blk_graph.specs.declared.edge.Role.TheVariants.{File, Backing, Filtered}
 use Rattle.blk_history.specs.Disk.{payload_in, done_in}
 use Rattle.blk_history.specs.Legal.{Tells}
 use Rattle.blk_history.specs.Machine.{done_by}
@@ -26,9 +37,9 @@ use Rattle.blk_nodes.specs.declared.row.RawImage.{RawImage}
 use Rattle.blk_nodes.specs.Changing.{IsImageWritten, IsZeroed, LeavesRow}
 use Rattle.blk_nodes.specs.Contents.{IsToldDisk, disk_of}
 use Rattle.blk_nodes.specs.Copying.{AtEach, images_met, images_met_in}
-use Rattle.blk_nodes.specs.Flushing.{base_in, base_of, HasFlushCause, IsFlushAt}
-use Rattle.blk_nodes.specs.Joined.{IsJoined, IsSized}
-use Rattle.blk_nodes.specs.Nodes.{Nodes, DeviceSeen, AreTold, row_at, size_by, node_size, kind_in, driver_kind, device_in, file_of, backing_of}
+use Rattle.blk_nodes.specs.Flushing.{under_of, base_in, base_of, HasFlushCause, IsFlushAt}
+use Rattle.blk_nodes.specs.Joined.{IsFile, HasBelow, IsJoined, IsSized}
+use Rattle.blk_nodes.specs.Nodes.{Nodes, DeviceSeen, AreTold, row_at, size_by, node_size, kind_in, driver_kind, device_in, file_of, backing_of, filtered_of}
 use Rattle.blk_nodes.specs.Reading.{HasRisen, HaveRisen, OnlyAt, StoppedBy, StoppedAt, IsReadBelow}
 use Rattle.blk_nodes.specs.Sources.{step_of}
 use Rattle.blk_nodes.specs.Writing.{IsDriverAfter, IsRowAfter, AreRowsAfter, HasCauseOf, HasPieceCause, IsWriteOf, WritesFile, WritesImage, WritesBy, ZerosBy, MayWriteThrough, CanBeWritten, own_start, taken_by}
@@ -58,6 +69,7 @@ can-write nodes one (drivers.Qcow2 image) was now on = λ over file backing edge
     let none : Some over ≡ None = sym backing ∙ one.bare in
     let bad : ⊥ = cc none in absurd bad
 can-write nodes one drivers.CopyOnRead was now on = absurd on
+can-write nodes one (drivers.Filter kind) was now on = absurd on
 
 pub may-write : (nodes : Nodes) → HaveOneImage nodes → MayWriteThrough nodes 1
 may-write nodes one = record {
@@ -99,6 +111,7 @@ module _ (nodes : Nodes) (was now : ℕ) (alone : StandsAlone was now nodes) (pl
   none-by (drivers.Raw part) is on = rw (alone.there, is, alone.file, images_met_in, step_of) refl
   none-by (drivers.Qcow2 image) is on = none-by-entry image is (entry_in image (place / cluster_size_in image)) refl
   none-by drivers.CopyOnRead is on = absurd on
+  none-by (drivers.Filter kind) is on = absurd on
 
 pub none-met-alone : (nodes : Nodes) (was now : ℕ) → StandsAlone was now nodes → (place : ℕ) → images_met nodes 1 place ≡ []
 unfolding images_met
@@ -123,12 +136,45 @@ can-transfer nodes op part joined one inside = record {
   may = λ writes. may-write nodes one;
 }
 
+-- a `file` node has no edge of a filter
+file-ends : (nodes : Nodes) (file : ℕ) → IsJoined nodes → IsFile nodes file → filtered_of nodes file ≡ None
+file-ends nodes file joined is = ap (option_map (λ (e : Edge). e.child)) (by-found (find (is_edge (Node file) Filtered) nodes.graph.edges) refl)
+  where
+    by-found : (found : Option Edge) → find (is_edge (Node file) Filtered) nodes.graph.edges ≡ found → found ≡ None
+    by-found None at = refl
+    by-found (Some edge) at =
+        let found = find-Some (is_edge (Node file) Filtered) nodes.graph.edges edge at in
+        let parent : edge.parent ≡ Node file = same_parent-true edge.parent (Node file) (and-left (same_parent edge.parent (Node file)) (same_role edge.role Filtered) found.1) in
+        let role : edge.role ≡ Filtered = same_role-true edge.role Filtered (and-right (same_parent edge.parent (Node file)) (same_role edge.role Filtered) found.1) in
+        let table : has_role (kind_at nodes.graph.kinds file).kind edge.role ≡ true = subst (IsOf nodes.graph.kinds edge) parent (joined.sound.fit.each edge found.0).table in
+        let kind : (kind_at nodes.graph.kinds file).kind ≡ Protocol
+        = ap (λ (k : NodeKind). k.kind) (joined.kinds file is.row is.there) ∙ ap driver_kind is.driver in
+        let may : has_role Protocol Filtered ≡ true = subst (λ (k : Kind). has_role k Filtered ≡ true) kind (subst (λ (r : Role). has_role (kind_at nodes.graph.kinds file).kind r ≡ true) role table) in
+        absurd (let bad : ⊥ = cc may in bad)
+
 -- the image's node is flushed by its file's device
-pub base-is : (nodes : Nodes) → HaveOneImage nodes → base_of nodes 1 ≡ 0
+pub base-is : (nodes : Nodes) → HaveOneImage nodes → filtered_of nodes 0 ≡ None → base_of nodes 1 ≡ 0
 unfolding base_of
-base-is nodes one =
-    ap (λ (f : Option ℕ). elim f as (λ _. ℕ) [ None ↦ 1 | Some next ↦ base_in 63 nodes next ]) one.file
-    ∙ ap (λ (f : Option ℕ). elim f as (λ _. ℕ) [ None ↦ 0 | Some next ↦ base_in 62 nodes next ]) (one.others 0 (λ bad. absurd (let e : ⊥ = cc bad in e)))
+base-is nodes one none =
+    let filed : under_of nodes 1 ≡ Some 0 = ap (λ (f : Option ℕ). elim f as (λ _. Option ℕ) [ None ↦ filtered_of nodes 1 | Some file ↦ Some file ]) one.file in
+    let ends : under_of nodes 0 ≡ None
+    = ap (λ (f : Option ℕ). elim f as (λ _. Option ℕ) [ None ↦ filtered_of nodes 0 | Some file ↦ Some file ]) (one.others 0 (λ bad. absurd (let e : ⊥ = cc bad in e))) ∙ none in
+    ap (λ (f : Option ℕ). elim f as (λ _. ℕ) [ None ↦ 1 | Some next ↦ base_in 63 nodes next ]) filed
+    ∙ ap (λ (f : Option ℕ). elim f as (λ _. ℕ) [ None ↦ 0 | Some next ↦ base_in 62 nodes next ]) ends
+
+-- and that file has no node below it
+pub no-filter : (nodes : Nodes) → IsJoined nodes → HaveOneImage nodes → filtered_of nodes 0 ≡ None
+no-filter nodes joined one = file-ends nodes 0 joined (by-driver one.row.driver refl (joined.below 1 one.row one.there) one.on_file)
+  where
+    zeroth : (file : ℕ) → file_of nodes 1 ≡ Some file → IsFile nodes file → IsFile nodes 0
+    zeroth file edge is = let same : file ≡ 0 = cc (sym edge ∙ one.file) in subst (IsFile nodes) same is
+
+    by-driver : (d : Driver) → one.row.driver ≡ d → HasBelow nodes 1 one.row.size d → IsOnFile d (node_size nodes 0) one.device.size → IsFile nodes 0
+    by-driver drivers.File is below on = absurd on
+    by-driver (drivers.Raw part) is below on = zeroth below.file below.edge below.is_file
+    by-driver (drivers.Qcow2 image) is below on = zeroth below.file below.edge below.is_file
+    by-driver drivers.CopyOnRead is below on = absurd on
+    by-driver (drivers.Filter kind) is below on = absurd on
 
 -- ---- the device
 
@@ -247,6 +293,7 @@ module _ (old new : Nodes) (one : HaveOneImage old) where
       image-goes _ _ _ _ outcome wrote
       (written-capacity (IsToldDisk old 1) image left.now wrote.before wrote.after part bytes outcome (left.changed wrote.file wrote.before wrote.after wrote.edge wrote.held wrote.left))
   write-goes part bytes outcome row drivers.CopyOnRead wrote left = file-goes part.start bytes outcome wrote
+  write-goes part bytes outcome row (drivers.Filter kind) wrote left = file-goes part.start bytes outcome wrote
 
   zero-goes : (part : Extent) (outcome : Outcome) (row : Row) (driver : Driver) → ZerosBy driver old new 1 part outcome → LeavesRow (IsZeroed (IsToldDisk old 1) part) driver row old new 1 outcome
       → StepsOnDevice one.device new.devices outcome
@@ -256,6 +303,7 @@ module _ (old new : Nodes) (one : HaveOneImage old) where
       image-goes _ _ _ _ outcome wrote
       (zeroed-capacity (IsToldDisk old 1) image left.now wrote.before wrote.after part outcome (left.changed wrote.file wrote.before wrote.after wrote.edge wrote.held wrote.left))
   zero-goes part outcome row drivers.CopyOnRead wrote left = file-goes part.start (replicate part.len 0) outcome wrote
+  zero-goes part outcome row (drivers.Filter kind) wrote left = file-goes part.start (replicate part.len 0) outcome wrote
 
   read-goes : (outcome : Outcome) → IsReadBelow old new 1 outcome → HaveRisen old.devices new.devices → StepsOnDevice one.device new.devices outcome
   read-goes outcome read risen =
@@ -281,7 +329,19 @@ module _ (old new : Nodes) (one : HaveOneImage old) where
       by_outcome e is (NoSpace dev) bad = absurd bad
 
   pub flush-goes : (file : ℕ) (outcome : Outcome) → IsFlushAt file old.devices new.devices outcome → StepsOnDevice one.device new.devices outcome
-  flush-goes file outcome flushed =
+  flush-goes file outcome (inr none) = record {
+    device = one.device;
+    is = none.1 ∙ one.only;
+    steps = record {
+      node = refl;
+      number = refl;
+      told = refl;
+      capacity = refl;
+      faults = omega arith;
+      cause = subst (CountsOutcome one.device.faults one.device.faults) (sym none.2) refl;
+    };
+  }
+  flush-goes file outcome (inl flushed) =
       let r = the-one file flushed.before flushed.after flushed.only flushed.held flushed.left in
       record {
         device = flushed.after;
@@ -310,7 +370,8 @@ module _ (old new : Nodes) (one : HaveOneImage old) where
   goes (Discard span) part outcome buffer did = absurd did
 
   pub flush-size : (file : ℕ) (outcome : Outcome) (e : DeviceSeen) → new.devices ≡ e ∷ [] → IsFlushAt file old.devices new.devices outcome → e.size ≡ one.device.size
-  flush-size file outcome e is flushed =
+  flush-size file outcome e is (inr none) = ap (λ (x : DeviceSeen). x.size) (head-same e one.device [] (sym is ∙ none.1 ∙ one.only))
+  flush-size file outcome e is (inl flushed) =
       let r = the-one file flushed.before flushed.after flushed.only flushed.held flushed.left in
       ap (λ (x : DeviceSeen). x.size) (head-same e flushed.after [] (sym is ∙ r.0)) ∙ ap (λ (x : DeviceSeen). x.size) flushed.flush.is
       ∙ ap (λ (x : DeviceSeen). x.size) r.1
@@ -326,6 +387,7 @@ driver-kind drivers.File b is = ap driver_kind is
 driver-kind (drivers.Raw part) b is = ap driver_kind is
 driver-kind (drivers.Qcow2 image) b is = ap driver_kind is.1
 driver-kind drivers.CopyOnRead b is = ap driver_kind is
+driver-kind (drivers.Filter kind) b is = ap driver_kind is
 
 kind-after : (a b : Option Row) → AreRowsAfter a b → option_map kind_in b ≡ option_map kind_in a
 kind-after None b is = ap (option_map kind_in) is
@@ -347,6 +409,7 @@ on-file-after (drivers.Raw p) b was now was' now' is size same on =
 on-file-after (drivers.Qcow2 image) b was now was' now' is size same on =
     subst (λ (d : Driver). IsOnFile d was' now') (sym is.1) (ap (λ (h : Header). h.name) is.2 ∙ on)
 on-file-after drivers.CopyOnRead b was now was' now' is size same on = absurd on
+on-file-after (drivers.Filter kind) b was now was' now' is size same on = absurd on
 
 row-after : (row : Row) (b : Option Row) → AreRowsAfter (Some row) b → (now : Row) × (b ≡ Some now) × IsRowAfter row now
 row-after row b is = is

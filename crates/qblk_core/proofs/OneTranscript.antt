@@ -31,7 +31,7 @@ use Rattle.blk_history.specs.declared.event.Event.TheVariants.{Admit, Refuse, Pi
 use Rattle.blk_history.proofs.Folds.{with-some, with-at}
 use Rattle.blk_history.proofs.Lines.{in_line, in_word, IsLine, IsWord, all-append, words_then, sentence-then, after-verb, first-word, same-word, last-word, decimal-word}
 use Rattle.blk_history.proofs.Outcomes.{one-outcome}
-use Rattle.blk_history.proofs.Verbs.{IsOfNoJob, event_verb, verb_in, verb-told, line-there}
+use Rattle.blk_history.proofs.Verbs.{event_verb, verb_in, verb-told, line-there}
 use Rattle.blk_pieces.specs.Pieces.{shows_in}
 use Rattle.qblk_core.specs.Along.{ShowsOf, IsInTurn, FitsUnread, GoesInTurn}
 use Rattle.qblk_core.specs.Printed.{PrintsInTurn}
@@ -221,18 +221,6 @@ after-row s row (Done actor) is = is
 
 -- ---- one entry
 
-of-no-job : (s : IoState) (e : Event) → FitsUnread s e → IsOfNoJob e
-of-no-job s (Start job) fits = fits
-of-no-job s (Ready job) fits = fits
-of-no-job s (End job outcome offset) fits = fits
-of-no-job s (Admit g r op) fits = tt
-of-no-job s (Refuse g r op why) fits = tt
-of-no-job s (Piece g r k outcome got) fits = tt
-of-no-job s (Retire g r) fits = tt
-of-no-job s (Reply line given command text) fits = tt
-of-no-job s (Reached line what) fits = tt
-of-no-job s (Done actor) fits = tt
-
 asked-admit : (n m : ℕ) (op other : Op) (es fs : List Event) → asked_by 0 (Admit 0 n op ∷ es) ≡ asked_by 0 (Admit 0 m other ∷ fs) → op ≡ other
 asked-admit n m op other es fs e = let all : op ∷ asked_by 0 es ≡ other ∷ asked_by 0 fs = e in cc all
 
@@ -367,7 +355,7 @@ all-same (x ∷ es) [] s t row left right lh lk asked sh sk e = absurd (line-the
 all-same (x ∷ es) (f ∷ fs) s t row left right lh lk asked sh sk e =
     let r = flat_map (entry_line guest_names) es in
     let q = flat_map (entry_line guest_names) fs in
-    let verbs : event_verb x ≡ event_verb f = sym (verb-told guest_names x r (of-no-job s x lh.0)) ∙ ap verb_in e ∙ verb-told guest_names f q (of-no-job t f lk.0) in
+    let verbs : event_verb x ≡ event_verb f = sym (verb-told guest_names x r) ∙ ap verb_in e ∙ verb-told guest_names f q in
     let same : x ≡ f = same-entry s t row left right x f es fs verbs lh.0 lk.0 asked (All-head IsSmall x es sh) (All-head IsSmall f fs sk) r q e in
     let rest : r ≡ q = append_cancel_left (entry_line guest_names x) r q (e ∙ ap (λ y. entry_line guest_names y ++ q) (sym same)) in
     let asked-on : asked_by 0 es ≡ asked_by 0 fs = asked-rest x es fs (subst (λ y. asked_by 0 (x ∷ es) ≡ asked_by 0 (y ∷ fs)) (sym same) asked) in

@@ -37,8 +37,8 @@ use Rattle.qblk_core.specs.Run.{HasLengthFor, IsBadBytes}
 use Rattle.qblk_core.specs.Session.{IsRefusedImage}
 use Rattle.qblk_core.specs.declared.opening.OpenStop.TheVariants.{Refused}
 use Rattle.qblk_core.specs.declared.status.InputWhy.TheVariants.{NeedsBacking, Image}
-use Rattle.qblk_core.specs.declared.words.Format.{Format}
-use Rattle.qblk_core.specs.declared.words.Format.TheVariants.{Raw, Qcow2}
+use Rattle.qblk_words.specs.declared.words.Format.{Format}
+use Rattle.qblk_words.specs.declared.words.Format.TheVariants.{Raw, Qcow2}
 use Rattle.qblk_core.proofs.Made.{first-id, second-id, over-as, made-one, drive-keeps, not-stopped}
 use Rattle.qblk_core.proofs.OneDevice.{first-found, head-same, risen-one}
 

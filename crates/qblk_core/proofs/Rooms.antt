@@ -1,5 +1,5 @@
 -- A run in which no count rises, and all that is written finds room, has good pieces only.
-use Rattle.std.proofs.Common.{◌≡◌, ℕ, ◌+◌, ◌<◌, ◌≤◌, zero, suc, Bool, List, [], ◌∷◌, length, replicate, Option, Some, None, refl, sym, ◌∙◌, ap, subst, arith}
+use Rattle.std.proofs.Common.{◌≡◌, ℕ, ◌+◌, ◌<◌, ◌≤◌, zero, suc, Bool, List, [], ◌∷◌, length, replicate, Option, Some, None, refl, sym, ◌∙◌, ap, subst, arith, inl, inr}
 use Rattle.std.specs.Prelude.{slice_get, option_map}
 use Rattle.std.proofs.lemmas.List.{length-replicate}
 use Rattle.blk_base.specs.Pieces.{Extent, end_of}
@@ -30,7 +30,7 @@ use Rattle.qblk_core.specs.Completeness.{HasStood, WriteHasRoom, ZerosHaveRoom, 
 use Rattle.qblk_core.specs.Face.{machine_on}
 use Rattle.qblk_core.specs.ImageNodes.{IsOnFile, capacity_of}
 use Rattle.qblk_core.specs.Run.{Outside, IsIoRun}
-use Rattle.qblk_core.specs.declared.words.Format.{Format}
+use Rattle.qblk_words.specs.declared.words.Format.{Format}
 use Rattle.qblk_core.proofs.Made.{made-one}
 use Rattle.qblk_core.proofs.OneImage.{StandsAlone, stands-alone, none-met-alone, alone-after}
 
@@ -109,6 +109,7 @@ module _ (old new : Nodes) (was now : ℕ) (alone : StandsAlone was now old) (pa
   write-full row (drivers.Raw p) bytes there is on len wrote room = raw-full row p bytes there is on.0 len wrote room
   write-full row (drivers.Qcow2 image) bytes there is on len wrote room = image-full _ _ _ _ wrote room
   write-full row drivers.CopyOnRead bytes there is on len wrote room = on
+  write-full row (drivers.Filter kind) bytes there is on len wrote room = on
 
   zeros-full : (row : Row) (driver : Driver) → row_at old 1 ≡ Some row → row.driver ≡ driver → IsOnFile driver was now
       → ZerosBy driver old new 1 part (NoSpace dev) → ((capacity : ℕ) → capacity_of old ≡ Some capacity → ZerosHaveRoom driver part capacity) → ⊥
@@ -116,6 +117,7 @@ module _ (old new : Nodes) (was now : ℕ) (alone : StandsAlone was now old) (pa
   zeros-full row (drivers.Raw p) there is on wrote room = raw-full row p (replicate part.len 0) there is on.0 (length-replicate part.len 0) wrote room
   zeros-full row (drivers.Qcow2 image) there is on wrote room = image-full _ _ _ _ wrote room
   zeros-full row drivers.CopyOnRead there is on wrote room = on
+  zeros-full row (drivers.Filter kind) there is on wrote room = on
 
   not-full : (op : Op) (buffer : List ℕ) → Transfers op old new 1 1 part (NoSpace dev) buffer → HasRoomOn old 1 op part → ⊥
   not-full (Read span) buffer did room = (none_met old new 1 part (NoSpace dev) buffer did (none-met-alone old was now alone part.start)).outcome_is
@@ -126,7 +128,10 @@ module _ (old new : Nodes) (was now : ℕ) (alone : StandsAlone was now old) (pa
   not-full (Zero span) buffer did room =
       let row = did.0.row in
       zeros-full row row.driver did.0.there refl (on-row row did.0.there) did.0.wrote (λ capacity is. room row capacity did.0.there is)
-  not-full Flush buffer did room = did.flushed.flush.cause
+  not-full Flush buffer did room = elim did.flushed [
+    | inl on ↦ on.flush.cause
+    | inr none ↦ cc none.2
+  ]
   not-full (Discard span) buffer did room = did
 
 -- it is good where it names no fault

@@ -11,8 +11,8 @@ use Rattle.blk_nodes.specs.Nodes.{Nodes, DeviceSeen}
 use Rattle.blk_nodes.specs.Overlays.{IsOpened}
 use Rattle.blk_nodes.specs.Reading.{HasRisen}
 use Rattle.qblk_core.specs.Format.{HasGoodLength}
-use Rattle.qblk_core.specs.declared.words.Format.{Format}
-use Rattle.qblk_core.specs.declared.words.Format.TheVariants.{Raw, Qcow2}
+use Rattle.qblk_words.specs.declared.words.Format.{Format}
+use Rattle.qblk_words.specs.declared.words.Format.TheVariants.{Raw, Qcow2}
 use Rattle.qblk_core.specs.Face.{SessionSeen, new_io_guest}
 use Rattle.qblk_core.specs.ImageNodes.{file_node_alone, IsImageNodeOver, AreMadeOf, HaveOneImage}
 use Rattle.qblk_core.specs.Requests.{RequestsDone}

@@ -30,8 +30,8 @@ use Rattle.blk_nodes.specs.Contents.{disk_of}
 use Rattle.blk_nodes.specs.Nodes.{DeviceSeen}
 use Rattle.blk_nodes.specs.Reading.{HasRisen}
 use Rattle.qblk_core.specs.Format.{disk_by_format}
-use Rattle.qblk_core.specs.declared.words.Format.{Format}
-use Rattle.qblk_core.specs.declared.words.Format.TheVariants as formats
+use Rattle.qblk_words.specs.declared.words.Format.{Format}
+use Rattle.qblk_words.specs.declared.words.Format.TheVariants as formats
 use Rattle.qblk_core.specs.Comes.{HaveLines}
 use Rattle.qblk_core.specs.Face.{SessionSeen, state_of, machine_on}
 use Rattle.qblk_core.specs.ImageNodes.{only_device, content_of, device_faults, told_disk}

@@ -17,7 +17,7 @@ use Rattle.blk_nodes.specs.declared.row.Row.{Row}
 use Rattle.qblk_core.specs.Along.{HaveNodes}
 use Rattle.qblk_core.specs.ImageNodes.{capacity_of}
 use Rattle.qblk_core.specs.Run.{Outside, HasImage, HasTrace, closed_opening}
-use Rattle.qblk_core.specs.declared.words.Format.{Format}
+use Rattle.qblk_words.specs.declared.words.Format.{Format}
 
 -- the store tells its files, and among them are an image that can be opened and a trace that asks for this
 abbrev pub HasInputs : Format → List ℕ → List ℕ → List Op → Outside → Type 0

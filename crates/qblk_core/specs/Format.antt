@@ -6,8 +6,8 @@ use Rattle.q2_format.specs.Sound.{IsSound}
 use Rattle.q2_format.specs.declared.header.TheConstants.{MAX_DISK_SIZE, MIN_HEADER_LENGTH}
 use Rattle.q2_image.specs.Image.{Known}
 use Rattle.q2_image.specs.Placed.{FitsFile}
-use Rattle.qblk_core.specs.declared.words.Format.{Format}
-use Rattle.qblk_core.specs.declared.words.Format.TheVariants.{Raw, Qcow2}
+use Rattle.qblk_words.specs.declared.words.Format.{Format}
+use Rattle.qblk_words.specs.declared.words.Format.TheVariants.{Raw, Qcow2}
 
 -- the disk of a file's bytes; a qcow2 image is read without a backing disk
 abbrev pub disk_by_format : Format → List ℕ → List ℕ

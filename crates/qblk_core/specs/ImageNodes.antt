@@ -14,8 +14,8 @@ use Rattle.blk_nodes.specs.declared.row.Driver.TheVariants as drivers
 use Rattle.blk_nodes.specs.declared.row.Row.{Row}
 use Rattle.q2_format.specs.declared.header.TheConstants.{MAX_DISK_SIZE}
 use Rattle.q2_image.specs.Image.{Known}
-use Rattle.qblk_core.specs.declared.words.Format.{Format}
-use Rattle.qblk_core.specs.declared.words.Format.TheVariants.{Raw, Qcow2}
+use Rattle.qblk_words.specs.declared.words.Format.{Format}
+use Rattle.qblk_words.specs.declared.words.Format.TheVariants.{Raw, Qcow2}
 
 -- the names of both nodes, whose numbers are 0 and 1
 abbrev pub file_name : List ℕ
@@ -101,6 +101,7 @@ IsOnFile drivers.File was now = ⊥
 IsOnFile (drivers.Raw part) was now = (part.offset ≡ 0) × (part.size ≡ was) × (now ≡ was)
 IsOnFile (drivers.Qcow2 image) was now = image.header.name ≡ None
 IsOnFile drivers.CopyOnRead was now = ⊥
+IsOnFile (drivers.Filter kind) was now = ⊥
 
 -- there is one device, under the image's node, which is over nothing else and may be written
 pub record HaveOneImage (nodes : Nodes) : Type 0 where

@@ -16,6 +16,5 @@ pub mod Output
 pub mod Session
 pub mod Closing
 pub mod Opened
-pub mod Words
 pub mod Exit
 pub mod StatusText

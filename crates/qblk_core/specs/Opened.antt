@@ -13,8 +13,8 @@ use Rattle.q2_image.specs.declared.stop.ImageStop.TheVariants as stops
 use Rattle.qblk_core.specs.Closing.{IsOnlyDevice}
 use Rattle.qblk_core.specs.ImageNodes.{AreMadeOf, HaveOneImage, only_device, file_node_alone}
 use Rattle.qblk_core.specs.Session.{IsRefusedImage}
-use Rattle.qblk_core.specs.declared.words.Format.{Format}
-use Rattle.qblk_core.specs.declared.words.Format.TheVariants.{Qcow2}
+use Rattle.qblk_words.specs.declared.words.Format.{Format}
+use Rattle.qblk_words.specs.declared.words.Format.TheVariants.{Qcow2}
 use Rattle.qblk_core.specs.declared.opening.OpenStop.{OpenStop}
 use Rattle.qblk_core.specs.declared.opening.OpenStop.TheVariants.{Refused, Io, NoMemory}
 use Rattle.qblk_core.specs.declared.status.InputWhy.TheVariants.{Image}

@@ -30,8 +30,8 @@ use Rattle.q2_image.specs.Refusals.{IsRefusalFor}
 use Rattle.q2_image.specs.OpeningCalls.{IsOpeningCall}
 use Rattle.q2_image.specs.declared.stop.ImageStop.TheVariants as images
 use Rattle.qblk_core.specs.Format.{CanHoldImage, disk_by_format, HasGoodLength, IsGoodImage, IsSoundAs}
-use Rattle.qblk_core.specs.declared.words.Format.{Format}
-use Rattle.qblk_core.specs.declared.words.Format.TheVariants.{Raw, Qcow2}
+use Rattle.qblk_words.specs.declared.words.Format.{Format}
+use Rattle.qblk_words.specs.declared.words.Format.TheVariants.{Raw, Qcow2}
 use Rattle.blk_base.specs.declared.fault.Outcome.{Outcome}
 use Rattle.blk_base.specs.Outcomes.{is_good}
 use Rattle.blk_nodes.specs.Nodes.{Nodes, DeviceSeen}

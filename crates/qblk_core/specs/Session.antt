@@ -23,8 +23,8 @@ use Rattle.qblk_core.specs.Comes.{ComesFrom}
 use Rattle.qblk_core.specs.Format.{HasGoodLength, IsGoodImage}
 use Rattle.qblk_core.specs.ImageNodes.{AreMadeOf, HaveOneImage}
 use Rattle.blk_pieces.specs.Pieces.{FlushesPart}
-use Rattle.qblk_core.specs.declared.words.Format.{Format}
-use Rattle.qblk_core.specs.declared.words.Format.TheVariants.{Qcow2}
+use Rattle.qblk_words.specs.declared.words.Format.{Format}
+use Rattle.qblk_words.specs.declared.words.Format.TheVariants.{Qcow2}
 use Rattle.qblk_core.specs.Run.{AskFor, machine_of, HasLengthFor, IsRefusedRead, IsBadBytes, IsImageCause}
 use Rattle.qblk_core.specs.Output.{SendsFront}
 use Rattle.qblk_core.specs.declared.input.TraceRead.{TraceRead}

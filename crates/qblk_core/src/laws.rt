@@ -10,7 +10,7 @@ ghost use Rattle.qblk_core.specs.Face.{machine_on};
 ghost use Rattle.qblk_core.specs.Printed.{PrintsInTurn};
 ghost use Rattle.qblk_core.specs.Run.{AnswersIo, IsIoRun, Outside, machine_of, guest_names};
 ghost use Rattle.qblk_core.specs.declared.status.Status.{Status};
-ghost use Rattle.qblk_core.specs.declared.words.Format.{Format};
+ghost use Rattle.qblk_words.specs.declared.words.Format.{Format};
 
 /// With its trace, a transcript of a run on an image is that of at most one history.
 pub fn runs_on_images_have_one_history()

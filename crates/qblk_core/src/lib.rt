@@ -1,4 +1,4 @@
-//! The calls of the program, on any store and any sink: its words, a trace run on an image, the transcript, how a run ended.
+//! The calls of the program, on any store and any sink: a trace run on an image, the transcript, how a run ended.
 #![tactic(auto)]
 
 mod closing;
@@ -13,13 +13,12 @@ mod run;
 mod session;
 mod status;
 mod transfer;
-mod words;
 
 pub use laws::{
     runs_in_turn_have_one_history, runs_on_good_images_are_done, runs_on_images_have_one_history,
     runs_with_space_are_good,
 };
 pub use output::{CHUNK, send_transcript};
+pub use qblk_words::Format;
 pub use run::{qblk, run_io};
 pub use status::{InputWhy, Status};
-pub use words::Format;

@@ -8,12 +8,12 @@ ghost use Rattle.qblk_core.specs.Opened.{IsFileOver, StopsImageNode, IsOpenedAs,
 
 use crate::closing::device_of;
 use crate::status::InputWhy;
-use crate::words::Format;
 use blk_base::{DevNo, Device, NoMemory, Span, Text};
 use blk_graph::NodeId;
 use blk_nodes::{Backing, Nodes};
 use q2_format::MAX_DISK_SIZE;
 use q2_image::{Image, ImageStop};
+use qblk_words::Format;
 use std::alloc::Global;
 
 /// The only device of this run.

@@ -1,15 +1,15 @@
 //! The calls of the program.
-ghost use Rattle.std.specs.Prelude.{◌≡◌, List, ℕ};
-ghost use Rattle.qblk_inputs.specs.Words.{texts_in};
-ghost use Rattle.qblk_core.specs.Words.{IsIo};
+ghost use Rattle.std.specs.Prelude.{◌≡◌, ◌⊎◌, List, ℕ};
+ghost use Rattle.qblk_words.specs.Words.{texts_in};
+ghost use Rattle.qblk_words.specs.Words.{IsIo};
 ghost use Rattle.qblk_core.specs.Run.{AnswersIo, TellsFaults};
-ghost use Rattle.qblk_core.specs.declared.words.Format.{Format};
+ghost use Rattle.qblk_words.specs.declared.words.Format.{Format};
 ghost use Rattle.qblk_inputs.specs.Reading.{NoneOut};
 
 use crate::session::run_on;
 use crate::status::Status;
-use crate::words::io_words;
 use blk_base::{Sink, Store, Text};
+use qblk_words::{Form, WordsStop, read_words};
 use std::alloc::Global;
 
 /// Runs the trace of `io FORMAT IMAGE TRACE` on the image, and puts the transcript. The words are of that form. The store comes
@@ -64,9 +64,13 @@ pub fn run_io<S: Store, K: Sink>(
     ensures back { NoneOut (S.opened result.1) }
 {
     let mut store = store;
-    let status = match io_words(words) {
-        Some(io) => run_on(alloc, io.format, io.image, io.trace, &mut store, out),
-        None => unreachable!(),
+    let status = match read_words(alloc, words) {
+        Ok(Form::Io(io)) => {
+            let (image, trace) = (io.image.as_str(), io.trace.as_str());
+            run_on(alloc, io.format, image, trace, &mut store, out)
+        }
+        Err(WordsStop::NoMemory) => Status::NoMemory,
+        Ok(Form::Run(_)) | Err(WordsStop::Usage) => unreachable!(),
     };
     (status, store)
 }
@@ -100,7 +104,8 @@ pub fn qblk<S: Store, K: Sink>(alloc: Global, words: &[Text], store: S, out: &mu
     // all other words: nothing is done
     ensures usage { ((format : Format) (image trace : List ℕ)
         → IsIo (texts_in words.now) format image trace
-        → ⊥) → (result.0 ≡ Status.Usage) × (result.1 ≡ store) × (out.new ≡ out.old) }
+        → ⊥) → ((result.0 ≡ Status.Usage) ⊎ (result.0 ≡ Status.NoMemory))
+        × (result.1 ≡ store) × (out.new ≡ out.old) }
 
     // no fault of the store or the sink goes untold
     ensures faults { TellsFaults
@@ -125,8 +130,9 @@ pub fn qblk<S: Store, K: Sink>(alloc: Global, words: &[Text], store: S, out: &mu
     // whatever the words: no device is left out
     ensures back { NoneOut (S.opened result.1) }
 {
-    if io_words(words).is_none() {
-        return (Status::Usage, store);
+    match read_words(alloc, words) {
+        Ok(Form::Io(_)) => run_io(alloc, words, store, out),
+        Err(WordsStop::NoMemory) => (Status::NoMemory, store),
+        Ok(Form::Run(_)) | Err(WordsStop::Usage) => (Status::Usage, store),
     }
-    run_io(alloc, words, store, out)
 }

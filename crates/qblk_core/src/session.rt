@@ -21,10 +21,10 @@ use crate::opening::{DEVICE, OpenStop, open_nodes};
 use crate::output::send_transcript;
 use crate::requests::run_requests;
 use crate::status::{InputWhy, Status};
-use crate::words::Format;
 use blk_base::{Device, FaultAt, FaultFrom, Sink, Store, StoreStop, Text};
 use blk_history::{History, Rows};
 use qblk_inputs::MAX_TEXT;
+use qblk_words::Format;
 use std::alloc::Global;
 
 /// The history of a run, what its transcript is written with, and the fault of the last flush.

@@ -1,4 +1,3 @@
 pub mod Stops
 pub mod TraceLists
-pub mod PlayerWords
 pub mod Rooms

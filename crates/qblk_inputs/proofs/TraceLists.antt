@@ -9,7 +9,7 @@ use Rattle.trace_codec.specs.Amounts.{Amounts, nothing}
 use Rattle.trace_codec.specs.declared.wish.Wish.{Wish}
 use Rattle.qblk_inputs.specs.declared.stop.InputFlaw.{InputFlaw}
 use Rattle.trace_codec.specs.Script.{Order}
-use Rattle.qblk_inputs.specs.Words.{Player, Cast, guests_of}
+use Rattle.qblk_words.specs.Words.{Player, Cast, guests_of}
 use Rattle.qblk_inputs.specs.Inputs.{IsScript, ReadsAsTrace, HasTraces, AreTraces, HasWork, IsRefusedScript, IsRefusedTrace, IsFirstRefused, IsRefusedInput, IsScriptFlaw, IsTraceFlaw, SpeaksOfTraces}
 use Rattle.qblk_inputs.specs.Reading.{OfFile, OfTraces, OfInputs, FailsOnTrace, OnFile, OnTraces, OnInputs}
 

@@ -10,7 +10,7 @@ use Rattle.trace_codec.specs.declared.stop.TraceStop.TheVariants as stops
 use Rattle.trace_codec.specs.Script.{Order, orders_of, count_of_lines}
 use Rattle.qblk_inputs.specs.declared.stop.InputFlaw.{InputFlaw}
 use Rattle.qblk_inputs.specs.declared.stop.InputFlaw.TheVariants.{Absent, NotUtf8, TooLong, BadLine, TooMany}
-use Rattle.qblk_inputs.specs.Words.{Player, Cast, guests_of}
+use Rattle.qblk_words.specs.Words.{Player, Cast, guests_of}
 
 -- what is to be done: by the script, and by each guest
 pub record Work : Type 0 where

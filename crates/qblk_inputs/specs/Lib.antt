@@ -1,4 +1,3 @@
-pub mod Words
 pub mod Inputs
 pub mod Reading
 pub mod Room

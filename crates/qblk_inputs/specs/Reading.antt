@@ -12,7 +12,7 @@ use Rattle.trace_codec.specs.Amounts.{Amounts, nothing}
 use Rattle.trace_codec.specs.Script.{Order}
 use Rattle.trace_codec.specs.declared.wish.Wish.{Wish}
 use Rattle.qblk_inputs.specs.Inputs.{IsScript, ReadsAsTrace, IsFirstRefused, IsRefusedInput, SpeaksOfTraces, SpeaksOfCast, most_text}
-use Rattle.qblk_inputs.specs.Words.{Player, Cast, guests_of}
+use Rattle.qblk_words.specs.Words.{Player, Cast, guests_of}
 use Rattle.qblk_inputs.specs.declared.stop.InputFlaw.{InputFlaw}
 use Rattle.qblk_inputs.specs.declared.stop.InputFlaw.TheVariants.{Absent, TooLong}
 use Rattle.qblk_inputs.specs.declared.stop.InputStop.{InputStop}

@@ -4,13 +4,13 @@ ghost use Rattle.blk_base.specs.Answers.{HasFile};
 ghost use Rattle.blk_base.specs.Files.{IfTold};
 ghost use Rattle.trace_codec.specs.Amounts.{nothing};
 ghost use Rattle.trace_codec.specs.Script.{seen_order};
-ghost use Rattle.qblk_inputs.specs.Words.{texts_in, player_of, player_names, guests_of, cast_of};
+ghost use Rattle.qblk_words.specs.Words.{texts_in, player_of, player_names, guests_of, cast_of};
 ghost use Rattle.qblk_inputs.specs.Inputs.{IsScript, ReadsAsTrace, HasTraces, AreTraces, IsRefusedScript, IsRefusedTrace, HasWork, IsWork, IsScriptFlaw, IsTraceFlaw, most_text};
 ghost use Rattle.qblk_inputs.specs.Reading.{NoneOut, IsReadOfFile, IsUnread, IsUnreadFlaw, IsInputRefusal, StopsFor, OfFile, OfTraces, OfInputs, StopsOn, OnFile, OnTraces, OnInputs};
 
 use crate::stop::{InputFlaw, InputStop};
-use crate::words::player_of;
 use blk_base::{Bytes, Names1, NoMemory, Store, StoreStop, Text};
+use qblk_words::player_of;
 use std::alloc::Global;
 use std::collections::VecDeque;
 use trace_codec::{

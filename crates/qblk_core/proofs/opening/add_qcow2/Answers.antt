@@ -1,7 +1,7 @@
 use Rattle.std.proofs.Common.{sym, subst}
 use Rattle.qblk_core.specs.Opened.{StopsImageNode}
 use Rattle.qblk_core.specs.declared.opening.OpenStop.{OpenStop}
-use Rattle.qblk_core.specs.declared.words.Format.TheVariants.{Qcow2}
+use Rattle.qblk_words.specs.declared.words.Format.TheVariants.{Qcow2}
 use Rattle.qblk_core.proofs.Openings.{is-file, unopened}
 use Rattle.qblk_core.proofs.opening.add_qcow2.Goals as goal
 

@@ -1,6 +1,6 @@
 use Rattle.std.proofs.Common.{◌≡◌, ◌++◌}
 use Rattle.std.specs.Prelude.{map, drop}
-use Rattle.qblk_inputs.specs.Words.{texts_in, player_of, player_names}
+use Rattle.qblk_words.specs.Words.{texts_in, player_of, player_names}
 use Rattle.qblk_inputs.proofs.inputs.guest_names.Given as goal
 
 -- the names so far, and those of the words that are left

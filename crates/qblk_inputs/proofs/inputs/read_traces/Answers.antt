@@ -2,11 +2,11 @@ use Rattle.std.proofs.Common.{◌≡◌, ◌+◌, ◌∷◌, ◌++◌, [], List,
 use Rattle.std.specs.Prelude.{map}
 use Rattle.std.proofs.lemmas.List.{map-append}
 use Rattle.trace_codec.specs.declared.wish.Wish.{Wish}
-use Rattle.qblk_inputs.specs.Words.{Player, texts_in, player_of}
+use Rattle.qblk_words.specs.Words.{Player, texts_in, player_of}
 use Rattle.qblk_inputs.specs.Inputs.{IsRefusedTrace, IsTraceFlaw}
 use Rattle.qblk_inputs.specs.Reading.{OfFile, OfTraces, OnFile, OnTraces}
 use Rattle.qblk_inputs.proofs.Stops.{stops_more, stops_on_more}
-use Rattle.qblk_inputs.proofs.PlayerWords.{players_from, players_none}
+use Rattle.qblk_words.proofs.PlayerWords.{players_from, players_none}
 use Rattle.qblk_inputs.proofs.TraceLists.{IsAhead, ahead-next, ahead-end, ahead-said, ahead-stops, ahead-fails}
 use Rattle.qblk_inputs.proofs.inputs.read_traces.Goals as goal
 

@@ -1,6 +1,6 @@
 use Rattle.std.proofs.Common.{◌≡◌, drop, vec_len}
 use Rattle.std.specs.Prelude.{map}
-use Rattle.qblk_inputs.specs.Words.{texts_in, player_of}
+use Rattle.qblk_words.specs.Words.{texts_in, player_of}
 use Rattle.qblk_inputs.proofs.TraceLists.{IsAhead}
 use Rattle.qblk_inputs.proofs.inputs.read_traces.Given as goal
 
