@@ -3,10 +3,6 @@
 #![tactic(auto)]
 
 #[cfg(test)]
-mod drains;
-#[cfg(test)]
-mod jobs;
-#[cfg(test)]
 mod texts;
 #[cfg(test)]
 mod transfers;

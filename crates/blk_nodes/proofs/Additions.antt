@@ -15,7 +15,7 @@ use Rattle.blk_graph.specs.Judged.{other_nodes, without_node}
 use Rattle.blk_graph.specs.Refreshed.{kind_at, no_kind, refreshed, IsRefreshed}
 use Rattle.blk_graph.specs.declared.kind.NodeKind.{NodeKind}
 use Rattle.blk_graph.specs.declared.edge.Parent.TheVariants.{Node}
-use Rattle.blk_graph.specs.declared.edge.Role.TheVariants.{File as FileRole, Backing}
+use Rattle.blk_graph.specs.declared.edge.Role.TheVariants.{File as FileRole, Backing, Filtered}
 use Rattle.blk_graph.proofs.ChildLemmas.{child-new, child-other, lone-removed}
 use Rattle.blk_graph.proofs.RefreshLemmas.{child_of-refreshed}
 use Rattle.blk_graph.proofs.StillLemmas.{refreshed-fixed}
@@ -24,10 +24,10 @@ use Rattle.blk_graph.specs.Ids.{IsLowestFree}
 use Rattle.blk_graph.specs.Rule.{first_conflict}
 use Rattle.blk_graph.specs.declared.edge.Conflict.{Conflict as Pair}
 use Rattle.blk_nodes.specs.Adding.{with_node_row, with_node_device, with_below, file_edge, Breaks}
-use Rattle.blk_nodes.specs.Nodes.{Nodes, DeviceSeen, is_device_of, row_at, device_in, size_by, node_size, file_of, backing_of, node_kind}
+use Rattle.blk_nodes.specs.Nodes.{Nodes, DeviceSeen, is_device_of, row_at, device_in, size_by, node_size, file_of, backing_of, filtered_of, node_kind}
 use Rattle.blk_nodes.specs.Joined.{IsFile, HasSize, IsPartOfFile, HasBelow, IsSized, IsJoined, DifferInNode}
 use Rattle.blk_nodes.specs.declared.row.Driver.{Driver}
-use Rattle.blk_nodes.specs.declared.row.Driver.TheVariants.{File, Raw, Qcow2, CopyOnRead}
+use Rattle.blk_nodes.specs.declared.row.Driver.TheVariants.{File, Raw, Qcow2, CopyOnRead, Filter}
 use Rattle.blk_nodes.specs.declared.row.Row.{Row}
 
 -- all that was there is there, with what it had below it
@@ -36,6 +36,7 @@ pub record Extends (old new : Nodes) : Type 0 where
   pub devices : (node : ℕ) → IsSome (device_in old.devices node) → device_in new.devices node ≡ device_in old.devices node
   pub files : (node : ℕ) (row : Row) → row_at old node ≡ Some row → file_of new node ≡ file_of old node
   pub backings : (node : ℕ) (row : Row) → row_at old node ≡ Some row → backing_of new node ≡ backing_of old node
+  pub filters : (node : ℕ) (row : Row) → row_at old node ≡ Some row → filtered_of new node ≡ filtered_of old node
 
 module _ (old new : Nodes) (e : Extends old new) where
   pub file_kept : (file : ℕ) → IsFile old file → IsFile new file
@@ -65,6 +66,7 @@ module _ (old new : Nodes) (e : Extends old new) where
       held_of : (file : ℕ) → IsFile old file → IsSome (device_in old.devices file)
       held_of file is = let has = joined.below file is.row is.there in rw is.driver at has
   below_kept node size row CopyOnRead joined there is = record { child = is.child; edge = e.files node row there ∙ is.edge; same = size_kept is.child size is.same }
+  below_kept node size row (Filter kind) joined there is = λ child edge. size_kept child size (is child (sym (e.filters node row there) ∙ edge))
 
 -- a device more at the end
 find_or : (node : ℕ) (a b : DeviceSeen) (devices : List DeviceSeen) (here : Bool)
@@ -230,6 +232,7 @@ module _ (nodes : Nodes) (id size : ℕ) (name : List ℕ) (is_read_only : Bool)
     devices = λ n some. device_kept nodes.devices device n some;
     files = λ n row there. refl;
     backings = λ n row there. refl;
+    filters = λ n row there. refl;
   }
 
   others : (k : ℕ) (d : DeviceSeen) → k < length nodes.devices → DifferInNode (get_or nodes.devices k d) device
@@ -329,6 +332,8 @@ module _ (nodes : Nodes) (id file : ℕ) (name : List ℕ) (row : Row) (joined :
         ∙ child-other (Node n) FileRole (file_edge id file) nodes.graph.edges lone.leaves (other_parent n r there);
     backings = λ n r there. child_of-refreshed kinds_after (Node n) Backing edges_after
         ∙ child-other (Node n) Backing (file_edge id file) nodes.graph.edges lone.leaves (other_parent n r there);
+    filters = λ n r there. child_of-refreshed kinds_after (Node n) Filtered edges_after
+        ∙ child-other (Node n) Filtered (file_edge id file) nodes.graph.edges lone.leaves (other_parent n r there);
   }
 
   pub file_below : file_of over_file id ≡ Some file
@@ -353,6 +358,7 @@ joined_edges nodes edges joined sound same =
       devices = λ node some. refl;
       files = λ node row there. same node FileRole;
       backings = λ node row there. same node Backing;
+      filters = λ node row there. same node Filtered;
     } in
     record {
       rows = joined.rows;

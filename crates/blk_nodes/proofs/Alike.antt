@@ -8,13 +8,13 @@ use Rattle.q2_image.specs.Image.{Known, IsOpen}
 use Rattle.q2_image.specs.Writing.{HasHeaderOf}
 use Rattle.blk_graph.specs.declared.kind.Kind.{Kind}
 use Rattle.blk_graph.specs.declared.kind.NodeKind.{NodeKind}
-use Rattle.blk_nodes.specs.Contents.{disk_under, disk_by, disk_down, disk_of, bytes_of, file_node_disk}
+use Rattle.blk_nodes.specs.Contents.{disk_under, disk_through, disk_by, disk_down, disk_of, bytes_of, file_node_disk}
 use Rattle.blk_nodes.specs.Joined.{IsFile, HasSize, HasBelow, IsJoined, IsSized}
-use Rattle.blk_nodes.specs.Nodes.{Nodes, DeviceSeen, row_at, device_in, size_by, node_size, file_of, backing_of, driver_kind, node_kind}
+use Rattle.blk_nodes.specs.Nodes.{Nodes, DeviceSeen, row_at, device_in, size_by, node_size, file_of, backing_of, filtered_of, driver_kind, node_kind}
 use Rattle.blk_nodes.specs.Walk.{IsKnownAt}
 use Rattle.blk_nodes.specs.Writing.{IsDriverAfter, IsRowAfter, AreRowsAfter}
 use Rattle.blk_nodes.specs.declared.row.Driver.{Driver}
-use Rattle.blk_nodes.specs.declared.row.Driver.TheVariants.{File, Raw, Qcow2, CopyOnRead}
+use Rattle.blk_nodes.specs.declared.row.Driver.TheVariants.{File, Raw, Qcow2, CopyOnRead, Filter}
 use Rattle.blk_nodes.specs.declared.row.Row.{Row}
 use Rattle.blk_nodes.proofs.Additions.{some_row}
 use Rattle.blk_nodes.proofs.Joints.{once_by_nodes}
@@ -27,6 +27,7 @@ driver_refl File = refl
 driver_refl (Raw part) = refl
 driver_refl (Qcow2 image) = (image, refl, refl, (λ n taken. taken), λ cluster mapped. mapped)
 driver_refl CopyOnRead = refl
+driver_refl (Filter kind) = refl
 
 pub row_refl : (found : Option Row) → AreRowsAfter found found
 row_refl None = refl
@@ -46,6 +47,7 @@ kind_by File e is = ap driver_kind is
 kind_by (Raw part) e is = ap driver_kind is
 kind_by (Qcow2 image) e is = ap driver_kind is.1
 kind_by CopyOnRead e is = ap driver_kind is
+kind_by (Filter kind) e is = ap driver_kind is
 
 kind_stays : (old now : Row) → IsRowAfter old now → node_kind now ≡ node_kind old
 kind_stays old now is =
@@ -58,6 +60,7 @@ sized_by File e size is has = subst (IsSized size) (sym is) has
 sized_by (Raw part) e size is has = subst (IsSized size) (sym is) has
 sized_by (Qcow2 image) e size is has = subst (IsSized size) (sym is.1) (size_stays image is.0 is.2 ∙ has)
 sized_by CopyOnRead e size is has = subst (IsSized size) (sym is) has
+sized_by (Filter kind) e size is has = subst (IsSized size) (sym is) has
 
 -- other rows and devices
 module _ (a : Nodes) (rows : List (Option Row)) (devices : List DeviceSeen)
@@ -124,6 +127,8 @@ module _ (a : Nodes) (rows : List (Option Row)) (devices : List DeviceSeen)
         })
     below_by n row CopyOnRead e there driver is has =
         subst (HasBelow b n row.size) (sym is) (record { child = has.child; edge = has.edge; same = size_after has.child row.size has.same })
+    below_by n row (Filter kind) e there driver is has =
+        subst (HasBelow b n row.size) (sym is) (λ child edge. size_after child row.size (has child edge))
 
     pub joined_alike : IsJoined b
     joined_alike = record {
@@ -155,6 +160,10 @@ module _ (a : Nodes) (rows : List (Option Row)) (alike : (n : ℕ) → AreRowsAf
   below_same f g each None = refl
   below_same f g each (Some next) = each next
 
+  through_same : (s : ℕ) (f g : ℕ → List ℕ) → ((n : ℕ) → f n ≡ g n) → (next : Option ℕ) → disk_through s f next ≡ disk_through s g next
+  through_same s f g each None = refl
+  through_same s f g each (Some next) = each next
+
   same_driver : (f g : ℕ → List ℕ) → ((n : ℕ) → f n ≡ g n) → (n : ℕ) (d e : Driver) → IsDriverAfter d e → disk_by mid f n e ≡ disk_by a g n d
   same_driver f g each n File e is = ap (disk_by mid f n) is ∙ file_same n
   same_driver f g each n (Raw part) e is =
@@ -162,6 +171,9 @@ module _ (a : Nodes) (rows : List (Option Row)) (alike : (n : ℕ) → AreRowsAf
   same_driver f g each n (Qcow2 image) e is =
       ap (disk_by mid f n) is.1 ∙ ap (image_disk (disk_under (bytes_of a) (file_of a n))) (below_same f g each (backing_of a n))
   same_driver f g each n CopyOnRead e is = ap (disk_by mid f n) is ∙ below_same f g each (file_of a n)
+  same_driver f g each n (Filter kind) e is =
+      ap (disk_by mid f n) is ∙ ap (λ (s : ℕ). disk_through s f (filtered_of a n)) (size_same a rows a.devices alike n)
+      ∙ through_same (node_size a n) f g each (filtered_of a n)
 
   abbrev disk_found : Nodes → (ℕ → List ℕ) → ℕ → Option Row → List ℕ
   disk_found nodes f n found = elim found as (λ _. List ℕ) [ None ↦ [] | Some row ↦ disk_by nodes f n row.driver ]

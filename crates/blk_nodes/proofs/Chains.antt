@@ -18,13 +18,13 @@ use Rattle.q2_image.specs.Guest.{file_entry, guest_bytes}
 use Rattle.q2_image.specs.Image.{Known, IsImageOf, IsOpen, cluster_size_in, entry_in}
 use Rattle.q2_image.proofs.Guests.{guest_host, guest_zero, guest_unallocated, get_or-guest_bytes, length-guest_bytes}
 use Rattle.q2_image.proofs.Mapped.{entry_of_file, below_words}
-use Rattle.blk_nodes.specs.Contents.{bytes_of, file_node_disk, disk_under, disk_by, disk_down, disk_of}
-use Rattle.blk_nodes.specs.Nodes.{Nodes, AreTold, row_at, size_by, node_size, file_of, backing_of}
-use Rattle.blk_nodes.specs.Joined.{IsPartOfFile, IsOverlay, IsCopying, IsJoined}
+use Rattle.blk_nodes.specs.Contents.{bytes_of, file_node_disk, disk_under, disk_through, disk_by, disk_down, disk_of}
+use Rattle.blk_nodes.specs.Nodes.{Nodes, AreTold, row_at, size_by, node_size, file_of, backing_of, filtered_of}
+use Rattle.blk_nodes.specs.Joined.{IsPartOfFile, IsOverlay, IsCopying, IsFiltering, IsJoined}
 use Rattle.blk_nodes.specs.Found.{found_bytes}
 use Rattle.blk_nodes.specs.Sources.{in_below, step_by_entry, step_by, step_of, source_in, source_at, byte_at}
 use Rattle.blk_nodes.specs.declared.row.Driver.{Driver}
-use Rattle.blk_nodes.specs.declared.row.Driver.TheVariants.{File, Raw, Qcow2, CopyOnRead}
+use Rattle.blk_nodes.specs.declared.row.Driver.TheVariants.{File, Raw, Qcow2, CopyOnRead, Filter}
 use Rattle.blk_nodes.specs.declared.row.Row.{Row}
 use Rattle.blk_nodes.specs.declared.source.Source.{Source}
 use Rattle.blk_nodes.specs.declared.source.Source.TheVariants as sources
@@ -105,7 +105,7 @@ module _ (turns : ℕ) (nodes : Nodes) (joined : IsJoined nodes) (all : AreTold 
 
   by_driver : (node : ℕ) (row : Row) (driver : Driver) → row_at nodes node ≡ Some row → row.driver ≡ driver → place + i < row.size
       → get_or (disk_by nodes (disk_down turns nodes) node driver) (place + i) 0
-      ≡ byte_at nodes (found_by (source_in turns nodes) place (step_by node (file_of nodes node) (backing_of nodes node) place driver)) place i
+      ≡ byte_at nodes (found_by (source_in turns nodes) place (step_by node (file_of nodes node) (backing_of nodes node) (filtered_of nodes node) place driver)) place i
   by_driver node row File there driver inside =
       let size : node_size nodes node ≡ row.size = ap size_by there in
       get_or-bytes_at (bytes_of nodes node) 0 (node_size nodes node) (place + i) (omega (arith, size, inside)) ∙ ap (λ (k : ℕ). get_or (bytes_of nodes node) k 0) (omega arith)
@@ -128,12 +128,27 @@ module _ (turns : ℕ) (nodes : Nodes) (joined : IsJoined nodes) (all : AreTold 
       over_below (file_of nodes node) (λ next edge.
       let same : next ≡ is.child = cc in
       rw same (rw has.there (omega (arith, has.is, inside))))
+  by_driver node row (Filter kind) there driver inside = through (filtered_of nodes node) refl
+    where
+      is : IsFiltering nodes node row.size
+      is = rw driver at (joined.below node row there)
+
+      size : node_size nodes node ≡ row.size
+      size = ap size_by there
+
+      through : (found : Option ℕ) → filtered_of nodes node ≡ found
+          → get_or (disk_through (node_size nodes node) (disk_down turns nodes) found) (place + i) 0 ≡ byte_at nodes (found_by (source_in turns nodes) place (in_below found)) place i
+      through None e = get_or-replicate (node_size nodes node) (place + i) 0 0 (omega (arith, size, inside))
+      through (Some next) e = over_below (Some next) (λ n same.
+          let here : next ≡ n = cc same in
+          let has = is n (e ∙ same) in
+          rw has.there (omega (arith, has.is, inside)))
 
   by_row : (node : ℕ) (found : Option Row) → row_at nodes node ≡ found → place + i < size_by found
       → get_or (elim found as (λ _. List ℕ) [ None ↦ [] | Some row ↦ disk_by nodes (disk_down turns nodes) node row.driver ]) (place + i) 0
       ≡ byte_at nodes (found_by (source_in turns nodes) place (elim found as (λ _. Step) [
         | None ↦ Found sources.Zeros
-        | Some row ↦ step_by node (file_of nodes node) (backing_of nodes node) place row.driver
+        | Some row ↦ step_by node (file_of nodes node) (backing_of nodes node) (filtered_of nodes node) place row.driver
       ])) place i
   by_row node None is inside = refl
   by_row node (Some row) is inside = by_driver node row row.driver is refl inside

@@ -1,20 +1,20 @@
 -- A base that gets bytes of its top leaves the top as it reads.
-use Rattle.std.proofs.Common.{◌≡◌, ◌≢◌, ℕ, zero, suc, Bool, true, List, [], length, Option, Some, None, refl, sym, ◌∙◌, ap, subst, inl, inr, arith}
+use Rattle.std.proofs.Common.{◌≡◌, ◌≢◌, ℕ, zero, suc, Bool, true, List, [], length, replicate, Option, Some, None, refl, sym, ◌∙◌, ap, subst, inl, inr, arith}
 use Rattle.std.specs.Prelude.{slice_index}
 use Rattle.std.proofs.lemmas.Bool.{cases_eq}
 use Rattle.blk_graph.specs.Edits.{child_of}
 use Rattle.blk_graph.specs.Graph.{Graph}
 use Rattle.blk_graph.specs.declared.edge.Parent.TheVariants.{Node}
 use Rattle.blk_graph.specs.declared.edge.Role.{Role}
-use Rattle.blk_graph.specs.declared.edge.Role.TheVariants.{File as FileRole, Backing}
+use Rattle.blk_graph.specs.declared.edge.Role.TheVariants.{File as FileRole, Backing, Filtered}
 use Rattle.blk_graph.proofs.ChildLemmas.{HasEdge, child-edge}
 use Rattle.q2_format.specs.Contents.{file_disk, raw_disk, image_disk}
-use Rattle.blk_nodes.specs.Contents.{disk_under, disk_by, disk_down, disk_of, bytes_of, file_node_disk}
+use Rattle.blk_nodes.specs.Contents.{disk_under, disk_through, disk_by, disk_down, disk_of, bytes_of, file_node_disk}
 use Rattle.blk_nodes.specs.Joined.{IsJoined}
-use Rattle.blk_nodes.specs.Nodes.{Nodes, row_at, node_size, file_of, backing_of}
+use Rattle.blk_nodes.specs.Nodes.{Nodes, row_at, node_size, file_of, backing_of, filtered_of}
 use Rattle.blk_nodes.specs.Writing.{own_file}
 use Rattle.blk_nodes.specs.declared.row.Driver.{Driver}
-use Rattle.blk_nodes.specs.declared.row.Driver.TheVariants.{File, Raw, Qcow2, CopyOnRead}
+use Rattle.blk_nodes.specs.declared.row.Driver.TheVariants.{File, Raw, Qcow2, CopyOnRead, Filter}
 use Rattle.blk_nodes.specs.declared.row.Row.{Row}
 use Rattle.blk_nodes.proofs.Unfolding.{StartsAt, no_path, unfolds}
 use Rattle.blk_nodes.specs.Through.{IsOrAsTop, LeavesAllBut}
@@ -38,6 +38,11 @@ module _ (old new : Nodes) (top base file : ℕ) (Q : ℕ → Type 0) (joined : 
       → IsOrAsTop T (disk_under (disk_of old) found) (disk_under (disk_of new) found)
   under n role rest None is each = same_is T [] [] refl
   under n role rest (Some child) is each = rest child (child-edge (Node n) role old.graph.edges child is) (each child refl)
+
+  through : (n : ℕ) → Rest n → (found : Option ℕ) → child_of (Node n) Filtered old.graph.edges ≡ found → ((c : ℕ) → found ≡ Some c → Q c)
+      → IsOrAsTop T (disk_through (node_size old n) (disk_of old) found) (disk_through (node_size old n) (disk_of new) found)
+  through n rest None is each = same_is T (replicate (node_size old n) 0) (replicate (node_size old n) 0) refl
+  through n rest (Some child) is each = under n Filtered rest (Some child) is each
 
   bytes_below : (found : Option ℕ) → ((f : ℕ) → found ≡ Some f → f ≢ file) → disk_under (bytes_of new) found ≡ disk_under (bytes_of old) found
   bytes_below None each = refl
@@ -70,6 +75,10 @@ module _ (old new : Nodes) (top base file : ℕ) (Q : ℕ → Type 0) (joined : 
   by_driver n row q other there rest CopyOnRead is =
       subst (λ (b : List ℕ). IsOrAsTop T (disk_by old (disk_of old) n CopyOnRead) b) (sym (ap (disk_under (disk_of new)) (child_same n FileRole)))
       (under n FileRole rest (file_of old n) refl (λ c at. left.filtered n c row q there is at))
+  by_driver n row q other there rest (Filter kind) is =
+      subst (λ (b : List ℕ). IsOrAsTop T (disk_by old (disk_of old) n (Filter kind)) b)
+      (sym (ap (disk_through (node_size new n) (disk_of new)) (child_same n Filtered) ∙ ap (λ (s : ℕ). disk_through s (disk_of new) (filtered_of old n)) (left.sizes n)))
+      (through n rest (filtered_of old n) refl (λ c at. left.passed n c q at))
 
   disk_none : (nodes : Nodes) (n : ℕ) → row_at nodes n ≡ None → disk_of nodes n ≡ []
   unfolding disk_of

@@ -13,7 +13,7 @@ use Rattle.blk_graph.specs.Paths.{Reaches}
 use Rattle.blk_graph.specs.declared.edge.Edge.{Edge}
 use Rattle.blk_graph.specs.declared.edge.Parent.TheVariants.{Node}
 use Rattle.blk_graph.specs.declared.edge.Role.{Role}
-use Rattle.blk_graph.specs.declared.edge.Role.TheVariants.{File as FileRole, Backing}
+use Rattle.blk_graph.specs.declared.edge.Role.TheVariants.{File as FileRole, Backing, Filtered}
 use Rattle.blk_graph.proofs.ChildLemmas.{child-edge}
 use Rattle.blk_graph.proofs.Members.{Contains-nil, Contains-cases, find-Some}
 use Rattle.blk_graph.proofs.PathLemmas.{Reaches-edge, Reaches-joined}
@@ -32,16 +32,17 @@ use Rattle.q2_image.specs.Writing.{PutFits}
 use Rattle.q2_image.proofs.Guests.{guest_unallocated}
 use Rattle.q2_image.proofs.Mapped.{entry_of_file}
 use Rattle.blk_nodes.specs.Changing.{IsImageWritten, ChangesAround, ChangesPart, ChangesRow, LeavesRow}
-use Rattle.blk_nodes.specs.Contents.{IsToldDisk, disk_under, disk_by, disk_of, bytes_by, bytes_of}
+use Rattle.blk_nodes.specs.Contents.{IsToldDisk, disk_under, disk_through, disk_by, disk_of, bytes_by, bytes_of}
 use Rattle.blk_nodes.specs.Copying.{AtEach, HasRoomIn, GoesWhole, IsMappedAt, IsRoomInEach, LeavesRest, is_unallocated, is_copy_on_read, shows_below_at, puts_below, images_met_in}
-use Rattle.blk_nodes.specs.Joined.{IsOverlay, IsCopying, IsJoined, DifferInNode}
-use Rattle.blk_nodes.specs.Nodes.{Nodes, DeviceSeen, AreTold, is_device_of, row_at, device_in, size_by, node_size, file_of, backing_of}
+use Rattle.blk_nodes.specs.Joined.{IsOverlay, IsCopying, IsFiltering, IsJoined, DifferInNode}
+use Rattle.blk_nodes.specs.Nodes.{Nodes, DeviceSeen, AreTold, is_device_of, row_at, device_in, size_by, node_size, file_of, backing_of, filtered_of}
 use Rattle.blk_nodes.specs.Parts.{OfImage}
 use Rattle.blk_nodes.specs.Reading.{LeadsTo}
 use Rattle.blk_nodes.specs.Sources.{in_file, in_image, in_below, step_by_entry, step_by, step_of}
 use Rattle.blk_nodes.specs.Writing.{IsTornAt, HasPieceCause, WritesImage, WritesBy, WritesPiece, IsDriverAfter, AreRowsAfter, LeavesNodes, HasImageIn, OwnsFile, CanBeWritten, MayWriteThrough, FitsAt, HasRoomAt, own_file, own_place_by, rest_span}
 use Rattle.blk_nodes.specs.declared.row.Driver.{Driver}
-use Rattle.blk_nodes.specs.declared.row.Driver.TheVariants.{File, Raw, Qcow2, CopyOnRead}
+use Rattle.blk_nodes.specs.declared.row.Driver.TheVariants.{File, Raw, Qcow2, CopyOnRead, Filter}
+use Rattle.blk_nodes.specs.declared.row.FilterKind.{FilterKind}
 use Rattle.blk_nodes.specs.declared.row.Row.{Row}
 use Rattle.blk_nodes.specs.declared.source.Source.{Source}
 use Rattle.blk_nodes.specs.declared.source.Source.TheVariants as sources
@@ -85,22 +86,28 @@ by_entry node file over (entries.Host host) next is = absurd (in_image_not node 
 by_entry node file over entries.Compressed next is = absurd (cc is)
 by_entry node file over entries.Reserved next is = absurd (cc is)
 
--- what is over the node below: copy-on-read, or an image that has nothing there
+-- a filter is over the node below: copy-on-read, or one of a job
+abbrev pub Filters : Nodes → ℕ → Driver → ℕ → Type 0
+Filters nodes node driver next = ((driver ≡ CopyOnRead) × (file_of nodes node ≡ Some next))
+    ⊎ ((kind : FilterKind) × (driver ≡ Filter kind) × (filtered_of nodes node ≡ Some next))
+
+-- what is over the node below: a filter, or an image that has nothing there
 pub record IsOver (nodes : Nodes) (node place next : ℕ) : Type 0 where
   pub row : Row
   pub there : row_at nodes node ≡ Some row
-  pub how : ((row.driver ≡ CopyOnRead) × (file_of nodes node ≡ Some next))
+  pub how : Filters nodes node row.driver next
       ⊎ ((image : Known) × (row.driver ≡ Qcow2 image) × (entry_in image (place / cluster_size_in image) ≡ entries.Unallocated) × (backing_of nodes node ≡ Some next))
 
 module _ (nodes : Nodes) (node place next : ℕ) where
   by_driver : (row : Row) (driver : Driver) → row_at nodes node ≡ Some row → row.driver ≡ driver
-      → step_by node (file_of nodes node) (backing_of nodes node) place driver ≡ Below next → IsOver nodes node place next
+      → step_by node (file_of nodes node) (backing_of nodes node) (filtered_of nodes node) place driver ≡ Below next → IsOver nodes node place next
   by_driver row File there driver is = absurd (cc is)
   by_driver row (Raw part) there driver is = absurd (in_file_not (file_of nodes node) (part.offset + place) next is)
   by_driver row (Qcow2 image) there driver is =
       let e = by_entry node (file_of nodes node) (backing_of nodes node) (entry_in image (place / cluster_size_in image)) next is in
       record { row = row; there = there; how = inr (image, driver, e.0, e.1) }
-  by_driver row CopyOnRead there driver is = record { row = row; there = there; how = inl (driver, in_below_is (file_of nodes node) next is) }
+  by_driver row CopyOnRead there driver is = record { row = row; there = there; how = inl (inl (driver, in_below_is (file_of nodes node) next is)) }
+  by_driver row (Filter kind) there driver is = record { row = row; there = there; how = inl (inr (kind, driver, in_below_is (filtered_of nodes node) next is)) }
 
   pub over_below : step_of nodes node place ≡ Below next → IsOver nodes node place next
   over_below is = by_row (row_at nodes node) refl is
@@ -108,7 +115,7 @@ module _ (nodes : Nodes) (node place next : ℕ) where
       by_row : (found : Option Row) → row_at nodes node ≡ found
           → elim found as (λ _. Step) [
             | None ↦ Found sources.Zeros
-            | Some row ↦ step_by node (file_of nodes node) (backing_of nodes node) place row.driver
+            | Some row ↦ step_by node (file_of nodes node) (backing_of nodes node) (filtered_of nodes node) place row.driver
           ] ≡ Below next → IsOver nodes node place next
       by_row None there is = absurd (cc is)
       by_row (Some row) there is = by_driver row row.driver there refl is
@@ -117,10 +124,14 @@ child_reaches : (edges : List Edge) (node child : ℕ) (role : Role) → child_o
 child_reaches edges node child role is =
     let e = child-edge (Node node) role edges child is in subst (Reaches edges node) e.to (Reaches-edge edges node e.edge e.there e.from)
 
+filter_reaches : (nodes : Nodes) (node next : ℕ) (driver : Driver) → Filters nodes node driver next → Reaches nodes.graph.edges node next
+filter_reaches nodes node next driver (inl copies) = child_reaches nodes.graph.edges node next FileRole copies.1
+filter_reaches nodes node next driver (inr passes) = child_reaches nodes.graph.edges node next Filtered passes.2
+
 module _ (nodes : Nodes) (joined : IsJoined nodes) (node place next : ℕ) (over : IsOver nodes node place next) where
   pub below_reached : Reaches nodes.graph.edges node next
   below_reached = elim over.how [
-    | inl filter ↦ child_reaches nodes.graph.edges node next FileRole filter.1
+    | inl filter ↦ filter_reaches nodes node next over.row.driver filter
     | inr image ↦ child_reaches nodes.graph.edges node next Backing image.3
   ]
 
@@ -129,11 +140,17 @@ module _ (nodes : Nodes) (joined : IsJoined nodes) (node place next : ℕ) (over
 
   pub below_size : node_size nodes next ≡ node_size nodes node
   below_size = elim over.how [
-    | inl filter ↦
-        let is : IsCopying nodes node over.row.size = rw filter.0 at (joined.below node over.row over.there) in
-        let child : is.child ≡ next = cc (sym is.edge ∙ filter.1) in
-        let has = is.same in
-        ap (node_size nodes) (sym child) ∙ ap size_by has.there ∙ has.is ∙ sym (ap size_by over.there)
+    | inl filter ↦ elim filter [
+      | inl copies ↦
+          let is : IsCopying nodes node over.row.size = rw copies.0 at (joined.below node over.row over.there) in
+          let child : is.child ≡ next = cc (sym is.edge ∙ copies.1) in
+          let has = is.same in
+          ap (node_size nodes) (sym child) ∙ ap size_by has.there ∙ has.is ∙ sym (ap size_by over.there)
+      | inr passes ↦
+          let is : IsFiltering nodes node over.row.size = rw passes.1 at (joined.below node over.row over.there) in
+          let has = is next passes.2 in
+          ap size_by has.there ∙ has.is ∙ sym (ap size_by over.there)
+    ]
     | inr image ↦
         let is : IsOverlay nodes node image.0 = overlay image.0 image.1 in
         let has = is.backing next image.3 in
@@ -147,7 +164,10 @@ module _ (nodes : Nodes) (joined : IsJoined nodes) (node place next : ℕ) (over
 
     point : (i : ℕ) → i < n → get_or (disk_of nodes node) (start + i) 0 ≡ get_or (disk_of nodes next) (start + i) 0
     point i less = elim over.how [
-      | inl filter ↦ ap (λ (d : List ℕ). get_or d (start + i) 0) (disk_unfolds CopyOnRead filter.0 ∙ ap (disk_under (disk_of nodes)) filter.1)
+      | inl filter ↦ ap (λ (d : List ℕ). get_or d (start + i) 0) (elim filter [
+        | inl copies ↦ disk_unfolds CopyOnRead copies.0 ∙ ap (disk_under (disk_of nodes)) copies.1
+        | inr passes ↦ disk_unfolds (Filter passes.0) passes.1 ∙ ap (disk_through (node_size nodes node) (disk_of nodes)) passes.2
+      ])
       | inr image ↦
           let is : IsOverlay nodes node image.0 = overlay image.0 image.1 in
           let held = told_held is.file nodes.devices told (held_by nodes is.file joined is.is_file) in
@@ -218,7 +238,7 @@ module _ (nodes : Nodes) (place : ℕ) where
         where
           first : Reaches nodes.graph.edges node next
           first = elim (over_below nodes node place next is).how [
-            | inl filter ↦ child_reaches nodes.graph.edges node next FileRole filter.1
+            | inl filter ↦ filter_reaches nodes node next (over_below nodes node place next is).row.driver filter
             | inr image ↦ child_reaches nodes.graph.edges node next Backing image.3
           ]
 
@@ -263,6 +283,7 @@ put_into nodes above node place puts = by_rows (row_at nodes above) (row_at node
     by_child row (Qcow2 image) there driver is =
         record { row = row; image = image; there = there; driver = driver; bare = none_there (entry_in image (place / cluster_size_in image)) is }
     by_child row CopyOnRead there driver is = absurd (cc is)
+    by_child row (Filter kind) there driver is = absurd (cc is)
 
     by_rows : (over child : Option Row) → row_at nodes node ≡ child → puts_below over child place ≡ true → IsPutInto nodes node place
     by_rows None child there is = absurd (cc is)
@@ -521,6 +542,7 @@ module _ (old mid : Nodes) (images : List ℕ) (outcome : Outcome) (rest : Leave
       own_same (Raw part) = mid_child n FileRole
       own_same (Qcow2 image) = mid_child n FileRole
       own_same CopyOnRead = refl
+      own_same (Filter kind) = refl
 
       can : (d : Driver) → CanBeWritten old n d → CanBeWritten mid n d
       can File is = tt
@@ -528,6 +550,7 @@ module _ (old mid : Nodes) (images : List ℕ) (outcome : Outcome) (rest : Leave
       can (Qcow2 image) is = λ over file backing edge leads.
           is over file (sym (mid_child n Backing) ∙ backing) (sym (mid_child n FileRole) ∙ edge) (subst (λ (g : Graph). LeadsTo g.edges over file) rest.graph leads)
       can CopyOnRead is = is
+      can (Filter kind) is = is
 
   module _ (place : ℕ) (apart_of : ℕ) (apart : AtEach (λ m. apart_of ≢ m) images) (may : AtEach (MayWriteThrough old) images) (into : AtEach (λ m. IsPutInto old m place) images) where
     owned : (f m : ℕ) → HasImageIn old apart_of f → apart_of ≢ m → MayWriteThrough old m → IsPutInto old m place → file_of old m ≡ Some f → ⊥

@@ -11,17 +11,17 @@ use Rattle.blk_graph.specs.Graph.{Graph}
 use Rattle.blk_graph.specs.declared.edge.Edge.{Edge}
 use Rattle.blk_graph.specs.declared.edge.Parent.TheVariants.{Node}
 use Rattle.blk_graph.specs.declared.edge.Role.{Role}
-use Rattle.blk_graph.specs.declared.edge.Role.TheVariants.{File as FileRole, Backing}
+use Rattle.blk_graph.specs.declared.edge.Role.TheVariants.{File as FileRole, Backing, Filtered}
 use Rattle.blk_graph.proofs.ChildLemmas.{HasEdge, child-edge, child-without}
 use Rattle.q2_format.specs.Contents.{file_disk, raw_disk, image_disk}
-use Rattle.blk_nodes.specs.Contents.{disk_under, disk_by, disk_down, disk_of, bytes_of, file_node_disk}
+use Rattle.blk_nodes.specs.Contents.{disk_under, disk_through, disk_by, disk_down, disk_of, bytes_of, file_node_disk}
 use Rattle.blk_nodes.specs.Copying.{AtEach, GoesWhole, LeavesRest}
 use Rattle.blk_nodes.specs.Joined.{IsOverlay, IsJoined}
-use Rattle.blk_nodes.specs.Nodes.{Nodes, row_at, node_size, file_of, backing_of}
+use Rattle.blk_nodes.specs.Nodes.{Nodes, row_at, node_size, file_of, backing_of, filtered_of}
 use Rattle.blk_nodes.specs.Reading.{LeadsTo}
 use Rattle.blk_nodes.specs.Writing.{HasImageIn, MayWriteThrough, taken_by}
 use Rattle.blk_nodes.specs.declared.row.Driver.{Driver}
-use Rattle.blk_nodes.specs.declared.row.Driver.TheVariants.{File, Raw, Qcow2, CopyOnRead}
+use Rattle.blk_nodes.specs.declared.row.Driver.TheVariants.{File, Raw, Qcow2, CopyOnRead, Filter}
 use Rattle.blk_nodes.specs.declared.row.Row.{Row}
 use Rattle.blk_nodes.proofs.Copied.{IsOver, IsPutInto, mid_child, files_apart}
 use Rattle.blk_nodes.proofs.Leading.{leads_on, child_leads}
@@ -97,6 +97,11 @@ module _ (old new : Nodes) (joined : IsJoined old) (now : IsJoined new) (node : 
   over_same n role other apart rest None is = refl
   over_same n role other apart rest (Some child) is = rest child (child-edge (Node n) role old.graph.edges child is) (child_apart n child role other apart is)
 
+  through_same : (n : ℕ) → n ≢ node → Apart n → Rest n → (found : Option ℕ) → child_of (Node n) Filtered old.graph.edges ≡ found
+      → disk_through (node_size old n) (disk_of new) found ≡ disk_through (node_size old n) (disk_of old) found
+  through_same n other apart rest None is = refl
+  through_same n other apart rest (Some child) is = over_same n Filtered other apart rest (Some child) is
+
   by_driver : (n : ℕ) → n ≢ node → Apart n → Rest n → (d : Driver) → disk_by new (disk_of new) n d ≡ disk_by old (disk_of old) n d
   by_driver n other apart rest File =
       ap (λ (s : ℕ). file_disk s (bytes_of new n)) (one.sizes n) ∙ ap (file_disk (node_size old n)) (bytes_same n (λ same. apart (inl same)))
@@ -110,6 +115,10 @@ module _ (old new : Nodes) (joined : IsJoined old) (now : IsJoined new) (node : 
       ∙ ap (image_disk (disk_under (bytes_of old) (file_of old n))) (over_same n Backing other apart rest (backing_of old n) refl)
   by_driver n other apart rest CopyOnRead =
       ap (disk_under (disk_of new)) (child_same n FileRole) ∙ over_same n FileRole other apart rest (file_of old n) refl
+  by_driver n other apart rest (Filter kind) =
+      ap (disk_through (node_size new n) (disk_of new)) (child_same n Filtered)
+      ∙ ap (λ (s : ℕ). disk_through s (disk_of new) (filtered_of old n)) (one.sizes n)
+      ∙ through_same n other apart rest (filtered_of old n) refl
 
   by_row : (n : ℕ) → n ≢ node → Apart n → Rest n → (found : Option Row) → row_at old n ≡ found → disk_of new n ≡ disk_of old n
   by_row n other apart rest None there = disk_none new n (one.rows n (other, tt) ∙ there) ∙ sym (disk_none old n there)
@@ -142,9 +151,14 @@ module _ (old new : Nodes) (joined : IsJoined old) (now : IsJoined new) (images 
 
   pub chain_stays : disk_of new node ≡ disk_of old node
   chain_stays = elim over.how [
-    | inl filter ↦
-        new_is CopyOnRead filter.0 ∙ ap (disk_under (disk_of new)) (child_now FileRole ∙ filter.1) ∙ same ∙ ap (disk_under (disk_of old)) (sym filter.1)
-        ∙ sym (old_is CopyOnRead filter.0)
+    | inl filter ↦ elim filter [
+      | inl copies ↦
+          new_is CopyOnRead copies.0 ∙ ap (disk_under (disk_of new)) (child_now FileRole ∙ copies.1) ∙ same ∙ ap (disk_under (disk_of old)) (sym copies.1)
+          ∙ sym (old_is CopyOnRead copies.0)
+      | inr passes ↦
+          new_is (Filter passes.0) passes.1 ∙ ap (disk_through (node_size new node) (disk_of new)) (child_now Filtered ∙ passes.2) ∙ same
+          ∙ ap (disk_through (node_size old node) (disk_of old)) (sym passes.2) ∙ sym (old_is (Filter passes.0) passes.1)
+    ]
     | inr image ↦
         let is : IsOverlay old node image.0 = rw image.1 at (joined.below node over.row over.there) in
         let has : HasImageIn old node is.file = record { row = over.row; image = image.0; there = over.there; driver = image.1; edge = is.edge } in

@@ -12,7 +12,7 @@ use Rattle.blk_graph.specs.Refreshed.{kind_at, refreshed}
 use Rattle.blk_graph.specs.declared.edge.Edge.{Edge}
 use Rattle.blk_graph.specs.declared.edge.Parent.TheVariants.{Node}
 use Rattle.blk_graph.specs.declared.edge.Role.{Role}
-use Rattle.blk_graph.specs.declared.edge.Role.TheVariants.{File as FileRole, Backing as BackingRole}
+use Rattle.blk_graph.specs.declared.edge.Role.TheVariants.{File as FileRole, Backing as BackingRole, Filtered}
 use Rattle.blk_graph.specs.declared.kind.NodeKind.{NodeKind}
 use Rattle.blk_graph.proofs.ChildLemmas.{child-kept}
 use Rattle.blk_graph.proofs.DraftLemmas.{children_put, child_put, children_replaced}
@@ -20,9 +20,9 @@ use Rattle.blk_graph.proofs.RefreshLemmas.{child_of-refreshed}
 use Rattle.q2_image.specs.Image.{Known}
 use Rattle.blk_nodes.specs.Covering.{IsCover}
 use Rattle.blk_nodes.specs.Joined.{IsFile, HasSize, HasBelow, IsJoined}
-use Rattle.blk_nodes.specs.Nodes.{Nodes, row_at, file_of, backing_of, driver_kind}
+use Rattle.blk_nodes.specs.Nodes.{Nodes, row_at, file_of, backing_of, filtered_of, driver_kind}
 use Rattle.blk_nodes.specs.declared.row.Driver.{Driver}
-use Rattle.blk_nodes.specs.declared.row.Driver.TheVariants.{File, Raw, Qcow2, CopyOnRead}
+use Rattle.blk_nodes.specs.declared.row.Driver.TheVariants.{File, Raw, Qcow2, CopyOnRead, Filter}
 use Rattle.blk_nodes.specs.declared.row.Row.{Row}
 
 -- the edges of other nodes to one of them lead to the overlay
@@ -141,6 +141,17 @@ module _ (nodes : Nodes) (edges : List Edge) (node overlay : ℕ) (joined : IsJo
           let to : child_moved node overlay b ≡ next = cc (ap (option_map (child_moved node overlay)) (sym is) ∙ now) in
           subst (λ (m : ℕ). HasSize over m size) to (moved_size b size (before b is))
 
+  -- and so is the child of a filter
+  filter_size : (n next size : ℕ) → ((c : ℕ) → filtered_of nodes n ≡ Some c → HasSize nodes c size)
+      → option_map (child_moved node overlay) (filtered_of nodes n) ≡ Some next → HasSize over next size
+  filter_size n next size before now = by_old (filtered_of nodes n) refl
+    where
+      by_old : (found : Option ℕ) → filtered_of nodes n ≡ found → HasSize over next size
+      by_old None is = let bad = ap (option_map (child_moved node overlay)) (sym is) ∙ now in absurd (cc bad)
+      by_old (Some c) is =
+          let to : child_moved node overlay c ≡ next = cc (ap (option_map (child_moved node overlay)) (sym is) ∙ now) in
+          subst (λ (m : ℕ). HasSize over m size) to (moved_size c size (before c is))
+
   below_over : (n : ℕ) (row : Row) (driver : Driver) → row_at nodes n ≡ Some row → row.driver ≡ driver → HasBelow nodes n row.size driver
       → HasBelow over n row.size driver
   below_over n row File there driver is = is
@@ -173,6 +184,13 @@ module _ (nodes : Nodes) (edges : List Edge) (node overlay : ℕ) (joined : IsJo
       edge = moved.others n FileRole apart ∙ ap (option_map (child_moved node overlay)) is.edge;
       same = moved_size is.child row.size is.same;
     }
+  ]
+  below_over n row (Filter kind) there driver is = λ next edge. elim (cases_eq n overlay) [
+    | inl same ↦
+        let rows : row ≡ cover.row = cc (sym there ∙ ap (row_at nodes) same ∙ cover.there) in
+        let bad : Filter kind ≡ Qcow2 cover.image = sym driver ∙ ap (λ (r : Row). r.driver) rows ∙ cover.driver in
+        absurd (cc bad)
+    | inr apart ↦ filter_size n next row.size is (sym (moved.others n Filtered apart) ∙ edge)
   ]
 
   pub joined_over : IsSoundGraph over.graph → IsJoined over

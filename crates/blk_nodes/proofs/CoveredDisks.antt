@@ -3,7 +3,7 @@ use Rattle.std.proofs.Common.{◌≡◌, ◌≢◌, ℕ, zero, suc, ◌/◌, ◌
 use Rattle.std.specs.Prelude.{◌==◌, OnOk}
 use Rattle.std.specs.Option.{option_map}
 use Rattle.std.proofs.lemmas.Bool.{eq-eqb, ne_eqb, cases_eq}
-use Rattle.std.proofs.lemmas.List.{ext_get_or}
+use Rattle.std.proofs.lemmas.List.{ext_get_or, length-replicate}
 use Rattle.blk_graph.specs.Edits.{child_of, with_over, child_moved}
 use Rattle.blk_graph.specs.Graph.{Graph}
 use Rattle.blk_graph.specs.Judged.{with_edges}
@@ -11,7 +11,7 @@ use Rattle.blk_graph.specs.Refreshed.{refreshed}
 use Rattle.blk_graph.specs.declared.edge.Edge.{Edge}
 use Rattle.blk_graph.specs.declared.edge.Parent.TheVariants.{Node}
 use Rattle.blk_graph.specs.declared.edge.Role.{Role}
-use Rattle.blk_graph.specs.declared.edge.Role.TheVariants.{File as FileRole, Backing as BackingRole}
+use Rattle.blk_graph.specs.declared.edge.Role.TheVariants.{File as FileRole, Backing as BackingRole, Filtered}
 use Rattle.blk_graph.specs.declared.stop.GraphStop.{GraphStop}
 use Rattle.blk_graph.proofs.ChildLemmas.{HasEdge, child-edge}
 use Rattle.q2_format.specs.Contents.{raw_disk, image_disk}
@@ -22,12 +22,12 @@ use Rattle.q2_format.proofs.ByPlace.{length-bytes_at}
 use Rattle.q2_image.specs.Image.{Known, IsImageOf, clusters_in, entry_in}
 use Rattle.q2_image.proofs.Guests.{guest_unallocated, length-image_disk}
 use Rattle.q2_image.proofs.Mapped.{entry_of_file}
-use Rattle.blk_nodes.specs.Contents.{bytes_of, file_node_disk, disk_under, disk_by, disk_down, disk_of}
+use Rattle.blk_nodes.specs.Contents.{bytes_of, file_node_disk, disk_under, disk_through, disk_by, disk_down, disk_of}
 use Rattle.blk_nodes.specs.Covering.{IsClear, IsCover, ReadCovered}
 use Rattle.blk_nodes.specs.Joined.{IsOverlay, HasBelow, IsJoined}
-use Rattle.blk_nodes.specs.Nodes.{Nodes, AreTold, row_at, node_size, file_of, backing_of}
+use Rattle.blk_nodes.specs.Nodes.{Nodes, AreTold, row_at, size_by, node_size, file_of, backing_of, filtered_of}
 use Rattle.blk_nodes.specs.declared.row.Driver.{Driver}
-use Rattle.blk_nodes.specs.declared.row.Driver.TheVariants.{File, Raw, Qcow2, CopyOnRead}
+use Rattle.blk_nodes.specs.declared.row.Driver.TheVariants.{File, Raw, Qcow2, CopyOnRead, Filter}
 use Rattle.blk_nodes.specs.declared.row.Row.{Row}
 use Rattle.blk_nodes.proofs.Chains.{has_entry, get_or-image_disk}
 use Rattle.blk_nodes.proofs.Covered.{AreMoved, over, moved-other, moved-node, format_file, moved_edges}
@@ -70,6 +70,14 @@ module _ (nodes : Nodes) (joined : IsJoined nodes) (told : AreTold nodes.devices
       let edge = child-edge (Node n) FileRole nodes.graph.edges is.child is.edge in
       ap (λ (c : Option ℕ). length (disk_under (disk_down turns nodes) c)) is.edge
       ∙ rest is.child same.row same.there (λ starts. none (edge.edge, edge.there, edge.from, rw edge.to starts)) ∙ same.is
+  length_by turns rest n row (Filter kind) there driver is none = through (filtered_of nodes n) refl
+    where
+      through : (found : Option ℕ) → filtered_of nodes n ≡ found → length (disk_through (node_size nodes n) (disk_down turns nodes) found) ≡ row.size
+      through None e = length-replicate (node_size nodes n) 0 ∙ ap size_by there
+      through (Some child) e =
+          let same = is child e in
+          let edge = child-edge (Node n) Filtered nodes.graph.edges child e in
+          rest child same.row same.there (λ starts. none (edge.edge, edge.there, edge.from, rw edge.to starts)) ∙ same.is
 
   length_in : (turns n : ℕ) (row : Row) → row_at nodes n ≡ Some row → (StartsAt nodes.graph.edges turns n → ⊥)
       → length (disk_down turns nodes n) ≡ row.size
@@ -176,6 +184,22 @@ module _ (nodes : Nodes) (edges : List Edge) (node overlay : ℕ) (joined : IsJo
       ap (λ (file : Option ℕ). image_disk (disk_under (bytes_of nodes) file) (disk_under (disk_down turns then') (backing_of then' n))) (same ∙ sym is.edge)
       ∙ ap (image_disk (disk_under (bytes_of nodes) (file_of nodes n))) (below_covered turns n BackingRole apart rest none)
   other_covered turns n row CopyOnRead there driver is apart rest none = below_covered turns n FileRole apart rest none
+  other_covered turns n row (Filter kind) there driver is apart rest none = through (filtered_of nodes n) refl
+    where
+      size : ℕ
+      size = node_size nodes n
+
+      through : (found : Option ℕ) → filtered_of nodes n ≡ found
+          → disk_through size (disk_down turns then') (filtered_of then' n) ≡ disk_through size (disk_of nodes) (filtered_of nodes n)
+      through None e =
+          ap (disk_through size (disk_down turns then')) (moved.others n Filtered apart ∙ ap (option_map (child_moved node overlay)) e)
+          ∙ ap (disk_through size (disk_of nodes)) (sym e)
+      through (Some c) e =
+          let new : filtered_of then' n ≡ Some (child_moved node overlay c)
+          = moved.others n Filtered apart ∙ ap (option_map (child_moved node overlay)) e in
+          ap (disk_through size (disk_down turns then')) new
+          ∙ ap (disk_under (disk_down turns then')) (sym new) ∙ below_covered turns n Filtered apart rest none
+          ∙ ap (disk_under (disk_of nodes)) e ∙ ap (disk_through size (disk_of nodes)) (sym e)
 
   own_covered : (turns : ℕ) → Rest turns → (StartsAt edges (suc turns) overlay → ⊥)
       → disk_by then' (disk_down turns then') overlay cover.row.driver ≡ disk_of nodes node

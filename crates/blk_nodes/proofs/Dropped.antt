@@ -15,7 +15,7 @@ use Rattle.blk_graph.specs.declared.stop.GraphStop.TheVariants.{InUse}
 use Rattle.blk_graph.specs.declared.edge.Parent.{Parent}
 use Rattle.blk_graph.specs.declared.edge.Parent.TheVariants.{Node}
 use Rattle.blk_graph.specs.declared.edge.Role.{Role}
-use Rattle.blk_graph.specs.declared.edge.Role.TheVariants.{File as FileRole, Backing}
+use Rattle.blk_graph.specs.declared.edge.Role.TheVariants.{File as FileRole, Backing, Filtered}
 use Rattle.blk_graph.proofs.ChildLemmas.{child-edge, child-without}
 use Rattle.blk_graph.proofs.Members.{Contains-here, Contains-there, Contains-cases, Contains-filter, Contains-map, map-Contains}
 use Rattle.blk_graph.proofs.RefreshLemmas.{child_of-refreshed}
@@ -24,7 +24,7 @@ use Rattle.blk_nodes.specs.Dropping.{other_devices, nodes_without}
 use Rattle.blk_nodes.specs.Joined.{IsFile, HasSize, HasBelow, IsJoined, DifferInNode}
 use Rattle.blk_nodes.specs.Nodes.{Nodes, DeviceSeen, is_device_of, row_at, device_in, size_by, node_size}
 use Rattle.blk_nodes.specs.declared.row.Driver.{Driver}
-use Rattle.blk_nodes.specs.declared.row.Driver.TheVariants.{File, Raw, Qcow2, CopyOnRead}
+use Rattle.blk_nodes.specs.declared.row.Driver.TheVariants.{File, Raw, Qcow2, CopyOnRead, Filter}
 use Rattle.blk_nodes.specs.declared.row.Row.{Row}
 use Rattle.blk_nodes.proofs.Additions.{Extends, some_row, not_some}
 use Rattle.blk_nodes.proofs.HeldDevices.{IsFirst, first, later, missing, is_placed}
@@ -150,6 +150,8 @@ module _ (nodes : Nodes) (node : ℕ) (joined : IsJoined nodes) (small : node < 
       }
   below_left n size CopyOnRead apart is =
       record { child = is.child; edge = child_left n FileRole apart ∙ is.edge; same = size_left is.child size (child_apart n FileRole is.child is.edge) is.same }
+  below_left n size (Filter kind) apart is = λ child edge.
+      let before = sym (child_left n Filtered apart) ∙ edge in size_left child size (child_apart n Filtered child before) (is child before)
 
   pub joined_left : IsSoundGraph left.graph → IsJoined left
   joined_left sound = record {
@@ -185,6 +187,7 @@ module _ (nodes : Nodes) (node : ℕ) (joined : IsJoined nodes) (small : node < 
     ];
     files = λ n row there. sym (child_left n FileRole (apart_row n row there));
     backings = λ n row there. sym (child_left n Backing (apart_row n row there));
+    filters = λ n row there. sym (child_left n Filtered (apart_row n row there));
   }
 
   pub disks_left : IsSoundGraph left.graph → (other : ℕ) → HasNode left.graph other → disk_of left other ≡ disk_of nodes other

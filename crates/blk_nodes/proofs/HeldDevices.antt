@@ -1,5 +1,5 @@
 -- The devices of the nodes in their list, and one that was used.
-use Rattle.std.proofs.Common.{◌≡◌, ◌≢◌, ℕ, zero, suc, ◌<◌, ◌≤◌, ◌==◌, nat_lt, Bool, true, false, cond, List, [], ◌∷◌, length, map, get_or, set, refl, sym, ◌∙◌, ap, subst, arith, Option, Some, None, Result, Ok, Err}
+use Rattle.std.proofs.Common.{◌≡◌, ◌≢◌, ℕ, zero, suc, ◌<◌, ◌≤◌, ◌==◌, nat_lt, Bool, true, false, cond, List, [], ◌∷◌, length, map, get_or, set, refl, sym, ◌∙◌, ap, subst, arith, inl, Option, Some, None, Result, Ok, Err}
 use Rattle.std.specs.Prelude.{IsSome, is_some, IfOk, IfErr, OnOk}
 use Rattle.std.specs.List.{position, position_or_len}
 use Rattle.std.proofs.lemmas.List.{set-get_or}
@@ -238,7 +238,7 @@ pub flushed_over : (file : ℕ) (devices : List DeviceSeen) (at : ℕ) (d y : De
     → IsFlushOf (get_or devices at d) y outcome → IsFlushAt file devices (set devices at y) outcome
 flushed_over file devices at d y outcome place flush =
     let same : y.node ≡ (get_or devices at d).node = ap (λ (x : DeviceSeen). x.node) flush.is in
-    record {
+    inl record {
       before = get_or devices at d;
       after = y;
       held = at_place file devices at d place;

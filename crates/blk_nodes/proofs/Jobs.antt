@@ -17,7 +17,7 @@ use Rattle.blk_graph.specs.declared.edge.Edge.{Edge}
 use Rattle.blk_graph.specs.declared.edge.Parent.{Parent}
 use Rattle.blk_graph.specs.declared.edge.Parent.TheVariants.{Node, Guest, Job}
 use Rattle.blk_graph.specs.declared.edge.Role.{Role}
-use Rattle.blk_graph.specs.declared.edge.Role.TheVariants.{File as FileRole, Backing}
+use Rattle.blk_graph.specs.declared.edge.Role.TheVariants.{File as FileRole, Backing, Filtered}
 use Rattle.blk_graph.specs.declared.edge.Uses.{Uses}
 use Rattle.blk_graph.specs.declared.kind.Kind.{Kind}
 use Rattle.blk_graph.specs.declared.kind.NodeKind.{NodeKind}
@@ -32,10 +32,10 @@ use Rattle.blk_graph.proofs.StillLemmas.{refreshed-fixed}
 use Rattle.blk_nodes.specs.Contents.{disk_by, disk_down, disk_of}
 use Rattle.blk_nodes.specs.Jobs.{with_job_edges, with_read_only, with_node_writes}
 use Rattle.blk_nodes.specs.Joined.{IsFile, HasSize, HasBelow, IsJoined, IsSized}
-use Rattle.blk_nodes.specs.Nodes.{Nodes, row_at, size_by, node_size, file_of, backing_of, driver_kind, node_kind}
+use Rattle.blk_nodes.specs.Nodes.{Nodes, row_at, size_by, node_size, file_of, backing_of, filtered_of, driver_kind, node_kind}
 use Rattle.blk_nodes.specs.declared.nodes.jobs.NodeUse.{NodeUse}
 use Rattle.blk_nodes.specs.declared.row.Driver.{Driver}
-use Rattle.blk_nodes.specs.declared.row.Driver.TheVariants.{File, Raw, Qcow2, CopyOnRead}
+use Rattle.blk_nodes.specs.declared.row.Driver.TheVariants.{File, Raw, Qcow2, CopyOnRead, Filter}
 use Rattle.blk_nodes.specs.declared.row.Row.{Row}
 use Rattle.blk_nodes.proofs.Additions.{some_row}
 use Rattle.blk_nodes.proofs.Disks.{by_driver}
@@ -204,6 +204,9 @@ module _ (nodes : Nodes) (node : ℕ) (writes : Bool) (joined : IsJoined nodes) 
   backings_same : (n : ℕ) → backing_of new n ≡ backing_of nodes n
   backings_same n = child_of-refreshed kinds_now (Node n) Backing nodes.graph.edges
 
+  filters_same : (n : ℕ) → filtered_of new n ≡ filtered_of nodes n
+  filters_same n = child_of-refreshed kinds_now (Node n) Filtered nodes.graph.edges
+
   file_after : (n : ℕ) → IsFile nodes n → IsFile new n
   file_after n is =
       let now = forth n is.row is.there in
@@ -229,6 +232,7 @@ module _ (nodes : Nodes) (node : ℕ) (writes : Bool) (joined : IsJoined nodes) 
     backing = λ over edge. size_after over image.header.size (has.backing over (sym (backings_same n) ∙ edge));
   }
   below_after n size CopyOnRead has = record { child = has.child; edge = files_same n ∙ has.edge; same = size_after has.child size has.same }
+  below_after n size (Filter kind) has = λ child edge. size_after child size (has child (sym (filters_same n) ∙ edge))
 
   -- what the node itself is
   own_kind : (row : Row) → row_at new node ≡ Some row → kind_at kinds_now node ≡ node_kind row
@@ -281,7 +285,7 @@ module _ (nodes : Nodes) (node : ℕ) (writes : Bool) (joined : IsJoined nodes) 
   same_found f g each n None y is = ap (disk_found new f n) is
   same_found f g each n (Some row) y is =
       ap (disk_found new f n) is.1 ∙ ap (disk_by new f n) is.2
-      ∙ by_driver nodes new sizes_same (λ m. refl) files_same backings_same f g each n row.driver
+      ∙ by_driver nodes new sizes_same (λ m. refl) files_same backings_same filters_same f g each n row.driver
 
   same_in : (turns n : ℕ) → disk_down turns new n ≡ disk_down turns nodes n
   same_in zero n = refl

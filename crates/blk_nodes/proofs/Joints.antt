@@ -7,13 +7,13 @@ use Rattle.std.proofs.lemmas.Bool.{cases_lt}
 use Rattle.q2_format.specs.declared.entries.L2Entry.{L2Entry}
 use Rattle.q2_format.specs.declared.entries.L2Entry.TheVariants as entries
 use Rattle.q2_image.specs.Image.{Known, IsImageOf, cluster_size_in, entry_in}
-use Rattle.blk_nodes.specs.Nodes.{Nodes, DeviceSeen, no_nodes, row_at, device_in, size_by, node_size, file_of, backing_of}
-use Rattle.blk_nodes.specs.Joined.{IsFile, HasSize, IsPartOfFile, IsOverlay, IsCopying, HasBelow, IsJoined, DifferInNode}
+use Rattle.blk_nodes.specs.Nodes.{Nodes, DeviceSeen, no_nodes, row_at, device_in, size_by, node_size, file_of, backing_of, filtered_of}
+use Rattle.blk_nodes.specs.Joined.{IsFile, HasSize, IsPartOfFile, IsOverlay, IsCopying, IsFiltering, HasBelow, IsJoined, DifferInNode}
 use Rattle.blk_nodes.specs.Reading.{HaveRisen}
 use Rattle.blk_nodes.specs.Sources.{in_below, step_by_entry, step_by, step_of}
 use Rattle.blk_nodes.specs.Walk.{GoesDown}
 use Rattle.blk_nodes.specs.declared.row.Driver.{Driver}
-use Rattle.blk_nodes.specs.declared.row.Driver.TheVariants.{File, Raw, Qcow2, CopyOnRead}
+use Rattle.blk_nodes.specs.declared.row.Driver.TheVariants.{File, Raw, Qcow2, CopyOnRead, Filter}
 use Rattle.blk_nodes.specs.declared.row.Row.{Row}
 use Rattle.blk_nodes.specs.declared.source.Source.TheVariants.{Zeros}
 use Rattle.blk_nodes.specs.declared.source.Step.{Step}
@@ -73,6 +73,7 @@ module _ (nodes : Nodes) (new : List DeviceSeen) (risen : HaveRisen nodes.device
     backing = λ over edge. size_after over image.header.size (is.backing over edge);
   }
   below_after node size CopyOnRead is = record { child = is.child; edge = is.edge; same = size_after is.child size is.same }
+  below_after node size (Filter kind) is = λ child edge. size_after child size (is child edge)
 
   pub joined_after : IsJoined nodes → IsJoined after
   joined_after is = record {
@@ -141,7 +142,7 @@ mapped_on nodes node place row image entries.Compressed joined there driver size
 mapped_on nodes node place row image entries.Reserved joined there driver size below is entry = tt
 
 pub goes_by : (nodes : Nodes) (node place : ℕ) (row : Row) (driver : Driver) → IsJoined nodes → row_at nodes node ≡ Some row → row.driver ≡ driver → place < row.size
-    → GoesDown nodes place (step_by node (file_of nodes node) (backing_of nodes node) place driver)
+    → GoesDown nodes place (step_by node (file_of nodes node) (backing_of nodes node) (filtered_of nodes node) place driver)
 goes_by nodes node place row File joined there driver below = rw driver at (joined.below node row there)
 goes_by nodes node place row (Raw part) joined there driver below =
     let is : IsPartOfFile nodes node part.offset part.size = rw driver at (joined.below node row there) in
@@ -154,6 +155,14 @@ goes_by nodes node place row CopyOnRead joined there driver below =
     let is : IsCopying nodes node row.size = rw driver at (joined.below node row there) in
     let has = is.same in
     rw (is.edge, has.there) (omega (arith, has.is, below))
+goes_by nodes node place row (Filter kind) joined there driver below = over_child (filtered_of nodes node) refl
+  where
+    is : IsFiltering nodes node row.size
+    is = rw driver at (joined.below node row there)
+
+    over_child : (child : Option ℕ) → filtered_of nodes node ≡ child → GoesDown nodes place (in_below child)
+    over_child None e = tt
+    over_child (Some next) e = let has = is next e in rw has.there (omega (arith, has.is, below))
 
 pub goes_on : (nodes : Nodes) (node place : ℕ) → IsJoined nodes → place < node_size nodes node → GoesDown nodes place (step_of nodes node place)
 goes_on nodes node place joined below = by_row (row_at nodes node) refl below
@@ -161,7 +170,7 @@ goes_on nodes node place joined below = by_row (row_at nodes node) refl below
     by_row : (found : Option Row) → row_at nodes node ≡ found → place < size_by found
         → GoesDown nodes place (elim found as (λ _. Step) [
           | None ↦ Found Zeros
-          | Some row ↦ step_by node (file_of nodes node) (backing_of nodes node) place row.driver
+          | Some row ↦ step_by node (file_of nodes node) (backing_of nodes node) (filtered_of nodes node) place row.driver
         ])
     by_row None is inside = absurd (omega (arith, inside))
     by_row (Some row) is inside = goes_by nodes node place row row.driver joined is refl inside

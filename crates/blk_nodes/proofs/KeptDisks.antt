@@ -4,11 +4,11 @@ use Rattle.std.specs.Prelude.{IsSome}
 use Rattle.std.proofs.lemmas.Bool.{eq-eqb}
 use Rattle.q2_format.specs.Contents.{file_disk, raw_disk, image_disk}
 use Rattle.blk_graph.specs.Graph.{HasNode}
-use Rattle.blk_nodes.specs.Contents.{told, disk_under, disk_by, disk_down, disk_of, bytes_by, bytes_of, file_node_disk}
-use Rattle.blk_nodes.specs.Nodes.{Nodes, DeviceSeen, row_at, device_in, size_by, node_size, file_of, backing_of}
+use Rattle.blk_nodes.specs.Contents.{told, disk_under, disk_through, disk_by, disk_down, disk_of, bytes_by, bytes_of, file_node_disk}
+use Rattle.blk_nodes.specs.Nodes.{Nodes, DeviceSeen, row_at, device_in, size_by, node_size, file_of, backing_of, filtered_of}
 use Rattle.blk_nodes.specs.Joined.{IsFile, HasSize, HasBelow, IsJoined}
 use Rattle.blk_nodes.specs.declared.row.Driver.{Driver}
-use Rattle.blk_nodes.specs.declared.row.Driver.TheVariants.{File, Raw, Qcow2, CopyOnRead}
+use Rattle.blk_nodes.specs.declared.row.Driver.TheVariants.{File, Raw, Qcow2, CopyOnRead, Filter}
 use Rattle.blk_nodes.specs.declared.row.Row.{Row}
 use Rattle.blk_nodes.proofs.Additions.{Extends, some_row, row_new, no_device, device_new, extends_file, extends_over, file_below}
 use Rattle.blk_nodes.specs.Adding.{with_node_row, with_node_device, with_below, file_edge}
@@ -32,6 +32,11 @@ module _ (old new : Nodes) (e : Extends old new) (joined : IsJoined old) where
   over_stays f g each None size has = refl
   over_stays f g each (Some node) size has = let h = has node refl in each node h.row h.there
 
+  through_stays : (n : ℕ) (f g : ℕ → List ℕ) → ((node : ℕ) (row : Row) → row_at old node ≡ Some row → f node ≡ g node) → (next : Option ℕ) (size : ℕ)
+      → ((node : ℕ) → next ≡ Some node → HasSize old node size) → disk_through n f next ≡ disk_through n g next
+  through_stays n f g each None size has = refl
+  through_stays n f g each (Some node) size has = let h = has node refl in each node h.row h.there
+
   by_driver : (f g : ℕ → List ℕ) → ((node : ℕ) (row : Row) → row_at old node ≡ Some row → f node ≡ g node) → (node : ℕ) (row : Row) (driver : Driver)
       → row_at old node ≡ Some row → HasBelow old node row.size driver → disk_by new f node driver ≡ disk_by old g node driver
   by_driver f g each node row File there is =
@@ -49,6 +54,10 @@ module _ (old new : Nodes) (e : Extends old new) (joined : IsJoined old) where
   by_driver f g each node row CopyOnRead there is =
       let same = is.same in
       ap (disk_under f) (e.files node row there ∙ is.edge) ∙ each is.child same.row same.there ∙ ap (disk_under g) (sym is.edge)
+  by_driver f g each node row (Filter kind) there is =
+      ap (disk_through (node_size new node) f) (e.filters node row there)
+      ∙ ap (λ (n : ℕ). disk_through n f (filtered_of old node)) (size_stays node row there)
+      ∙ through_stays (node_size old node) f g each (filtered_of old node) row.size is
 
   step_by_row : (nodes : Nodes) (node : ℕ) (row : Row) (turns : ℕ) → row_at nodes node ≡ Some row
       → disk_down (suc turns) nodes node ≡ disk_by nodes (disk_down turns nodes) node row.driver

@@ -15,17 +15,17 @@ use Rattle.blk_graph.specs.Paths.{Reaches}
 use Rattle.blk_graph.specs.declared.edge.Edge.{Edge}
 use Rattle.blk_graph.specs.declared.edge.Parent.TheVariants.{Node}
 use Rattle.blk_graph.specs.declared.edge.Role.{Role}
-use Rattle.blk_graph.specs.declared.edge.Role.TheVariants.{File as FileRole, Backing}
+use Rattle.blk_graph.specs.declared.edge.Role.TheVariants.{File as FileRole, Backing, Filtered}
 use Rattle.blk_graph.proofs.ChildLemmas.{child-edge}
 use Rattle.blk_graph.proofs.PathLemmas.{Reaches-edge, Reaches-joined}
 use Rattle.blk_nodes.specs.Found.{IsReadOfSource}
-use Rattle.blk_nodes.specs.Nodes.{Nodes, DeviceSeen, row_at, file_of, backing_of}
+use Rattle.blk_nodes.specs.Nodes.{Nodes, DeviceSeen, row_at, file_of, backing_of, filtered_of}
 use Rattle.blk_nodes.specs.Reading.{LeadsTo, IsReadAt, IsReadBelow, StoppedBelow}
 use Rattle.blk_nodes.specs.Sources.{in_file, in_image, in_below, step_by_entry, step_by, step_of, source_in, source_at}
 use Rattle.blk_nodes.specs.Walk.{LeadsToSource, LeadsOn}
 use Rattle.blk_nodes.specs.Writing.{HasPieceCause, IsRestRead, WritesImage}
 use Rattle.blk_nodes.specs.declared.row.Driver.{Driver}
-use Rattle.blk_nodes.specs.declared.row.Driver.TheVariants.{File, Raw, Qcow2, CopyOnRead}
+use Rattle.blk_nodes.specs.declared.row.Driver.TheVariants.{File, Raw, Qcow2, CopyOnRead, Filter}
 use Rattle.blk_nodes.specs.declared.source.Source.{Source}
 use Rattle.blk_nodes.specs.declared.source.Source.TheVariants as sources
 use Rattle.blk_nodes.specs.declared.source.Step.{Step}
@@ -66,11 +66,12 @@ entry_leads edges node entries.Compressed = tt
 entry_leads edges node entries.Reserved = tt
 
 pub step_leads : (edges : List Edge) (node place : ℕ) (driver : Driver)
-    → LeadsOn edges node (step_by node (child_of (Node node) FileRole edges) (child_of (Node node) Backing edges) place driver)
+    → LeadsOn edges node (step_by node (child_of (Node node) FileRole edges) (child_of (Node node) Backing edges) (child_of (Node node) Filtered edges) place driver)
 step_leads edges node place File = inl refl
 step_leads edges node place (Raw part) = file_leads edges node _ FileRole (child_of (Node node) FileRole edges) refl
 step_leads edges node place (Qcow2 image) = entry_leads edges node (entry_in image _)
 step_leads edges node place CopyOnRead = below_leads edges node FileRole (child_of (Node node) FileRole edges) refl
+step_leads edges node place (Filter kind) = below_leads edges node Filtered (child_of (Node node) Filtered edges) refl
 
 -- a read of what a node leads to
 module _ (old : Nodes) (devices : List DeviceSeen) (node file : ℕ) (call : DeviceCall) (leads : LeadsTo old.graph.edges node file) where
@@ -95,7 +96,7 @@ step_of_leads : (nodes : Nodes) (node place : ℕ) → LeadsOn nodes.graph.edges
 step_of_leads nodes node place = by (row_at nodes node)
   where
     step : Row → Step
-    step row = step_by node (file_of nodes node) (backing_of nodes node) place row.driver
+    step row = step_by node (file_of nodes node) (backing_of nodes node) (filtered_of nodes node) place row.driver
 
     by : (found : Option Row) → LeadsOn nodes.graph.edges node (elim found as (λ _. Step) [ None ↦ Found sources.Zeros | Some row ↦ step row ])
     by None = tt

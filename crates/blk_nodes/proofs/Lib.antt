@@ -11,6 +11,7 @@ pub mod Through
 pub mod Commits
 mod Drawn
 mod OverlayAdded
+mod Filtered
 pub mod Dropped
 mod RawParts
 mod Written

@@ -10,7 +10,7 @@ use Rattle.blk_graph.specs.Permissions.{node_edge}
 use Rattle.blk_graph.specs.declared.edge.Edge.{Edge}
 use Rattle.blk_graph.specs.declared.edge.Parent.TheVariants.{Node}
 use Rattle.blk_graph.specs.declared.edge.Role.{Role}
-use Rattle.blk_graph.specs.declared.edge.Role.TheVariants.{File as FileRole, Backing as BackingRole}
+use Rattle.blk_graph.specs.declared.edge.Role.TheVariants.{File as FileRole, Backing as BackingRole, Filtered}
 use Rattle.blk_graph.specs.declared.kind.NodeKind.{NodeKind}
 use Rattle.blk_graph.proofs.ChildLemmas.{with_edge-end, child-new, child-kept}
 use Rattle.blk_graph.proofs.InverseLemmas.{find-push, same_parent-false}
@@ -158,6 +158,8 @@ module _ (nodes : Nodes) (id : ℕ) (name : List ℕ) (row : Row) (child : ℕ) 
         ∙ other_children nodes.graph.edges id child over n FileRole (other_parent n r there);
     backings = λ n r there. child_of-refreshed kinds_after (Node n) BackingRole edges_after
         ∙ other_children nodes.graph.edges id child over n BackingRole (other_parent n r there);
+    filters = λ n r there. child_of-refreshed kinds_after (Node n) Filtered edges_after
+        ∙ other_children nodes.graph.edges id child over n Filtered (other_parent n r there);
   }
 
   formed_file : file_of formed id ≡ Some child

@@ -32,7 +32,7 @@ use Rattle.blk_nodes.specs.Renaming.{IsKnownNamed, IsRenameBy, IsRenameAt, Renam
 use Rattle.blk_nodes.specs.Walk.{IsKnownAt}
 use Rattle.blk_nodes.specs.Writing.{HasImageIn, IsOverApart}
 use Rattle.blk_nodes.specs.declared.row.Driver.{Driver}
-use Rattle.blk_nodes.specs.declared.row.Driver.TheVariants.{File, Raw, Qcow2, CopyOnRead}
+use Rattle.blk_nodes.specs.declared.row.Driver.TheVariants.{File, Raw, Qcow2, CopyOnRead, Filter}
 use Rattle.blk_nodes.specs.declared.row.Row.{Row}
 use Rattle.blk_nodes.proofs.Copied.{noded}
 use Rattle.blk_nodes.proofs.CopiedDisks.{beside_stays}
@@ -269,6 +269,7 @@ module _ (old : Nodes) (joined : IsJoined old) (node file : ℕ) (owns : OwnsIma
   }
   below_other n row CopyOnRead apart there driver is =
       record { child = is.child; edge = is.edge; same = size_after is.child row.size is.same }
+  below_other n row (Filter kind) apart there driver is = λ child edge. size_after child row.size (is child edge)
 
   overlay : IsOverlay old node r.image
   overlay = rw r.driver at (joined.below node r.row r.there)
@@ -342,7 +343,7 @@ module _ (old : Nodes) (joined : IsJoined old) (node file : ℕ) (owns : OwnsIma
   disk_found nodes f n found = elim found as (λ _. List ℕ) [ None ↦ [] | Some row ↦ disk_by nodes f n row.driver ]
 
   driver_same : (f g : ℕ → List ℕ) → ((n : ℕ) → f n ≡ g n) → (n : ℕ) (d : Driver) → disk_by new f n d ≡ disk_by mid g n d
-  driver_same = by_driver mid new sizes_same (λ n. refl) (λ n. refl) (λ n. refl)
+  driver_same = by_driver mid new sizes_same (λ n. refl) (λ n. refl) (λ n. refl) (λ n. refl)
 
   found_same : (f g : ℕ → List ℕ) → ((n : ℕ) → f n ≡ g n) → (n : ℕ) (found : Option Row) → disk_found new f n found ≡ disk_found mid g n found
   found_same f g each n None = refl

@@ -9,7 +9,7 @@ use Rattle.q2_image.specs.Image.{Known, cluster_size_in, entry_in}
 use Rattle.q2_image.specs.Reading.{IsHost}
 use Rattle.blk_graph.specs.declared.edge.Edge.{Edge}
 use Rattle.blk_nodes.specs.Found.{IsReadOfSource}
-use Rattle.blk_nodes.specs.Nodes.{Nodes, DeviceSeen, row_at, device_in, file_of, backing_of}
+use Rattle.blk_nodes.specs.Nodes.{Nodes, DeviceSeen, row_at, device_in, file_of, backing_of, filtered_of}
 use Rattle.blk_nodes.specs.Reading.{LeadsTo}
 use Rattle.blk_nodes.specs.Sources.{in_below, step_by_entry, step_by, step_of, source_in, source_at}
 use Rattle.blk_nodes.specs.Walk.{LeadsToSource}
@@ -49,8 +49,8 @@ module _ (nodes : Nodes) (node place : ℕ) (row : Row) (image : Known) (there :
 
   step_is : step_of nodes node place ≡ step_by_entry node (file_of nodes node) (backing_of nodes node) (entry_in image (place / cluster_size_in image))
   step_is =
-      ap (λ (f : Option Row). elim f as (λ _. Step) [ None ↦ Found sources.Zeros | Some row ↦ step_by node (file_of nodes node) (backing_of nodes node) place row.driver ]) there
-      ∙ ap (step_by node (file_of nodes node) (backing_of nodes node) place) driver
+      ap (λ (f : Option Row). elim f as (λ _. Step) [ None ↦ Found sources.Zeros | Some row ↦ step_by node (file_of nodes node) (backing_of nodes node) (filtered_of nodes node) place row.driver ]) there
+      ∙ ap (step_by node (file_of nodes node) (backing_of nodes node) (filtered_of nodes node) place) driver
 
   by_backing : (turns : ℕ) (found : Option ℕ) → backing_of nodes node ≡ found → IsBeside file (source_behind turns (in_below found))
   by_backing turns None is = tt

@@ -9,19 +9,19 @@ use Rattle.blk_graph.specs.Graph.{IsSoundGraph}
 use Rattle.blk_graph.specs.declared.edge.Edge.{Edge}
 use Rattle.blk_graph.specs.declared.edge.Parent.TheVariants.{Node}
 use Rattle.blk_graph.specs.declared.edge.Role.{Role}
-use Rattle.blk_graph.specs.declared.edge.Role.TheVariants.{File as FileRole, Backing}
+use Rattle.blk_graph.specs.declared.edge.Role.TheVariants.{File as FileRole, Backing, Filtered}
 use Rattle.blk_graph.proofs.ChildLemmas.{HasEdge, child-edge}
 use Rattle.q2_format.specs.Contents.{image_disk}
-use Rattle.blk_nodes.specs.Contents.{disk_under, disk_by, disk_down, disk_of, bytes_of}
+use Rattle.blk_nodes.specs.Contents.{disk_under, disk_through, disk_by, disk_down, disk_of, bytes_of}
 use Rattle.blk_graph.specs.Refreshed.{kind_at}
 use Rattle.blk_graph.specs.declared.kind.Kind.{Kind}
 use Rattle.blk_graph.specs.declared.kind.NodeKind.{NodeKind}
 use Rattle.blk_nodes.specs.Jobs.{with_read_only}
 use Rattle.blk_nodes.specs.Joined.{IsFile, HasSize, HasBelow, IsJoined, IsSized}
-use Rattle.blk_nodes.specs.Nodes.{Nodes, row_at, size_by, node_size, file_of, backing_of, driver_kind, node_kind}
+use Rattle.blk_nodes.specs.Nodes.{Nodes, row_at, size_by, node_size, file_of, backing_of, filtered_of, driver_kind, node_kind}
 use Rattle.blk_nodes.specs.Rewiring.{rewired, rows_by, AreChildrenKept, AreKindsKept, AreReadings, IsWiring}
 use Rattle.blk_nodes.specs.declared.row.Driver.{Driver}
-use Rattle.blk_nodes.specs.declared.row.Driver.TheVariants.{File, Raw, Qcow2, CopyOnRead}
+use Rattle.blk_nodes.specs.declared.row.Driver.TheVariants.{File, Raw, Qcow2, CopyOnRead, Filter}
 use Rattle.blk_nodes.specs.declared.row.Row.{Row}
 use Rattle.blk_nodes.proofs.Disks.{by_driver as driver_same}
 use Rattle.blk_nodes.proofs.Jobs.{written_rows}
@@ -166,6 +166,7 @@ module _ (nodes : Nodes) (kinds : List NodeKind) (edges : List Edge) (joined : I
       backing = λ over edge. size_then over image.header.size (has.backing over (sym (same n Backing) ∙ edge));
     }
     below_then n size CopyOnRead has = record { child = has.child; edge = same n FileRole ∙ has.edge; same = size_then has.child size has.same }
+    below_then n size (Filter kind) has = λ child edge. size_then child size (has child (sym (same n Filtered) ∙ edge))
 
     pub wiring_kept : IsSoundGraph (record nodes.graph { kinds = kinds; edges = edges }) → AreKindsKept nodes kinds → IsWiring nodes kinds edges
     wiring_kept sound alike = record { sound = sound; alike = alike; below = λ n row there. below_then n row.size row.driver (joined.below n row there) }
@@ -186,11 +187,17 @@ module _ (nodes : Nodes) (reads : ℕ → List ℕ) (joined : IsJoined nodes) (a
   under n role rest None is = refl
   under n role rest (Some child) is = rest child (child-edge (Node n) role nodes.graph.edges child is)
 
+  through : (n : ℕ) → Rest n → (found : Option ℕ) → child_of (Node n) Filtered nodes.graph.edges ≡ found
+      → disk_through (node_size nodes n) (disk_of nodes) found ≡ disk_through (node_size nodes n) reads found
+  through n rest None is = refl
+  through n rest (Some child) is = under n Filtered rest (Some child) is
+
   by_driver : (n : ℕ) → Rest n → (d : Driver) → disk_by nodes (disk_of nodes) n d ≡ disk_by nodes reads n d
   by_driver n rest File = refl
   by_driver n rest (Raw part) = refl
   by_driver n rest (Qcow2 image) = ap (image_disk (disk_under (bytes_of nodes) (file_of nodes n))) (under n Backing rest (backing_of nodes n) refl)
   by_driver n rest CopyOnRead = under n FileRole rest (file_of nodes n) refl
+  by_driver n rest (Filter kind) = through n rest (filtered_of nodes n) refl
 
   by_row : (n : ℕ) → Rest n → (found : Option Row) → row_at nodes n ≡ found → disk_of nodes n ≡ reads n
   by_row n rest None there = no_disk nodes n there ∙ sym (are.none n there)
@@ -213,7 +220,7 @@ readings_kept nodes kinds edges joined same = record {
   each = λ n row is.
       let b = back nodes kinds edges joined n row is in
       unfolds nodes joined n b.0 b.1
-      ∙ sym (driver_same nodes (rewired kinds edges nodes) (sizes_same nodes kinds edges joined) (λ m. refl) (λ m. same m FileRole) (λ m. same m Backing)
+      ∙ sym (driver_same nodes (rewired kinds edges nodes) (sizes_same nodes kinds edges joined) (λ m. refl) (λ m. same m FileRole) (λ m. same m Backing) (λ m. same m Filtered)
       (disk_of nodes) (disk_of nodes) (λ m. refl) n b.0.driver)
       ∙ ap (λ (r : Row). disk_by (rewired kinds edges nodes) (disk_of nodes) n r.driver) (sym b.2);
   none = λ n none. no_disk nodes n (gone (kind_at kinds n) (row_at nodes n) (sym (row_then nodes kinds edges joined n) ∙ none));

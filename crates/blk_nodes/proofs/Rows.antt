@@ -5,7 +5,7 @@ use Rattle.std.proofs.lemmas.List.{get_or_default, get_or_past}
 use Rattle.q2_image.specs.Image.{Known}
 use Rattle.blk_nodes.specs.Parts.{OfImage, OfImageBy, row_in}
 use Rattle.blk_nodes.specs.declared.row.Driver.{Driver}
-use Rattle.blk_nodes.specs.declared.row.Driver.TheVariants.{File, Raw, Qcow2, CopyOnRead}
+use Rattle.blk_nodes.specs.declared.row.Driver.TheVariants.{File, Raw, Qcow2, CopyOnRead, Filter}
 use Rattle.blk_nodes.specs.declared.row.Row.{Row}
 
 -- a row that was read at a place
@@ -36,6 +36,7 @@ image_by File P holds = absurd holds
 image_by (Raw part) P holds = absurd holds
 image_by (Qcow2 image) P holds = (image, refl, holds)
 image_by CopyOnRead P holds = absurd holds
+image_by (Filter kind) P holds = absurd holds
 
 -- where a fact of an image holds there is one
 pub has_image : (found : Option Row) (P : Known → Type 0) → OfImage found P → (row : Row) × (image : Known) × (found ≡ Some row) × (row.driver ≡ Qcow2 image) × P image

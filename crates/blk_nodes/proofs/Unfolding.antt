@@ -6,14 +6,14 @@ use Rattle.blk_graph.specs.Graph.{PathsAreShort}
 use Rattle.blk_graph.specs.Paths.{IsPath}
 use Rattle.blk_graph.specs.declared.edge.Edge.{Edge}
 use Rattle.blk_graph.specs.declared.edge.Parent.TheVariants.{Node}
-use Rattle.blk_graph.specs.declared.edge.Role.TheVariants.{File as FileRole, Backing}
+use Rattle.blk_graph.specs.declared.edge.Role.TheVariants.{File as FileRole, Backing, Filtered}
 use Rattle.blk_graph.proofs.ChildLemmas.{HasEdge, child-edge}
 use Rattle.blk_graph.proofs.GraphLemmas.{PathsAreShort-from_IsSound}
-use Rattle.blk_nodes.specs.Contents.{disk_under, disk_by, disk_down, disk_of, bytes_of, Unfolds}
+use Rattle.blk_nodes.specs.Contents.{disk_under, disk_through, disk_by, disk_down, disk_of, bytes_of, Unfolds}
 use Rattle.blk_nodes.specs.Joined.{IsJoined}
-use Rattle.blk_nodes.specs.Nodes.{Nodes, row_at, file_of, backing_of}
+use Rattle.blk_nodes.specs.Nodes.{Nodes, row_at, node_size, file_of, backing_of, filtered_of}
 use Rattle.blk_nodes.specs.declared.row.Driver.{Driver}
-use Rattle.blk_nodes.specs.declared.row.Driver.TheVariants.{File, Raw, Qcow2, CopyOnRead}
+use Rattle.blk_nodes.specs.declared.row.Driver.TheVariants.{File, Raw, Qcow2, CopyOnRead, Filter}
 use Rattle.blk_nodes.specs.declared.row.Row.{Row}
 
 -- a path of so many edges starts at a node
@@ -33,6 +33,10 @@ module _ (nodes : Nodes) where
   over_same f g None each = refl
   over_same f g (Some c) each = each c refl
 
+  through_same : (size : ℕ) (f g : ℕ → List ℕ) (next : Option ℕ) → ((c : ℕ) → next ≡ Some c → f c ≡ g c) → disk_through size f next ≡ disk_through size g next
+  through_same size f g None each = refl
+  through_same size f g (Some c) each = each c refl
+
   by_driver : (n : ℕ) (f g : ℕ → List ℕ) → ((c : ℕ) → HasEdge nodes.graph.edges (Node n) c → f c ≡ g c) → (driver : Driver)
       → disk_by nodes f n driver ≡ disk_by nodes g n driver
   by_driver n f g each File = refl
@@ -42,6 +46,8 @@ module _ (nodes : Nodes) where
       (over_same f g (backing_of nodes n) (λ c is. each c (child-edge (Node n) Backing nodes.graph.edges c is)))
   by_driver n f g each CopyOnRead =
       over_same f g (file_of nodes n) (λ c is. each c (child-edge (Node n) FileRole nodes.graph.edges c is))
+  by_driver n f g each (Filter kind) =
+      through_same (node_size nodes n) f g (filtered_of nodes n) (λ c is. each c (child-edge (Node n) Filtered nodes.graph.edges c is))
 
   by_row : (n : ℕ) (f g : ℕ → List ℕ) → ((c : ℕ) → HasEdge nodes.graph.edges (Node n) c → f c ≡ g c) → (found : Option Row)
       → elim found as (λ _. List ℕ) [ None ↦ [] | Some row ↦ disk_by nodes f n row.driver ]

@@ -12,18 +12,18 @@ use Rattle.blk_nodes.proofs.RawParts.{with_bytes-part}
 use Rattle.q2_format.proofs.ByPlace.{length-bytes_at as length-format_bytes, get_or-bytes_at as get_or-format_bytes}
 use Rattle.q2_format.specs.Contents.{file_disk, raw_disk, image_disk}
 use Rattle.q2_image.specs.Image.{Known, IsImageOf}
-use Rattle.blk_graph.specs.declared.edge.Role.TheVariants.{File as FileRole, Backing}
-use Rattle.blk_nodes.specs.Contents.{IsToldDisk, told, disk_under, disk_by, disk_down, disk_of, bytes_by, bytes_of, file_node_disk}
+use Rattle.blk_graph.specs.declared.edge.Role.TheVariants.{File as FileRole, Backing, Filtered}
+use Rattle.blk_nodes.specs.Contents.{IsToldDisk, told, disk_under, disk_through, disk_by, disk_down, disk_of, bytes_by, bytes_of, file_node_disk}
 use Rattle.blk_nodes.specs.Changing.{ImageChange, IsImageWritten, IsZeroed, LeavesRow}
 use Rattle.blk_nodes.specs.Joined.{IsFile, HasSize, IsPartOfFile, IsOverlay, HasBelow, IsJoined}
-use Rattle.blk_nodes.specs.Nodes.{Nodes, DeviceSeen, AreTold, row_at, device_in, size_by, node_size, file_of, backing_of}
+use Rattle.blk_nodes.specs.Nodes.{Nodes, DeviceSeen, AreTold, row_at, device_in, size_by, node_size, file_of, backing_of, filtered_of}
 use Rattle.blk_nodes.specs.Parts.{OfImage, OfImageBy, IsImage}
 use Rattle.blk_nodes.specs.Reading.{OnlyAt, LeadsTo}
 use Rattle.blk_nodes.specs.Sources.{in_file, step_by, step_of, source_at}
 use Rattle.blk_nodes.specs.Writing.{taken_by, IsWriteOf, IsWriteAt, WritesFile, WritesBy, WritesPiece, ZerosBy, ZerosPiece, LeavesNodes, OwnsFile, CanBeWritten, MayWriteThrough, IsApartFrom}
 use Rattle.blk_nodes.specs.Writing as writing
 use Rattle.blk_nodes.specs.declared.row.Driver.{Driver}
-use Rattle.blk_nodes.specs.declared.row.Driver.TheVariants.{File, Raw, Qcow2, CopyOnRead}
+use Rattle.blk_nodes.specs.declared.row.Driver.TheVariants.{File, Raw, Qcow2, CopyOnRead, Filter}
 use Rattle.blk_nodes.specs.declared.row.Row.{Row}
 use Rattle.blk_nodes.specs.declared.source.Source.TheVariants as sources
 use Rattle.blk_nodes.specs.declared.source.Step.{Step}
@@ -34,13 +34,8 @@ use Rattle.blk_nodes.proofs.Joints.{once_by_nodes}
 use Rattle.blk_nodes.proofs.KeptDisks.{disk_of_file, disk_of_raw}
 use Rattle.blk_nodes.proofs.Leading.{leads_on, child_leads}
 use Rattle.blk_nodes.proofs.Disks.{disk_same}
-use Rattle.blk_nodes.proofs.Additions.{some_row}
 use Rattle.blk_nodes.proofs.Alike.{row_refl}
-use Rattle.blk_nodes.proofs.Unfolding.{StartsAt, no_path}
-use Rattle.blk_graph.specs.Graph.{HasNode}
-use Rattle.blk_graph.specs.declared.edge.Parent.TheVariants.{Node}
-use Rattle.blk_graph.proofs.ChildLemmas.{child-edge}
-use Rattle.blk_nodes.specs.Flushing.{IsFlushAt, base_in, base_of}
+use Rattle.blk_nodes.specs.Flushing.{IsFlushOn, IsFlushAt}
 
 -- where no path leads to the file that changed, the disk stays
 module _ (nodes : Nodes) (devices : List DeviceSeen) (file : ℕ) (only : OnlyAt file nodes.devices devices) where
@@ -71,6 +66,12 @@ module _ (nodes : Nodes) (devices : List DeviceSeen) (file : ℕ) (only : OnlyAt
   over_below f g each node none (Some child) leads =
       each child (λ rest. none (leads_on nodes.graph.edges node child file (leads child refl) rest))
 
+  through_below : (n : ℕ) (f g : ℕ → List ℕ) → ((n : ℕ) → (LeadsTo nodes.graph.edges n file → ⊥) → f n ≡ g n) → (node : ℕ) → (LeadsTo nodes.graph.edges node file → ⊥)
+      → (found : Option ℕ) → ((child : ℕ) → found ≡ Some child → LeadsTo nodes.graph.edges node child) → disk_through n f found ≡ disk_through n g found
+  through_below n f g each node none None leads = refl
+  through_below n f g each node none (Some child) leads =
+      each child (λ rest. none (leads_on nodes.graph.edges node child file (leads child refl) rest))
+
   by_driver : (f g : ℕ → List ℕ) → ((n : ℕ) → (LeadsTo nodes.graph.edges n file → ⊥) → f n ≡ g n) → (node : ℕ) → (LeadsTo nodes.graph.edges node file → ⊥)
       → (driver : Driver) → disk_by after f node driver ≡ disk_by nodes g node driver
   by_driver f g each node none File = ap (file_disk (node_size nodes node)) (bytes_stay node (λ same. none (inl same)))
@@ -81,6 +82,8 @@ module _ (nodes : Nodes) (devices : List DeviceSeen) (file : ℕ) (only : OnlyAt
       (over_below f g each node none (backing_of nodes node) (λ child is. child_leads nodes.graph.edges node child Backing is))
   by_driver f g each node none CopyOnRead =
       over_below f g each node none (file_of nodes node) (λ child is. child_leads nodes.graph.edges node child FileRole is)
+  by_driver f g each node none (Filter kind) =
+      through_below (node_size nodes node) f g each node none (filtered_of nodes node) (λ child is. child_leads nodes.graph.edges node child Filtered is)
 
   by_row : (f g : ℕ → List ℕ) → ((n : ℕ) → (LeadsTo nodes.graph.edges n file → ⊥) → f n ≡ g n) → (node : ℕ) → (LeadsTo nodes.graph.edges node file → ⊥)
       → (found : Option Row) → elim found as (λ _. List ℕ) [ None ↦ [] | Some row ↦ disk_by after f node row.driver ]
@@ -145,6 +148,7 @@ module _ (nodes : Nodes) (devices : List DeviceSeen) (file : ℕ) (only : OnlyAt
   }
   below_after node row CopyOnRead there driver is =
       record { child = is.child; edge = is.edge; same = size_after is.child row.size is.same }
+  below_after node row (Filter kind) there driver is = λ child edge. size_after child row.size (is child edge)
 
   pub joined_changed : IsJoined changed
   joined_changed = record {
@@ -193,6 +197,7 @@ IsPlain File = Unit {0}
 IsPlain (Raw part) = Unit {0}
 IsPlain (Qcow2 image) = ⊥
 IsPlain CopyOnRead = ⊥
+IsPlain (Filter kind) = ⊥
 
 pub plain_if : (nodes : Nodes) (node : ℕ) (may : MayWriteThrough nodes node) → (IsImage nodes node → ⊥) → IsPlain may.row.driver
 plain_if nodes node may none = by may.row.driver refl may.can
@@ -207,15 +212,16 @@ plain_if nodes node may none = by may.row.driver refl may.can
     by (Raw part) is can = tt
     by (Qcow2 image) is can = absurd (none (image_there image is))
     by CopyOnRead is can = absurd can
+    by (Filter kind) is can = absurd can
 
 -- such a node that may be written
 module _ (nodes : Nodes) (joined : IsJoined nodes) (node place : ℕ) (may : MayWriteThrough nodes node) (plain : IsPlain may.row.driver) where
-  step_there : {driver : Driver} → may.row.driver ≡ driver → step_of nodes node place ≡ step_by node (file_of nodes node) (backing_of nodes node) place driver
+  step_there : {driver : Driver} → may.row.driver ≡ driver → step_of nodes node place ≡ step_by node (file_of nodes node) (backing_of nodes node) (filtered_of nodes node) place driver
   step_there is =
       ap (λ (found : Option Row). elim found as (λ _. Step) [
         | None ↦ Found sources.Zeros
-        | Some row ↦ step_by node (file_of nodes node) (backing_of nodes node) place row.driver
-      ]) may.there ∙ ap (step_by node (file_of nodes node) (backing_of nodes node) place) is
+        | Some row ↦ step_by node (file_of nodes node) (backing_of nodes node) (filtered_of nodes node) place row.driver
+      ]) may.there ∙ ap (step_by node (file_of nodes node) (backing_of nodes node) (filtered_of nodes node) place) is
 
   -- where its bytes stand
   stands_by : (driver : Driver) → may.row.driver ≡ driver → IsPlain driver → (file : ℕ) × (start : ℕ) × (source_at nodes node place ≡ sources.File file start)
@@ -231,6 +237,7 @@ module _ (nodes : Nodes) (joined : IsJoined nodes) (node place : ℕ) (may : May
       (below.file, part.offset + place, walk_ends nodes node place (sources.File below.file (part.offset + place)) 64 (omega arith) step, below.edge, refl)
   stands_by (Qcow2 image) is plain = absurd plain
   stands_by CopyOnRead is plain = absurd plain
+  stands_by (Filter kind) is plain = absurd plain
 
   pub owned : (file start : ℕ) → source_at nodes node place ≡ sources.File file start
       → (writing.own_file nodes node may.row.driver ≡ Some file) × OwnsFile nodes node file
@@ -310,6 +317,7 @@ module _ (nodes : Nodes) (joined : IsJoined nodes) (node place : ℕ) (may : May
         ∙ ap (λ (d : List ℕ). with_bytes d place xs) (sym (disk_of_raw nodes node below.file part.offset part.size may.row may.there is below.edge))
     disk_by_driver all inside (Qcow2 image) is plain = absurd plain
     disk_by_driver all inside CopyOnRead is plain = absurd plain
+    disk_by_driver all inside (Filter kind) is plain = absurd plain
 
     pub disk_wrote : AreTold nodes.devices → (n : ℕ) → length bytes ≡ n → place + n ≤ node_size nodes node
         → disk_of wrote node ≡ with_bytes (disk_of nodes node) place xs
@@ -318,12 +326,12 @@ module _ (nodes : Nodes) (joined : IsJoined nodes) (node place : ℕ) (may : May
         disk_by_driver all (omega (arith, whole, inside, size, length-written outcome bytes)) may.row.driver refl plain
 
 -- After a flush each device has the bytes that it had.
-module _ (nodes : Nodes) (devices : List DeviceSeen) (file : ℕ) (outcome : Outcome) (at : IsFlushAt file nodes.devices devices outcome) (joined : IsJoined nodes) where
+module _ (nodes : Nodes) (devices : List DeviceSeen) (file : ℕ) (outcome : Outcome) (at : IsFlushOn file nodes.devices devices outcome) (joined : IsJoined nodes) where
   content_same : at.after.content ≡ at.before.content
   content_same = ap (λ (d : DeviceSeen). d.content) at.flush.is
 
-  pub joined_flushed : IsJoined (record nodes { devices = devices })
-  joined_flushed =
+  joined_on : IsJoined (record nodes { devices = devices })
+  joined_on =
       joined_changed nodes devices file at.only (rw at.held refl) (rw at.left refl) joined
       (λ node row image there driver edge device bytes has content.
       let below : IsOverlay nodes node image = rw driver at (joined.below node row there) in
@@ -337,50 +345,22 @@ module _ (nodes : Nodes) (devices : List DeviceSeen) (file : ℕ) (outcome : Out
     | inr apart ↦ ap bytes_by (at.only.others node apart)
   ]
 
-  pub disks_flushed : (node : ℕ) → disk_of (record nodes { devices = devices }) node ≡ disk_of nodes node
-  disks_flushed = disk_same nodes (record nodes { devices = devices }) (λ node. refl) bytes_same (λ node. refl) (λ node. refl)
+  disks_on : (node : ℕ) → disk_of (record nodes { devices = devices }) node ≡ disk_of nodes node
+  disks_on = disk_same nodes (record nodes { devices = devices }) (λ node. refl) bytes_same (λ node. refl) (λ node. refl) (λ node. refl)
 
--- The node at the end of the `file` edges has a device.
-module _ (nodes : Nodes) (joined : IsJoined nodes) where
-  ends : (k turns node : ℕ) → (StartsAt nodes.graph.edges k node → ⊥) → k ≤ turns → file_of nodes (base_in turns nodes node) ≡ None
-  ends zero turns node none h = absurd (none tt)
-  ends (suc k) zero node none h = absurd (omega (arith, h))
-  ends (suc k) (suc turns) node none h = by_child (file_of nodes node) refl (ends k turns)
-    where
-      by_child : (found : Option ℕ) → file_of nodes node ≡ found
-          → ((next : ℕ) → (StartsAt nodes.graph.edges k next → ⊥) → k ≤ turns → file_of nodes (base_in turns nodes next) ≡ None)
-          → file_of nodes (elim found as (λ _. ℕ) [ None ↦ node | Some next ↦ base_in turns nodes next ]) ≡ None
-      by_child None is rest = is
-      by_child (Some next) is rest =
-          let edge = child-edge (Node node) FileRole nodes.graph.edges next is in
-          rest next (λ starts. none (edge.edge, edge.there, edge.from, rw edge.to starts)) (omega (arith, h))
+-- and where none was flushed all is as before
+module _ (nodes : Nodes) (devices : List DeviceSeen) (file : ℕ) (outcome : Outcome) where
+  with_same : devices ≡ nodes.devices → record nodes { devices = devices } ≡ nodes
+  with_same is = ap (λ (ds : List DeviceSeen). let now : Nodes = record nodes { devices = ds } in now) is
 
-  -- and each of them is a node
-  there_in : (turns node : ℕ) → HasNode nodes.graph node → HasNode nodes.graph (base_in turns nodes node)
-  there_in zero node has = has
-  there_in (suc turns) node has = by_child (file_of nodes node) refl (there_in turns)
-    where
-      by_child : (found : Option ℕ) → file_of nodes node ≡ found → ((next : ℕ) → HasNode nodes.graph next → HasNode nodes.graph (base_in turns nodes next))
-          → HasNode nodes.graph (elim found as (λ _. ℕ) [ None ↦ node | Some next ↦ base_in turns nodes next ])
-      by_child None is rest = has
-      by_child (Some next) is rest =
-          let edge = child-edge (Node node) FileRole nodes.graph.edges next is in
-          rest next (rw edge.to at ((joined.sound.fit.each edge.edge edge.there).child))
+  pub joined_flushed : IsFlushAt file nodes.devices devices outcome → IsJoined nodes → IsJoined (record nodes { devices = devices })
+  joined_flushed (inl at) joined = joined_on nodes devices file outcome at joined
+  joined_flushed (inr none) joined = subst IsJoined (sym (with_same none.1)) joined
 
-  -- a node without a `file` edge is one over a device
-  device_by : (node : ℕ) (row : Row) (driver : Driver) → file_of nodes node ≡ None → HasBelow nodes node row.size driver → IsSome (device_in nodes.devices node)
-  device_by node row File none is = is
-  device_by node row (Raw part) none is = let bad = sym none ∙ is.edge in absurd (cc bad)
-  device_by node row (Qcow2 image) none is = let bad = sym none ∙ is.edge in absurd (cc bad)
-  device_by node row CopyOnRead none is = let bad = sym none ∙ is.edge in absurd (cc bad)
-
-  pub base_held : (node : ℕ) → HasNode nodes.graph node → IsSome (device_in nodes.devices (base_of nodes node))
-  unfolding base_of
-  base_held node has =
-      let base : ℕ = base_in 64 nodes node in
-      let there = joined.there base (there_in 64 node has) in
-      let found = some_row (row_at nodes base) there in
-      device_by base found.0 found.0.driver (ends 64 64 node (no_path nodes joined 64 (omega arith) node) (omega arith)) (joined.below base found.0 found.1)
+  pub disks_flushed : IsFlushAt file nodes.devices devices outcome → IsJoined nodes → (node : ℕ)
+      → disk_of (record nodes { devices = devices }) node ≡ disk_of nodes node
+  disks_flushed (inl at) joined node = disks_on nodes devices file outcome at joined node
+  disks_flushed (inr none) joined node = ap (λ (ns : Nodes). disk_of ns node) (with_same none.1)
 
 -- the row of a node that is no image
 row_plain : (change : ImageChange) (driver : Driver) (row : Row) (old new : Nodes) (node : ℕ) (outcome : Outcome) → IsPlain driver → row_at new node ≡ Some row
@@ -389,6 +369,7 @@ row_plain change File row old new node outcome is same = same
 row_plain change (Raw part) row old new node outcome is same = same
 row_plain change (Qcow2 image) row old new node outcome is same = absurd is
 row_plain change CopyOnRead row old new node outcome is same = absurd is
+row_plain change (Filter kind) row old new node outcome is same = absurd is
 
 -- A piece of such a node, by what the node is.
 pub piece_plain : (old new : Nodes) (node : ℕ) (span : Extent) (bytes : List ℕ) (outcome : Outcome) (may : MayWriteThrough old node) → IsPlain may.row.driver
@@ -401,6 +382,7 @@ piece_plain old new node span bytes outcome may plain wrote same =
     by (Raw part) is = wrote
     by (Qcow2 image) is = absurd is
     by CopyOnRead is = absurd is
+    by (Filter kind) is = absurd is
 
 pub zeros_plain : (old new : Nodes) (node : ℕ) (span : Extent) (outcome : Outcome) (may : MayWriteThrough old node) → IsPlain may.row.driver
     → WritesFile old new node span.start (replicate span.len 0) outcome → row_at new node ≡ row_at old node → ZerosPiece old new node span outcome
@@ -412,6 +394,7 @@ zeros_plain old new node span outcome may plain wrote same =
     by (Raw part) is = wrote
     by (Qcow2 image) is = absurd is
     by CopyOnRead is = absurd is
+    by (Filter kind) is = absurd is
 
 -- only devices have changed
 pub leaves_devices : (old : Nodes) (devices : List DeviceSeen) (node : ℕ) → LeavesNodes old (record old { devices = devices }) node

@@ -15,7 +15,8 @@ use Rattle.blk_graph.specs.declared.edge.Parent.TheVariants.{Guest}
 use Rattle.blk_graph.specs.declared.edge.Role.TheVariants.{File}
 use Rattle.blk_nodes.specs.Nodes.{Nodes, DeviceSeen, row_at, node_kind}
 use Rattle.blk_base.specs.Pieces.{Extent}
-use Rattle.blk_nodes.specs.declared.row.Driver.TheVariants.{Raw}
+use Rattle.blk_nodes.specs.declared.row.Driver.TheVariants.{Raw, Filter}
+use Rattle.blk_nodes.specs.declared.row.FilterKind.{FilterKind}
 use Rattle.blk_nodes.specs.declared.row.Row.{Row}
 use Rattle.blk_nodes.specs.declared.stop.AddStop.{AddStop}
 use Rattle.blk_nodes.specs.declared.stop.AddStop.TheVariants.{NameTaken, TooManyNodes, Conflict, NoMemory}
@@ -32,6 +33,14 @@ abbrev pub raw_row : Extent → Bool → Row
 raw_row part is_read_only = record {
   driver = Raw (record { offset = part.start; size = part.len });
   size = part.len;
+  is_read_only = is_read_only;
+}
+
+-- the row of a job's filter
+abbrev pub filtering_row : FilterKind → ℕ → Bool → Row
+filtering_row kind size is_read_only = record {
+  driver = Filter kind;
+  size = size;
   is_read_only = is_read_only;
 }
 

@@ -39,12 +39,14 @@ shows_below_at place (drivers.Raw part) = false
 shows_below_at place (drivers.Qcow2 image) =
     is_unallocated (entry_in image (place / cluster_size_in image))
 shows_below_at place drivers.CopyOnRead = false
+shows_below_at place (drivers.Filter kind) = false
 
 abbrev pub is_copy_on_read : Driver → Bool
 is_copy_on_read drivers.File = false
 is_copy_on_read (drivers.Raw part) = false
 is_copy_on_read (drivers.Qcow2 image) = false
 is_copy_on_read drivers.CopyOnRead = true
+is_copy_on_read (drivers.Filter kind) = false
 
 -- whether a read through a node puts the cluster of a place into the node below
 abbrev pub puts_below : Option Row → Option Row → ℕ → Bool

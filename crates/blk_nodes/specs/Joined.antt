@@ -3,9 +3,9 @@ use Rattle.std.specs.Prelude.{◌≡◌, ◌≢◌, ℕ, ◌+◌, ◌≤◌, Lis
 use Rattle.blk_graph.specs.Graph.{HasNode, IsSoundGraph}
 use Rattle.blk_graph.specs.Refreshed.{kind_at}
 use Rattle.q2_image.specs.Image.{Known, IsImageOf, IsOpen}
-use Rattle.blk_nodes.specs.Nodes.{Nodes, DeviceSeen, row_at, device_in, node_size, file_of, backing_of, node_kind}
+use Rattle.blk_nodes.specs.Nodes.{Nodes, DeviceSeen, row_at, device_in, node_size, file_of, backing_of, filtered_of, node_kind}
 use Rattle.blk_nodes.specs.declared.row.Driver.{Driver}
-use Rattle.blk_nodes.specs.declared.row.Driver.TheVariants.{File, Raw, Qcow2, CopyOnRead}
+use Rattle.blk_nodes.specs.declared.row.Driver.TheVariants.{File, Raw, Qcow2, CopyOnRead, Filter}
 use Rattle.blk_nodes.specs.declared.row.Row.{Row}
 
 -- a node is one over a device
@@ -43,12 +43,18 @@ pub record IsCopying (nodes : Nodes) (node size : ℕ) : Type 0 where
   pub edge : file_of nodes node ≡ Some child
   pub same : HasSize nodes child size
 
+-- the child of a job's filter, where it has one, has its size
+abbrev pub IsFiltering : Nodes → ℕ → ℕ → Type 0
+IsFiltering nodes node size =
+    (child : ℕ) → filtered_of nodes node ≡ Some child → HasSize nodes child size
+
 -- what a node needs below it
 abbrev pub HasBelow : Nodes → ℕ → ℕ → Driver → Type 0
 HasBelow nodes node size File = IsSome (device_in nodes.devices node)
 HasBelow nodes node size (Raw part) = IsPartOfFile nodes node part.offset part.size
 HasBelow nodes node size (Qcow2 image) = IsOverlay nodes node image
 HasBelow nodes node size CopyOnRead = IsCopying nodes node size
+HasBelow nodes node size (Filter kind) = IsFiltering nodes node size
 
 -- a node's size is what its driver says, and all sums of places fit
 abbrev pub IsSized : ℕ → Driver → Type 0
@@ -56,6 +62,7 @@ IsSized size File = Unit {0}
 IsSized size (Raw part) = (part.size ≡ size) × (part.offset + size ≤ 9223372036854775808)
 IsSized size (Qcow2 image) = image.header.size ≡ size
 IsSized size CopyOnRead = Unit {0}
+IsSized size (Filter kind) = Unit {0}
 
 -- two devices are of different nodes
 abbrev pub DifferInNode : DeviceSeen → DeviceSeen → Type 0

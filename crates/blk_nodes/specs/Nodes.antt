@@ -6,12 +6,14 @@ use Rattle.blk_base.specs.declared.fault.DevNo.{DevNo}
 use Rattle.blk_graph.specs.Graph.{Graph, no_graph}
 use Rattle.blk_graph.specs.Edits.{child_of}
 use Rattle.blk_graph.specs.declared.edge.Parent.TheVariants.{Node}
-use Rattle.blk_graph.specs.declared.edge.Role.TheVariants.{File as FileRole, Backing}
+use Rattle.blk_graph.specs.declared.edge.Role.TheVariants.{File as FileRole, Backing, Filtered}
 use Rattle.blk_graph.specs.declared.kind.Kind.{Kind}
 use Rattle.blk_graph.specs.declared.kind.Kind.TheVariants as kinds
 use Rattle.blk_graph.specs.declared.kind.NodeKind.{NodeKind}
 use Rattle.blk_nodes.specs.declared.row.Driver.{Driver}
-use Rattle.blk_nodes.specs.declared.row.Driver.TheVariants.{File, Raw, Qcow2, CopyOnRead}
+use Rattle.blk_nodes.specs.declared.row.Driver.TheVariants.{File, Raw, Qcow2, CopyOnRead, Filter}
+use Rattle.blk_nodes.specs.declared.row.FilterKind.{FilterKind}
+use Rattle.blk_nodes.specs.declared.row.FilterKind.TheVariants as filters
 use Rattle.blk_nodes.specs.declared.row.Row.{Row}
 
 -- the device of a `file` node: its number among the openings of the run, and what is seen of it
@@ -26,12 +28,18 @@ pub record DeviceSeen : Type 0 where
   pub faults : ℕ
   pub failed_call : Option DeviceCall
 
--- what a node is, as far as the permissions of its edges go
+-- what the filter of a job is, and what a node is, as far as the permissions of its edges go
+abbrev pub filter_kind : FilterKind → Kind
+filter_kind filters.BeforeWrite = kinds.BeforeWrite
+filter_kind filters.Mirror = kinds.Mirror
+filter_kind filters.Commit = kinds.Commit
+
 abbrev pub driver_kind : Driver → Kind
 driver_kind File = kinds.Protocol
 driver_kind (Raw _) = kinds.Raw
 driver_kind (Qcow2 _) = kinds.Qcow2
 driver_kind CopyOnRead = kinds.CopyOnRead
+driver_kind (Filter kind) = filter_kind kind
 
 abbrev pub kind_in : Row → Kind
 kind_in row = driver_kind row.driver
@@ -66,12 +74,15 @@ size_by (Some row) = row.size
 abbrev pub node_size : Nodes → ℕ → ℕ
 node_size nodes node = size_by (row_at nodes node)
 
--- the `file` node under a node, and its backing node
+-- the `file` node under a node, its backing node, and what it is the filter of
 abbrev pub file_of : Nodes → ℕ → Option ℕ
 file_of nodes node = child_of (Node node) FileRole nodes.graph.edges
 
 abbrev pub backing_of : Nodes → ℕ → Option ℕ
 backing_of nodes node = child_of (Node node) Backing nodes.graph.edges
+
+abbrev pub filtered_of : Nodes → ℕ → Option ℕ
+filtered_of nodes node = child_of (Node node) Filtered nodes.graph.edges
 
 -- the device of a `file` node tells its bytes
 abbrev pub IsFileTold : List DeviceSeen → ℕ → Type 0

@@ -3,7 +3,7 @@ use Rattle.std.specs.Prelude.{ℕ, ◌/◌, Bool, true, false, not, Option, Some
 use Rattle.q2_image.specs.Image.{cluster_size_in, entry_in}
 use Rattle.blk_nodes.specs.Copying.{is_unallocated}
 use Rattle.blk_nodes.specs.declared.row.Driver.{Driver}
-use Rattle.blk_nodes.specs.declared.row.Driver.TheVariants.{File, Raw, Qcow2, CopyOnRead}
+use Rattle.blk_nodes.specs.declared.row.Driver.TheVariants.{File, Raw, Qcow2, CopyOnRead, Filter}
 use Rattle.blk_nodes.specs.declared.row.Row.{Row}
 
 -- in its file, or in a cluster that its image maps, be it one that reads as zeros
@@ -13,6 +13,7 @@ has_own_by place (Raw part) = true
 has_own_by place (Qcow2 image) =
     not (is_unallocated (entry_in image (place / cluster_size_in image)))
 has_own_by place CopyOnRead = false
+has_own_by place (Filter kind) = false
 
 -- and where there is no node, nothing
 abbrev pub has_own : ℕ → Option Row → Bool

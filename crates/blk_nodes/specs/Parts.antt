@@ -17,7 +17,7 @@ use Rattle.blk_nodes.specs.Walk.{IsKnownAt, CanSourceBeRead}
 use Rattle.blk_nodes.specs.Writing.{taken_by, StaysMapped, IsDeviceAfter, IsImageCallAt, HasImageCause}
 use Rattle.blk_nodes.specs.declared.part.Part.{Part}
 use Rattle.blk_nodes.specs.declared.row.Driver.{Driver}
-use Rattle.blk_nodes.specs.declared.row.Driver.TheVariants.{File, Raw, Qcow2, CopyOnRead}
+use Rattle.blk_nodes.specs.declared.row.Driver.TheVariants.{File, Raw, Qcow2, CopyOnRead, Filter}
 use Rattle.blk_nodes.specs.declared.row.Row.{Row}
 
 -- a fact of the image of a qcow2 node
@@ -26,6 +26,7 @@ OfImageBy File P = ⊥
 OfImageBy (Raw part) P = ⊥
 OfImageBy (Qcow2 image) P = P image
 OfImageBy CopyOnRead P = ⊥
+OfImageBy (Filter kind) P = ⊥
 
 abbrev pub OfImage : Option Row → (Known → Type 0) → Type 0
 OfImage None P = ⊥

@@ -5,7 +5,7 @@ use Rattle.q2_format.specs.Contents.{guest_byte}
 use Rattle.q2_format.specs.declared.entries.L2Entry.{L2Entry}
 use Rattle.q2_format.specs.declared.entries.L2Entry.TheVariants as entries
 use Rattle.q2_image.specs.Image.{cluster_size_in, entry_in}
-use Rattle.blk_nodes.specs.Nodes.{Nodes, row_at, file_of, backing_of}
+use Rattle.blk_nodes.specs.Nodes.{Nodes, row_at, file_of, backing_of, filtered_of}
 use Rattle.blk_nodes.specs.Contents.{bytes_of}
 use Rattle.blk_nodes.specs.declared.row.Driver.{Driver}
 use Rattle.blk_nodes.specs.declared.row.Driver.TheVariants as drivers
@@ -38,17 +38,20 @@ step_by_entry node file backing entries.Compressed = Found Zeros
 step_by_entry node file backing entries.Reserved = Found Zeros
 
 -- a place of a node, with the nodes that are below it
-abbrev pub step_by : ℕ → Option ℕ → Option ℕ → ℕ → Driver → Step
-step_by node file backing place drivers.File = Found (File node place)
-step_by node file backing place (drivers.Raw part) = in_file file (part.offset + place)
-step_by node file backing place (drivers.Qcow2 image) =
+abbrev pub step_by : ℕ → Option ℕ → Option ℕ → Option ℕ → ℕ → Driver → Step
+step_by node file backing filtered place drivers.File = Found (File node place)
+step_by node file backing filtered place (drivers.Raw part) = in_file file (part.offset + place)
+step_by node file backing filtered place (drivers.Qcow2 image) =
     step_by_entry node file backing (entry_in image (place / cluster_size_in image))
-step_by node file backing place drivers.CopyOnRead = in_below file
+step_by node file backing filtered place drivers.CopyOnRead = in_below file
+step_by node file backing filtered place (drivers.Filter kind) = in_below filtered
 
 abbrev pub step_of : Nodes → ℕ → ℕ → Step
 step_of nodes node place = elim (row_at nodes node) as (λ _. Step) [
   | None ↦ Found Zeros
-  | Some row ↦ step_by node (file_of nodes node) (backing_of nodes node) place row.driver
+  | Some row ↦
+      step_by node (file_of nodes node) (backing_of nodes node) (filtered_of nodes node) place
+      row.driver
 ]
 
 -- down a chain of so many nodes

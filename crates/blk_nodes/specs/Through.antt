@@ -1,7 +1,7 @@
 -- A node below another gets bytes that the upper one reads as anyway.
 use Rattle.std.specs.Prelude.{◌≡◌, ◌≢◌, ◌⊎◌, ℕ, ◌+◌, ◌<◌, List, length, slice_index, Some}
 use Rattle.blk_nodes.specs.Contents.{bytes_of}
-use Rattle.blk_nodes.specs.Nodes.{Nodes, row_at, node_size, file_of, backing_of}
+use Rattle.blk_nodes.specs.Nodes.{Nodes, row_at, node_size, file_of, backing_of, filtered_of}
 use Rattle.blk_nodes.specs.Writing.{own_file}
 use Rattle.blk_nodes.specs.declared.row.Driver.TheVariants.{CopyOnRead}
 use Rattle.blk_nodes.specs.declared.row.Row.{Row}
@@ -29,3 +29,4 @@ pub record LeavesAllBut (old new : Nodes) (base file : ℕ) (Among : ℕ → Typ
   pub over : (n c : ℕ) → Among n → backing_of old n ≡ Some c → Among c
   pub filtered : (n c : ℕ) (row : Row) → Among n → row_at old n ≡ Some row → row.driver ≡ CopyOnRead
       → file_of old n ≡ Some c → Among c
+  pub passed : (n c : ℕ) → Among n → filtered_of old n ≡ Some c → Among c

@@ -172,6 +172,7 @@ own_file nodes node drivers.File = Some node
 own_file nodes node (drivers.Raw part) = file_of nodes node
 own_file nodes node (drivers.Qcow2 image) = file_of nodes node
 own_file nodes node drivers.CopyOnRead = None
+own_file nodes node (drivers.Filter kind) = None
 
 -- where a place of a node that is no image stands in its file
 abbrev pub own_start : Driver → ℕ → ℕ
@@ -284,6 +285,7 @@ IsDriverAfter (drivers.Qcow2 image) new =
     (now : Known) × (new ≡ drivers.Qcow2 now) × HasHeaderOf image now × StaysTaken image now
     × StaysMapped image now
 IsDriverAfter drivers.CopyOnRead new = new ≡ drivers.CopyOnRead
+IsDriverAfter (drivers.Filter kind) new = new ≡ drivers.Filter kind
 
 pub record IsRowAfter (old new : Row) : Type 0 where
   pub size : new.size ≡ old.size
@@ -325,6 +327,7 @@ CanBeWritten nodes node drivers.File = Unit {0}
 CanBeWritten nodes node (drivers.Raw part) = Unit {0}
 CanBeWritten nodes node (drivers.Qcow2 image) = IsOverApart nodes node
 CanBeWritten nodes node drivers.CopyOnRead = ⊥
+CanBeWritten nodes node (drivers.Filter kind) = ⊥
 
 -- A node that may be written: it isn't read-only, and no other node's image is in its file, so that a write through it breaks
 -- nothing that is known of one.

@@ -24,7 +24,7 @@ fn shows_below_at(row: &Row, place: u64) -> bool
     ensures { result ≡ shows_below_at place row.now.driver }
 {
     match &row.driver {
-        Driver::File | Driver::Raw(_) | Driver::CopyOnRead => false,
+        Driver::File | Driver::Raw(_) | Driver::CopyOnRead | Driver::Filter(_) => false,
         Driver::Qcow2(image) => is_unallocated(image.mapping(place / image.cluster_size())),
     }
 }
@@ -33,7 +33,7 @@ fn is_copy_on_read(row: &Row) -> bool
     ensures { result ≡ is_copy_on_read row.now.driver }
 {
     match &row.driver {
-        Driver::File | Driver::Raw(_) | Driver::Qcow2(_) => false,
+        Driver::File | Driver::Raw(_) | Driver::Qcow2(_) | Driver::Filter(_) => false,
         Driver::CopyOnRead => true,
     }
 }
@@ -56,6 +56,6 @@ pub(crate) fn has_own(row: &Row, place: u64) -> bool
     match &row.driver {
         Driver::File | Driver::Raw(_) => true,
         Driver::Qcow2(image) => !is_unallocated(image.mapping(place / image.cluster_size())),
-        Driver::CopyOnRead => false,
+        Driver::CopyOnRead | Driver::Filter(_) => false,
     }
 }

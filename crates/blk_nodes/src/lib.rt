@@ -22,4 +22,5 @@ pub use backing::Backing;
 pub use handing::DevicesLeft;
 pub use laws::base_leaves_top;
 pub use nodes::{NodeUse, Nodes};
+pub use row::FilterKind;
 pub use stop::{AddStop, FormatStop};

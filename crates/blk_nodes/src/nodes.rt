@@ -22,6 +22,7 @@ mod copying;
 mod covering;
 mod dropping;
 mod ending;
+mod filtering;
 mod flushing;
 mod formatting;
 mod imaging;
@@ -433,9 +434,10 @@ impl<D: Device> Nodes<D> {
     {
         let file = self.graph.child(Parent::Node(node), Role::File);
         let backing = self.graph.child(Parent::Node(node), Role::Backing);
+        let filtered = self.graph.child(Parent::Node(node), Role::Filtered);
         match &self.rows[node.index()] {
             None => Step::Found(Source::Zeros),
-            Some(row) => step(row, node, file, backing, place),
+            Some(row) => step(row, node, file, backing, filtered, place),
         }
     }
 

@@ -1,7 +1,7 @@
 //! What a node is.
 ghost use Rattle.std.specs.Prelude.{◌≡◌, ◌<◌, not};
 ghost use Rattle.blk_nodes.specs.Joined.{IsSized};
-ghost use Rattle.blk_nodes.specs.Nodes.{kind_in};
+ghost use Rattle.blk_nodes.specs.Nodes.{filter_kind, kind_in};
 ghost use Rattle.blk_nodes.specs.Sources.{step_by};
 
 use crate::source::{Source, Step, in_below, in_file, in_mapped};
@@ -15,6 +15,30 @@ pub(crate) struct RawImage {
     pub size: u64,
 }
 
+/// What a filter that a job puts is of.
+#[derive(Clone, Copy, Debug, PartialEq, Eq)]
+pub enum FilterKind {
+    /// Of a backup.
+    BeforeWrite,
+    /// Of a mirror.
+    Mirror,
+    /// Of a commit.
+    Commit,
+}
+
+impl FilterKind {
+    /// What a node of this kind is.
+    pub(crate) fn kind(self) -> Kind
+        ensures { result ≡ filter_kind self }
+    {
+        match self {
+            FilterKind::BeforeWrite => Kind::BeforeWrite,
+            FilterKind::Mirror => Kind::Mirror,
+            FilterKind::Commit => Kind::Commit,
+        }
+    }
+}
+
 /// How a node reads what is below it.
 #[derive(Debug, Drop)]
 pub(crate) enum Driver {
@@ -26,6 +50,8 @@ pub(crate) enum Driver {
     Qcow2(Image),
     /// As the node below.
     CopyOnRead,
+    /// The filter of a job: as the node below, of which it keeps nothing.
+    Filter(FilterKind),
 }
 
 /// A node but for its name and edges.
@@ -47,6 +73,7 @@ impl Row {
             Driver::Raw(_) => Kind::Raw,
             Driver::Qcow2(_) => Kind::Qcow2,
             Driver::CopyOnRead => Kind::CopyOnRead,
+            Driver::Filter(kind) => kind.kind(),
         }
     }
 }
@@ -67,11 +94,12 @@ pub(crate) fn step(
     node: NodeId,
     file: Option<NodeId>,
     backing: Option<NodeId>,
+    filtered: Option<NodeId>,
     place: u64,
 ) -> Step
     requires sized { IsSized row.now.size row.now.driver }
     requires inside { place < row.now.size }
-    ensures { result ≡ step_by node file backing place row.now.driver }
+    ensures { result ≡ step_by node file backing filtered place row.now.driver }
 {
     match &row.driver {
         Driver::File => Step::Found(Source::File {
@@ -86,5 +114,6 @@ pub(crate) fn step(
             image.mapping(place / image.cluster_size()),
         ),
         Driver::CopyOnRead => in_below(file),
+        Driver::Filter(_) => in_below(filtered),
     }
 }

@@ -27,6 +27,7 @@ driver_then (drivers.Qcow2 image) b c first next =
     let on : IsDriverAfter (drivers.Qcow2 first.0) c = subst (λ (d : Driver). IsDriverAfter d c) first.1 next in
     (on.0, on.1, on.2 ∙ first.2, (λ n taken. on.3 n (first.3 n taken)), λ cluster mapped. on.4 cluster (first.4 cluster mapped))
 driver_then drivers.CopyOnRead b c first next = subst (λ (d : Driver). IsDriverAfter d c) first next
+driver_then (drivers.Filter kind) b c first next = subst (λ (d : Driver). IsDriverAfter d c) first next
 
 row_then : (a b c : Row) → IsRowAfter a b → IsRowAfter b c → IsRowAfter a c
 row_then a b c first next = record {

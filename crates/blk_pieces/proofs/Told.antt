@@ -34,6 +34,7 @@ torn_write old new node part bytes done dev count drivers.File wrote = torn_file
 torn_write old new node part bytes done dev count (drivers.Raw p) wrote = torn_file wrote.at.before wrote.at.after wrote.start (length bytes) done dev count wrote.at.wrote.cause
 torn_write old new node part bytes done dev count (drivers.Qcow2 image) wrote = torn_image _ (length bytes) done wrote.cause.1
 torn_write old new node part bytes done dev count drivers.CopyOnRead wrote = torn_file wrote.at.before wrote.at.after wrote.start (length bytes) done dev count wrote.at.wrote.cause
+torn_write old new node part bytes done dev count (drivers.Filter kind) wrote = torn_file wrote.at.before wrote.at.after wrote.start (length bytes) done dev count wrote.at.wrote.cause
 
 torn_zero : (old new : Nodes) (node : ℕ) (part : Extent) (done : ℕ) (dev : DevNo) (count : ℕ) (d : Driver) → ZerosBy d old new node part (Torn done dev count)
     → (0 < done) × (done < part.len)
@@ -47,6 +48,10 @@ torn_zero old new node part done dev count (drivers.Raw p) wrote =
     (is.0, omega (arith, is.1, len))
 torn_zero old new node part done dev count (drivers.Qcow2 image) wrote = torn_image _ part.len done wrote.cause.1
 torn_zero old new node part done dev count drivers.CopyOnRead wrote =
+    let is = torn_file wrote.at.before wrote.at.after wrote.start (length (replicate {A = ℕ} part.len 0)) done dev count wrote.at.wrote.cause in
+    let len = length-replicate {A = ℕ} part.len 0 in
+    (is.0, omega (arith, is.1, len))
+torn_zero old new node part done dev count (drivers.Filter kind) wrote =
     let is = torn_file wrote.at.before wrote.at.after wrote.start (length (replicate {A = ℕ} part.len 0)) done dev count wrote.at.wrote.cause in
     let len = length-replicate {A = ℕ} part.len 0 in
     (is.0, omega (arith, is.1, len))
@@ -85,7 +90,10 @@ torn_by old new drive node (Write span payload) part done dev count buffer did =
     (refl, is.0, omega (arith, is.1, len))
 torn_by old new drive node (Zero span) part done dev count buffer did =
     let is = torn_zero old new node part done dev count did.0.row.driver did.0.wrote in (refl, is.0, is.1)
-torn_by old new drive node Flush part done dev count buffer did = absurd did.flushed.flush.cause
+torn_by old new drive node Flush part done dev count buffer did = absurd (elim did.flushed [
+  | inl on ↦ on.flush.cause
+  | inr none ↦ let bad : ⊥ = cc none.2 in bad
+])
 torn_by old new drive node (Discard span) part done dev count buffer did = absurd did
 
 -- ---- what is shown

@@ -87,6 +87,13 @@ impl JobWork {
         let _ = &self.job;
     }
 
+    /// The job's number in the run.
+    pub fn job(&self) -> u32
+        ensures { result ≡ self.now.job }
+    {
+        self.job
+    }
+
     /// The first fault that the job met; nothing is done for it any more.
     pub fn met(&self) -> Option<Fault>
         ensures { result ≡ self.now.met }

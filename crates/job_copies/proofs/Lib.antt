@@ -1,2 +1,4 @@
 pub mod Left
 pub mod Settled
+pub mod Taken
+pub mod Passed

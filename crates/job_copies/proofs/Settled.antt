@@ -25,14 +25,14 @@ use Rattle.job_copies.proofs.Left.{asked_is, bit_is, here, now_is, of_asked, owe
 
 -- ---- all sectors
 
-all_set : (s : ℕ) → s < 128 → has_sector (2 ^ 128 - 1) s ≡ true
+pub all_set : (s : ℕ) → s < 128 → has_sector (2 ^ 128 - 1) s ≡ true
 all_set s less =
     let all : mask_l (replicate 128 true) ≡ 2 ^ 128 - 1 = refl in
     ap (λ (n : ℕ). has_sector n s) (sym all)
     ∙ bit_is true (mask_l (replicate 128 true) / 2 ^ s % 2)
     (bit_mask_l (replicate 128 true) s ∙ ap (λ (b : Bool). cond b 1 0) (get_or-replicate 128 s true false less))
 
-all_asked : (size block place : ℕ) → place < size → block_at place ≡ block → is_asked (block_of size block) (2 ^ 128 - 1) place ≡ true
+pub all_asked : (size block place : ℕ) → place < size → block_at place ≡ block → is_asked (block_of size block) (2 ^ 128 - 1) place ≡ true
 all_asked size block place less at =
     let low : block * 65536 ≤ place = omega (arith, at) in
     let high : place < block * 65536 + 65536 = omega (arith, at) in
@@ -41,7 +41,7 @@ all_asked size block place less at =
     let last : nat_lt place (end_of (block_of size block)) ≡ true = grind (arith, nat_tests) in
     rw (first, last) (all_set ((place - block * 65536) / 512) (omega (arith, low, high)))
 
-asked_inside : (size block sectors place : ℕ) → is_asked (block_of size block) sectors place ≡ true → block_at place ≡ block
+pub asked_inside : (size block sectors place : ℕ) → is_asked (block_of size block) sectors place ≡ true → block_at place ≡ block
 asked_inside size block sectors place asked =
     let parts = two (nat_le (block * 65536) place) (nat_lt place (end_of (block_of size block))) (has_sector sectors (sector_at (block_of size block) place)) asked in
     let low : block * 65536 ≤ place = let a = parts.0 in grind (arith, nat_tests) in

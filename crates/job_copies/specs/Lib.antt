@@ -1,2 +1,4 @@
 pub mod Guarding
 pub mod Settling
+pub mod Passing
+pub mod Taking

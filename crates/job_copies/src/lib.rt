@@ -2,7 +2,11 @@
 #![tactic(auto)]
 
 mod guarding;
+mod passing;
 mod settling;
+mod taking;
 
 pub use guarding::guard;
+pub use passing::{commit_next, stream_next};
 pub use settling::settle;
+pub use taking::take;

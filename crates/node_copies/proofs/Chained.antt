@@ -1,12 +1,12 @@
 -- A chain of nodes that have nothing of their own shows what is at its end.
-use Rattle.std.proofs.Common.{◌≡◌, ◌≢◌, ℕ, zero, suc, ◌+◌, ◌-◌, ◌*◌, ◌/◌, ◌%◌, ◌<◌, ◌≤◌, min, Bool, true, false, not, cond, List, [], ◌∷◌, get_or, Option, Some, None, refl, sym, ◌∙◌, ap, arith, inl, inr}
+use Rattle.std.proofs.Common.{◌≡◌, ◌≢◌, ℕ, zero, suc, ◌+◌, ◌-◌, ◌*◌, ◌/◌, ◌%◌, ◌<◌, ◌≤◌, min, Bool, true, false, not, cond, List, [], ◌∷◌, get_or, replicate, Option, Some, None, refl, sym, ◌∙◌, ap, arith, inl, inr}
 use Rattle.std.specs.Prelude.{◌⊎◌, ◌||◌}
 use Rattle.std.specs.List.{list_any}
-use Rattle.std.proofs.lemmas.List.{ext_get_or}
+use Rattle.std.proofs.lemmas.List.{ext_get_or, get_or-replicate}
 use Rattle.blk_base.specs.Content.{bytes_at}
 use Rattle.blk_base.proofs.Contents.{bytes_at-by_place, get_or-bytes_at, length-bytes_at}
 use Rattle.blk_graph.specs.declared.edge.Parent.TheVariants.{Node}
-use Rattle.blk_graph.specs.declared.edge.Role.TheVariants.{File as FileRole, Backing}
+use Rattle.blk_graph.specs.declared.edge.Role.TheVariants.{File as FileRole, Backing, Filtered}
 use Rattle.blk_graph.proofs.ChildLemmas.{child-edge}
 use Rattle.q2_format.specs.Contents.{byte_by_entry, guest_byte, image_disk}
 use Rattle.q2_format.specs.Header.{header_of}
@@ -18,14 +18,14 @@ use Rattle.q2_image.specs.Guest.{file_entry}
 use Rattle.q2_image.specs.Image.{Known, IsImageOf, cluster_size_in, entry_in}
 use Rattle.q2_image.proofs.Guests.{guest_unallocated, length-image_disk}
 use Rattle.q2_image.proofs.Mapped.{entry_of_file}
-use Rattle.blk_nodes.specs.Contents.{disk_under, disk_by, disk_down, disk_of, bytes_of}
+use Rattle.blk_nodes.specs.Contents.{disk_under, disk_through, disk_by, disk_down, disk_of, bytes_of}
 use Rattle.blk_nodes.specs.Copying.{is_unallocated}
 use Rattle.blk_nodes.specs.Joined.{IsCopying, IsOverlay, IsJoined}
 use Rattle.blk_nodes.specs.Nodes.{Nodes, AreTold, row_at, size_by, node_size, file_of, backing_of}
 use Rattle.blk_nodes.specs.Owning.{has_own, has_own_by}
 use Rattle.blk_nodes.specs.Parts.{IsImage}
 use Rattle.blk_nodes.specs.declared.row.Driver.{Driver}
-use Rattle.blk_nodes.specs.declared.row.Driver.TheVariants.{File, Raw, Qcow2, CopyOnRead}
+use Rattle.blk_nodes.specs.declared.row.Driver.TheVariants.{File, Raw, Qcow2, CopyOnRead, Filter}
 use Rattle.blk_nodes.specs.declared.row.Row.{Row}
 use Rattle.blk_nodes.proofs.Chains.{get_or-image_disk, has_entry}
 use Rattle.blk_nodes.proofs.Copied.{IsOver, below_reads, below_size}
@@ -71,7 +71,8 @@ module _ (nodes : Nodes) (node place : ℕ) where
   over_driver row next (Qcow2 image) there driver own below =
       let bare : is_unallocated (entry_in image (place / cluster_size_in image)) ≡ true = not_free (is_unallocated (entry_in image (place / cluster_size_in image))) own in
       record { row = row; there = there; how = inr (image, driver, bare_entry (entry_in image (place / cluster_size_in image)) bare, below) }
-  over_driver row next CopyOnRead there driver own below = record { row = row; there = there; how = inl (driver, below) }
+  over_driver row next CopyOnRead there driver own below = record { row = row; there = there; how = inl (inl (driver, below)) }
+  over_driver row next (Filter kind) there driver own below = record { row = row; there = there; how = inl (inr (kind, driver, below)) }
 
   pub over_is : (next : ℕ) → has_own place (row_at nodes node) ≡ false → below_of nodes node ≡ Some next → IsOver nodes node place next
   over_is next own below = by (row_at nodes node) refl own below
@@ -154,6 +155,14 @@ module _ (nodes : Nodes) (joined : IsJoined nodes) (told : AreTold nodes.devices
       let is : IsCopying nodes node row.size = rw driver at (joined.below node row there) in
       let bad : Some is.child ≡ None = sym is.edge ∙ none in
       absurd (cc bad)
+  nothing_driver node row (Filter kind) there driver own none inside =
+      let lone : disk_of nodes node ≡ replicate (node_size nodes node) 0
+      = unfolds nodes joined node row there ∙ ap (disk_by nodes (disk_of nodes) node) driver
+      ∙ ap (disk_through (node_size nodes node) (disk_of nodes)) none in
+      bytes_at-by_place [] (bytes_at (disk_of nodes node) place n) place n (length-bytes_at (disk_of nodes node) place n)
+      (λ i less.
+      get_or-bytes_at (disk_of nodes node) place n i less ∙ ap (λ (d : List ℕ). get_or d (place + i) 0) lone
+      ∙ get_or-replicate (node_size nodes node) (place + i) 0 0 (omega (arith, inside, less)))
 
   nothing_below : (node : ℕ) → Own node ≡ false → below_of nodes node ≡ None → place + n ≤ node_size nodes node → Reads node None
   nothing_below node own none inside = by (row_at nodes node) refl own none
@@ -170,8 +179,12 @@ module _ (nodes : Nodes) (joined : IsJoined nodes) (told : AreTold nodes.devices
 
   starts_on : (turns node next : ℕ) → IsOver nodes node place next → StartsAt nodes.graph.edges turns next → StartsAt nodes.graph.edges (suc turns) node
   starts_on turns node next over starts = elim over.how [
-    | inl filter ↦
-        let e = child-edge (Node node) FileRole nodes.graph.edges next filter.1 in (e.edge, e.there, e.from, rw e.to starts)
+    | inl filter ↦ elim filter [
+      | inl copies ↦
+          let e = child-edge (Node node) FileRole nodes.graph.edges next copies.1 in (e.edge, e.there, e.from, rw e.to starts)
+      | inr passes ↦
+          let e = child-edge (Node node) Filtered nodes.graph.edges next passes.2 in (e.edge, e.there, e.from, rw e.to starts)
+    ]
     | inr image ↦
         let e = child-edge (Node node) Backing nodes.graph.edges next image.3 in (e.edge, e.there, e.from, rw e.to starts)
   ]

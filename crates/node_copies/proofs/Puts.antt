@@ -78,6 +78,7 @@ module _ (old new : Nodes) (now : IsJoined new) where
       by (drivers.Raw part) wrote = told_file node span.start bytes outcome wrote
       by (drivers.Qcow2 image) wrote = told_image _ _ _ node (length bytes) outcome wrote
       by drivers.CopyOnRead wrote = told_file node span.start bytes outcome wrote
+      by (drivers.Filter kind) wrote = told_file node span.start bytes outcome wrote
 
   pub told_zeroed : (node : ℕ) (span : Extent) (outcome : Outcome) → ZerosPiece old new node span outcome → AreTold old.devices → AreTold new.devices
   told_zeroed node span outcome is = by is.row.driver is.wrote
@@ -87,6 +88,7 @@ module _ (old new : Nodes) (now : IsJoined new) where
       by (drivers.Raw part) wrote = told_file node span.start (replicate span.len 0) outcome wrote
       by (drivers.Qcow2 image) wrote = told_image _ _ _ node span.len outcome wrote
       by drivers.CopyOnRead wrote = told_file node span.start (replicate span.len 0) outcome wrote
+      by (drivers.Filter kind) wrote = told_file node span.start (replicate span.len 0) outcome wrote
 
 -- zeros are what a span of them has
 pub all_zeros : (bytes : List ℕ) → All (λ b. b ≡ 0) bytes → bytes ≡ replicate (length bytes) 0
@@ -115,6 +117,7 @@ module _ (old new : Nodes) (node : ℕ) (kept : LeavesNodes old new node) where
   own_file_by (drivers.Raw part) e is = ap (own_file new node) is ∙ child_kept node FileRole
   own_file_by (drivers.Qcow2 image) e is = ap (own_file new node) is.1 ∙ child_kept node FileRole
   own_file_by drivers.CopyOnRead e is = ap (own_file new node) is
+  own_file_by (drivers.Filter kind) e is = ap (own_file new node) is
 
   can_by : (d e : Driver) → IsDriverAfter d e → CanBeWritten old node d → CanBeWritten new node e
   can_by drivers.File e is can = subst (CanBeWritten new node) (sym is) tt
@@ -122,6 +125,7 @@ module _ (old new : Nodes) (node : ℕ) (kept : LeavesNodes old new node) where
   can_by (drivers.Qcow2 image) e is can = subst (CanBeWritten new node) (sym is.1) (λ over file backing edge leads.
       can over file (sym (child_kept node Backing) ∙ backing) (sym (child_kept node FileRole) ∙ edge) (subst (λ (g : Graph). LeadsTo g.edges over file) kept.graph leads))
   can_by drivers.CopyOnRead e is can = absurd can
+  can_by (drivers.Filter kind) e is can = absurd can
 
   -- of a row and the one that it was
   own_after : (row : Row) → row_at old node ≡ Some row → (now : Row) × (row_at new node ≡ Some now) × IsRowAfter row now
@@ -132,6 +136,7 @@ module _ (old new : Nodes) (node : ℕ) (kept : LeavesNodes old new node) where
   image_by (drivers.Raw part) e image is same = let bad : drivers.Raw part ≡ drivers.Qcow2 image = sym is ∙ same in absurd (cc bad)
   image_by (drivers.Qcow2 was) e image is same = (was, refl)
   image_by drivers.CopyOnRead e image is same = let bad : drivers.CopyOnRead ≡ drivers.Qcow2 image = sym is ∙ same in absurd (cc bad)
+  image_by (drivers.Filter kind) e image is same = let bad : drivers.Filter kind ≡ drivers.Qcow2 image = sym is ∙ same in absurd (cc bad)
 
   image_was : (n file : ℕ) → HasImageIn new n file → HasImageIn old n file
   image_was n file has = elim (cases_eq n node) [
@@ -191,6 +196,7 @@ then_driver (drivers.Qcow2 image) b c ab bc =
     let next : IsDriverAfter (drivers.Qcow2 ab.0) c = subst (λ (d : Driver). IsDriverAfter d c) ab.1 bc in
     (next.0, next.1, next.2 ∙ ab.2, (λ n taken. next.3 n (ab.3 n taken)), λ cluster mapped. next.4 cluster (ab.4 cluster mapped))
 then_driver drivers.CopyOnRead b c ab bc = let P : Driver → Type 0 = λ d. IsDriverAfter d c in subst P ab bc
+then_driver (drivers.Filter kind) b c ab bc = let P : Driver → Type 0 = λ d. IsDriverAfter d c in subst P ab bc
 
 then_rows : (a b c : Option Row) → AreRowsAfter a b → AreRowsAfter b c → AreRowsAfter a c
 then_rows None b c ab bc = let P : Option Row → Type 0 = λ r. AreRowsAfter r c in subst P ab bc
@@ -217,6 +223,7 @@ driver_refl drivers.File = refl
 driver_refl (drivers.Raw part) = refl
 driver_refl (drivers.Qcow2 image) = (image, refl, refl, (λ n taken. taken), λ cluster mapped. mapped)
 driver_refl drivers.CopyOnRead = refl
+driver_refl (drivers.Filter kind) = refl
 
 row_refl : (found : Option Row) → AreRowsAfter found found
 row_refl None = refl

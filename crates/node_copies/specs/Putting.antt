@@ -1,5 +1,5 @@
 -- Sectors that are put to a node, run by run, and what that leaves of the nodes.
-use Rattle.std.specs.Prelude.{◌≡◌, ◌≢◌, ◌⊎◌, ℕ, ◌-◌, true, List, [], ◌∷◌, All, length, slice_index, Result, Ok, Err}
+use Rattle.std.specs.Prelude.{◌≡◌, ◌≢◌, ◌⊎◌, ℕ, ◌-◌, true, List, [], ◌∷◌, All, length, take, slice_index, Result, Ok, Err}
 use Rattle.blk_base.specs.Content.{with_bytes}
 use Rattle.blk_base.specs.Pieces.{Extent}
 use Rattle.blk_base.specs.declared.fault.Fault.{Fault}
@@ -77,3 +77,12 @@ pub record CopiesBlock (old new : Nodes) (from to : ℕ) (block : Extent) (secto
   pub kept : between ≡ record old { devices = between.devices }
   pub found : AreTold old.devices → ReadsDisk read (disk_of old from) block bytes
   pub behind : CopiesBehind read between new to block sectors bytes result
+
+-- A block of a node's disk is read to the front of a buffer.
+pub record ReadsBlock (old new : Nodes) (from : ℕ) (block : Extent) (buffer : List ℕ)
+    (read : Outcome) : Type 0 where
+  pub went : IsReadBelow old new from read
+  pub source : IsReadOfSource old.rows (source_at old from block.start) block old.devices
+      new.devices read
+  pub kept : new ≡ record old { devices = new.devices }
+  pub found : AreTold old.devices → ReadsDisk read (disk_of old from) block (take block.len buffer)

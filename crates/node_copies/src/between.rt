@@ -1,9 +1,9 @@
 //! The nodes of a chain down to a base.
-ghost use Rattle.std.specs.Prelude.{◌≡◌, ◌*◌, ◌<◌};
+ghost use Rattle.std.specs.Prelude.{◌≡◌, ◌*◌, ◌<◌, false};
 ghost use Rattle.std.specs.List.{list_any};
 ghost use Rattle.blk_nodes.specs.Nodes.{node_size, row_at};
 ghost use Rattle.blk_nodes.specs.Owning.{has_own};
-ghost use Rattle.node_copies.specs.Between.{below_of, between_in, is_base, is_held_between};
+ghost use Rattle.node_copies.specs.Between.{below_of, between_in, is_base, is_held_between, is_held_below};
 
 use blk_base::{Device, PIECE};
 use blk_graph::{Kind, NodeId, Role};
@@ -16,7 +16,8 @@ fn below_of<D: Device>(nodes: &Nodes<D>, node: NodeId) -> Option<NodeId>
     match nodes.kind(node) {
         Some(Kind::Qcow2) => nodes.child(node, Role::Backing),
         Some(Kind::CopyOnRead) => nodes.child(node, Role::File),
-        _ => None,
+        Some(Kind::BeforeWrite | Kind::Mirror | Kind::Commit) => nodes.child(node, Role::Filtered),
+        Some(Kind::Protocol | Kind::Raw) | None => None,
     }
 }
 
@@ -69,4 +70,24 @@ pub fn held_between<D: Device>(
 {
     let _ = nodes.size(top);
     is_held_in(nodes, 64, &base, top, block * PIECE)
+}
+
+/// Whether a node below `top`, down to just above the base, has the block of its own, where the top has nothing of it.
+#[tactic(auto, unfolding(crate::specs::Between::nodes_between))]
+pub fn held_below<D: Device>(
+    nodes: &Nodes<D>,
+    top: NodeId,
+    base: Option<NodeId>,
+    block: u64,
+) -> bool
+    requires block { block * 65536 < node_size nodes.now top }
+    requires own { has_own (block * 65536) (row_at nodes.now top) ≡ false }
+    ensures { result ≡ is_held_below nodes.now base top (block * 65536) }
+{
+    let _ = nodes.edges();
+    let _ = nodes.size(top);
+    match below_of(nodes, top) {
+        None => false,
+        Some(next) => is_held_in(nodes, 64, &base, next, block * PIECE),
+    }
 }

@@ -63,7 +63,7 @@ impl<D: Device> Nodes<D> {
             None => false,
             Some(row) => match &row.driver {
                 Driver::Qcow2(image) => image.is_empty(),
-                Driver::File | Driver::Raw(_) | Driver::CopyOnRead => false,
+                Driver::File | Driver::Raw(_) | Driver::CopyOnRead | Driver::Filter(_) => false,
             },
         }
     }

@@ -1,14 +1,7 @@
 use Rattle.std.proofs.Common.{sym}
 use Rattle.blk_nodes.specs.Nodes.{Nodes}
-use Rattle.blk_nodes.proofs.Written.{base_held, joined_flushed, disks_flushed}
+use Rattle.blk_nodes.proofs.Written.{joined_flushed, disks_flushed}
 use Rattle.blk_nodes.proofs.nodes.Nodes.flush_node.Goals as goal
-
-pub flush_file-requires : goal.flush_file-requires
-flush_file-requires g c =
-    let nodes : Nodes = record { graph = c.self.inside.graph; rows = c.self.inside.rows.items; devices = c.self.inside.devices } in
-    let has = rw (sym c.self.view_is) at c.requires in
-    let base = rw (sym c.self.view_is) at c.base-base.ensures in
-    rw base (base_held nodes c.self.invariant c.args.node has)
 
 pub invariant_of-self : goal.invariant_of-self
 invariant_of-self g c =

@@ -17,11 +17,11 @@ returns-in-Some-clause-walk g c =
     let size : node_size nodes c.args.node ≡ c.in-Some.row.size = ap size_by there in
     let inside : c.args.place < node_size nodes c.args.node = rw (sym c.self.view_is) at c.requires in
     rw (sym c.self.view_is)
-    (rw (c.step.ensures, c.child-file.ensures.child, c.child-backing.ensures.child)
+    (rw (c.step.ensures, c.child-file.ensures.child, c.child-backing.ensures.child, c.child-filtered.ensures.child)
     (goes_by nodes c.args.node c.args.place c.in-Some.row c.in-Some.row.driver c.self.invariant there refl (omega (arith, size, inside))))
 
 pub returns-in-Some-clause-leads : goal.returns-in-Some-clause-leads
 returns-in-Some-clause-leads g c =
     rw (sym c.self.view_is)
-    (rw (c.step.ensures, c.child-file.ensures.child, c.child-backing.ensures.child)
+    (rw (c.step.ensures, c.child-file.ensures.child, c.child-backing.ensures.child, c.child-filtered.ensures.child)
     (step_leads c.self.inside.graph.edges c.args.node c.args.place c.in-Some.row.driver))
