@@ -4,5 +4,6 @@ pub mod Folds
 pub mod Tellings
 pub mod Lines
 pub mod Outcomes
+pub mod JobLines
 pub mod Verbs
 pub mod OneGuest

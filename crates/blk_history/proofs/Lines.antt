@@ -176,7 +176,7 @@ name-byte x h = both-true (not (x == 32)) (in_line x) (other 32 refl) (other 10 
     other : (y : ℕ) → is_name_byte y ≡ false → not (x == y) ≡ true
     other y none = ap not (ne_eqb x y (λ same. let never = subst (λ n. is_name_byte n ≡ true) same h in cc))
 
-name-bytes : (xs : List ℕ) → list_all is_name_byte xs ≡ true → IsWord xs
+pub name-bytes : (xs : List ℕ) → list_all is_name_byte xs ≡ true → IsWord xs
 name-bytes [] h = refl
 name-bytes (x ∷ xs) h =
     let parts = and_parts (is_name_byte x) (list_all is_name_byte xs) h in

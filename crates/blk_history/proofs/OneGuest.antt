@@ -21,7 +21,7 @@ use Rattle.blk_history.specs.Alone.{PrintsOneHistory}
 use Rattle.blk_history.proofs.Folds.{with-some, with-at, length-change, slice-there}
 use Rattle.blk_history.proofs.Lines.{words_then, after-verb, same-word}
 use Rattle.blk_history.proofs.Outcomes.{one-outcome, one-told}
-use Rattle.blk_history.proofs.Verbs.{IsOfNoJob, event_verb, verb_in, verb-told, line-there}
+use Rattle.blk_history.proofs.Verbs.{event_verb, verb_in, verb-told, line-there}
 
 -- ---- one guest
 
@@ -53,18 +53,6 @@ as-many s (Start job) = refl
 as-many s (Ready job) = refl
 as-many s (End job outcome offset) = refl
 as-many s (Done actor) = refl
-
-of-no-job : (s : IoState) (e : Event) → FitsIo s e → IsOfNoJob e
-of-no-job s (Start job) fits = fits
-of-no-job s (Ready job) fits = fits
-of-no-job s (End job outcome offset) fits = fits
-of-no-job s (Admit g r op) fits = tt
-of-no-job s (Refuse g r op why) fits = tt
-of-no-job s (Piece g r k outcome got) fits = tt
-of-no-job s (Retire g r) fits = tt
-of-no-job s (Reply line given command text) fits = tt
-of-no-job s (Reached line what) fits = tt
-of-no-job s (Done actor) fits = tt
 
 -- ---- what it asks
 
@@ -197,7 +185,7 @@ all-same names (x ∷ es) [] s one lh lk asked sh sk e = absurd (line-there name
 all-same names (x ∷ es) (f ∷ fs) s one lh lk asked sh sk e =
     let r = flat_map (entry_line names) es in
     let q = flat_map (entry_line names) fs in
-    let verbs : event_verb x ≡ event_verb f = sym (verb-told names x r (of-no-job s x lh.0)) ∙ ap verb_in e ∙ verb-told names f q (of-no-job s f lk.0) in
+    let verbs : event_verb x ≡ event_verb f = sym (verb-told names x r) ∙ ap verb_in e ∙ verb-told names f q in
     let same : x ≡ f = same-entry s names one x f es fs verbs lh.0 lk.0 asked (All-head IsSmall x es sh) (All-head IsSmall f fs sk) r q e in
     let rest : r ≡ q = append_cancel_left (entry_line names x) r q (e ∙ ap (λ y. entry_line names y ++ q) (sym same)) in
     let asked-on : asked_by 0 es ≡ asked_by 0 fs = asked-rest x es fs (subst (λ y. asked_by 0 (x ∷ es) ≡ asked_by 0 (y ∷ fs)) (sym same) asked) in

@@ -49,13 +49,13 @@ first-is-word (Torn done dev count) = refl
 first-is-word (Io dev count) = refl
 first-is-word (NoSpace dev) = refl
 
-same-count : (m n : ℕ) (ws vs : List (List ℕ)) (r q : List ℕ) → m < 2 ^ 64 → n < 2 ^ 64
+pub same-count : (m n : ℕ) (ws vs : List (List ℕ)) (r q : List ℕ) → m < 2 ^ 64 → n < 2 ^ 64
     → words_then (decimal m ∷ ws) r ≡ words_then (decimal n ∷ vs) q → (m ≡ n) × (words_then ws r ≡ words_then vs q)
 same-count m n ws vs r q small_m small_n e =
     let first = first-word (decimal m) (decimal n) ws vs r q (decimal-word m) (decimal-word n) e in
     (decimal_injective m n small_m small_n first.0, first.1)
 
-same-dev : (a b : DevNo) (ws vs : List (List ℕ)) (r q : List ℕ) → a.0 < 2 ^ 64 → b.0 < 2 ^ 64
+pub same-dev : (a b : DevNo) (ws vs : List (List ℕ)) (r q : List ℕ) → a.0 < 2 ^ 64 → b.0 < 2 ^ 64
     → words_then (dev_word a ∷ ws) r ≡ words_then (dev_word b ∷ vs) q → (a ≡ b) × (words_then ws r ≡ words_then vs q)
 same-dev a b ws vs r q small_a small_b e =
     let first = first-word (dev_word a) (dev_word b) ws vs r q (device-word a) (device-word b) e in

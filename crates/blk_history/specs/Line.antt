@@ -1,12 +1,11 @@
 -- What a line of a transcript needs.
-use Rattle.std.specs.Prelude.{◌≡◌, ℕ, zero, suc, ◌+◌, ◌*◌, ◌<◌, ◌≤◌, List, [], ◌∷◌, ◌++◌, length, get_or, flat_map, slice_get, codes, decimal, Option, Some, None, option_and_then}
+use Rattle.std.specs.Prelude.{◌≡◌, ℕ, zero, suc, ◌+◌, ◌*◌, ◌<◌, ◌≤◌, List, [], ◌∷◌, ◌++◌, length, flat_map, slice_get, codes, decimal, Option, Some, None, option_and_then}
 use Rattle.serde_json.specs.Data.{string}
 use Rattle.serde_json.specs.Written.{compact_text}
 use Rattle.blk_base.specs.Written.{Written, memory_of}
 use Rattle.blk_base.specs.declared.fault.Fault.{Fault}
 use Rattle.trace_codec.specs.declared.op.Op.{Op}
 use Rattle.qmp_codec.specs.declared.event.EventName.{EventName}
-use Rattle.qmp_codec.specs.declared.event.JobKind.{JobKind}
 use Rattle.qmp_codec.specs.Events.{event_text as event_word, kind_text}
 use Rattle.blk_history.specs.Names.{RowNames, JobLine}
 use Rattle.blk_history.specs.Transcript.{guest_word, job_line, fault_text}

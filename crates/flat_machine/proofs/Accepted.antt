@@ -1,8 +1,8 @@
 -- The changes of an accepted command can be made.
 use Rattle.std.proofs.Common.{◌≡◌, ◌⊎◌, ℕ, ◌+◌, ◌<◌, ◌≤◌, Bool, true, false, cond, List, [], ◌∷◌, ◌++◌, map, length, refl, sym, ap, subst, ◌∙◌, inl, inr, arith, Option, Some, None}
-use Rattle.std.specs.Prelude.{◌==◌, if◌then◌else◌, not, option_and_then, IsSome, bytes_eq, nat_eq, codes}
+use Rattle.std.specs.Prelude.{◌==◌, ◌||◌, if◌then◌else◌, not, option_and_then, IsSome, bytes_eq, nat_eq, codes}
 use Rattle.std.specs.List.{find, list_any, Contains}
-use Rattle.std.proofs.lemmas.Bool.{eq-eqb, or_parts, and_right}
+use Rattle.std.proofs.lemmas.Bool.{eq-eqb, not-false, or_parts, and_right}
 use Rattle.std.proofs.lemmas.List.{length-append, length-map, map-append}
 use Rattle.blk_graph.specs.declared.edge.Edge.{Edge}
 use Rattle.blk_graph.specs.declared.kind.Kind.{Kind}
@@ -40,7 +40,8 @@ use Rattle.qmp_rules.specs.Table.{RunTable, device_named, node_by_id, node_named
 use Rattle.qmp_rules.specs.Chains.{filter_role, is_settled, disk_node}
 use Rattle.qmp_rules.specs.Changes.{changed}
 use Rattle.qmp_rules.specs.Edits.{snapshot_edits, node_ids, free_id, next_free_id, file_row, inline_row, raw_edits, qcow2_edits, added_edits, add_edits, length_told, edits_of, file_uses, with_inline, goes_with_node, of_row, row_gone, file_under, created_change, create_edits, del_edits, device_uses, new_device, device_add_edits, device_del_edits, merges, merge_edits}
-use Rattle.qmp_asks.specs.NodeAsks.{snapshot_values, snapshot_names, snapshot_rest, add_asks, option_values, added_values, added_names, is_read_only, added_rest, raw_rest, qcow2_rest, copy_on_read_rest, is_added, backing_name}
+use Rattle.qmp_asks.specs.Naming.{is_file_name}
+use Rattle.qmp_asks.specs.NodeAsks.{snapshot_values, snapshot_names, snapshot_rest, add_asks, option_values, added_values, added_names, file_names, is_read_only, added_rest, raw_rest, qcow2_rest, copy_on_read_rest, is_added, backing_name}
 use Rattle.qmp_rules.specs.Looks.{absent_file, add_told, is_unopened}
 use Rattle.qmp_asks.specs.Asking.{Asking}
 use Rattle.qmp_rules.specs.Asks.{id_or, holds, first_unmet_ask, takes, stands_for, is_lost, is_file, name_of_file, told_at}
@@ -58,7 +59,8 @@ use Rattle.flat_machine.specs.Standing.{Stands, IsOfState, IsOpenlyKnown, IsKnow
 use Rattle.flat_machine.proofs.Finds.{bytes_eq-same}
 use Rattle.flat_machine.proofs.Kept.{own_disk}
 use Rattle.flat_machine.proofs.Fresh.{lowest_free-free, free-row, found-longer, found-new}
-use Rattle.flat_machine.proofs.Asked.{none-both, NoneHolds, none-holds, none-behind, good-value, found-named, takes-driver, room-left, none-stands, known-file, lone-node, known-under, settled-node}
+use Rattle.flat_machine.proofs.OwnNames.{names-asked}
+use Rattle.flat_machine.proofs.Asked.{none-both, NoneHolds, none-ahead, none-holds, none-behind, good-value, named-file, found-named, takes-driver, room-left, none-stands, known-file, lone-node, known-under, settled-node}
 
 -- ---- ids
 
@@ -201,10 +203,17 @@ file_disk_there s name row stands found driver lone lost =
 
 -- ---- additions: a file that is opened is there
 
--- it is not opened where a node stands for it or it was used
-pub opened : (t : RunTable) (name : List ℕ) → list_any (stands_for name) t.nodes ≡ false → is_lost false (file_state t name) ≡ false
-    → is_unopened t name ≡ false
-opened t name none lost = rw (none, lost) refl
+-- it is not opened where its name is none, a node stands for it, or it was used
+pub opened : (t : RunTable) (name : List ℕ) → is_file_name name ≡ true → list_any (stands_for name) t.nodes ≡ false
+    → is_lost false (file_state t name) ≡ false → is_unopened t name ≡ false
+opened t name named none lost = rw (named, none, lost) refl
+
+pub opened_parts : (t : RunTable) (name : List ℕ) → is_unopened t name ≡ false
+    → (is_file_name name ≡ true) × (list_any (stands_for name) t.nodes ≡ false) × (is_lost false (file_state t name) ≡ false)
+opened_parts t name is =
+    let parts = or_parts (not (is_file_name name)) (list_any (stands_for name) t.nodes || is_lost false (file_state t name)) is in
+    let closed = or_parts (list_any (stands_for name) t.nodes) (is_lost false (file_state t name)) parts.1 in
+    (not-false (is_file_name name) parts.0, closed.0, closed.1)
 
 pub file_told_absent : (s : State) (c : BlockdevAdd (List ℕ)) (filename : List ℕ) → c.driver ≡ added.File filename
     → is_unopened s.table filename ≡ false → content_in s.files filename ≡ None
@@ -347,15 +356,15 @@ readable_whole (Some content) h = subst IsReadable (sym h.1) tt
 
 module _ (s : State) (told : Told) (c : BlockdevAdd (List ℕ)) (name : List ℕ) (read_only : Bool) (stands : Stands s)
     (may : MayStop s (command.BlockdevAdd c) (told_for s (command.BlockdevAdd c)).stopped told.stopped) where
-  pub file_can : (filename : List ℕ) → c.driver ≡ added.File filename
+  pub file_can : (filename : List ℕ) → c.driver ≡ added.File filename → is_file_name filename ≡ true
       → NoneHolds s.table told (added_rest name read_only (added.File filename))
       → (len : ℕ) (flag : Bool) (own : List ℕ) → CanAddFile s (file_row (free_id s.table) own len flag filename None)
-  file_can filename driver asks len flag own =
+  file_can filename driver named asks len flag own =
       let room = room-left s.table told 1 asks.1.0 in
       let closed = none-stands s.table told filename asks.1.1.0 in
       let known = known-file s.table told filename false asks.1.1.1.1.0 in
       let there = opened_there s c told filename may
-      (file_told_absent s c filename driver (opened s.table filename closed known))
+      (file_told_absent s c filename driver (opened s.table filename named closed known))
       (λ e. rw driver refl) (look-quiet s.table told look.File asks.1.1.1.0) in
       record {
         fresh = free_fresh s.table room;
@@ -363,17 +372,17 @@ module _ (s : State) (told : Told) (c : BlockdevAdd (List ℕ)) (name : List ℕ
         known = wholly_known s filename stands closed known (content_in s.files filename) refl there;
       }
 
-  pub inline_can : (file : InlineFile (List ℕ)) (is_raw : Bool)
+  pub inline_can : (file : InlineFile (List ℕ)) (is_raw : Bool) → is_file_name file.filename ≡ true
       → (content_in s.files file.filename ≡ None → is_unopened s.table file.filename ≡ false
       → (told_for s (command.BlockdevAdd c)).stopped ≡ absent_file file.filename)
       → (content_in s.files file.filename ≡ None → may_be_large s (command.BlockdevAdd c) ≡ false)
       → length s.table.nodes + 2 ≤ 64 → holds s.table told (ask.Closed file.filename) ≡ None
       → holds s.table told (ask.Files look.File) ≡ None → holds s.table told (ask.Known file.filename is_raw) ≡ None
       → (exp : Told) → CanAddFile s (inline_row s.table exp name file)
-  inline_can file is_raw tells large room not_closed not_stopped not_lost exp =
+  inline_can file is_raw named tells large room not_closed not_stopped not_lost exp =
       let closed = none-stands s.table told file.filename not_closed in
       let known = less_lost is_raw (file_state s.table file.filename) (known-file s.table told file.filename is_raw not_lost) in
-      let there = opened_there s c told file.filename may (λ e. tells e (opened s.table file.filename closed known)) large
+      let there = opened_there s c told file.filename may (λ e. tells e (opened s.table file.filename named closed known)) large
       (look-quiet s.table told look.File not_stopped) in
       record {
         fresh = free_fresh s.table (omega arith);
@@ -388,14 +397,14 @@ module _ (s : State) (told : Told) (c : BlockdevAdd (List ℕ)) (name : List ℕ
       rw nodes (found-new (λ r. r.id == free_id s.table) s.table.nodes row (free_fresh s.table room) (eq-eqb row.id (free_id s.table) is))
 
   raw_inline_can : (raw : AddRaw (List ℕ)) (file : InlineFile (List ℕ)) → c.driver ≡ added.Raw raw → raw.file ≡ file_ref.Inline file
-      → NoneHolds s.table told (raw_rest name read_only raw (file_ref.Inline file))
+      → is_file_name file.filename ≡ true → NoneHolds s.table told (raw_rest name read_only raw (file_ref.Inline file))
       → (exp : Told) → AllCan s (raw_edits s.table exp name read_only raw (file_ref.Inline file))
   unfolding changed
-  raw_inline_can raw file driver inline asks exp =
+  raw_inline_can raw file driver inline named asks exp =
       let room = room-left s.table told 2 asks.1.1.1.0 in
       let row : NodeRecord = inline_row s.table exp name file in
       let now : State = stepped s (change.AddFile row) in
-      let added_can = inline_can file true (λ e closed. raw_told_absent s c raw file driver inline closed e) (λ e. rw driver refl) room
+      let added_can = inline_can file true named (λ e closed. raw_told_absent s c raw file driver inline closed e) (λ e. rw driver refl) room
       asks.1.1.1.1.0 asks.1.1.1.1.1.0 asks.1.1.1.1.1.1.0 exp in
       let under = inline_under now row refl refl (omega arith) in (
         added_can,
@@ -410,14 +419,14 @@ module _ (s : State) (told : Told) (c : BlockdevAdd (List ℕ)) (name : List ℕ
       )
 
   qcow2_inline_can : (image : AddQcow2 (List ℕ)) (file : InlineFile (List ℕ)) (back : Option (List ℕ)) → c.driver ≡ added.Qcow2 image
-      → image.file ≡ file_ref.Inline file → NoneHolds s.table told (qcow2_rest name read_only back (file_ref.Inline file))
-      → (exp : Told) → AllCan s (qcow2_edits s.table exp name read_only back (file_ref.Inline file))
+      → image.file ≡ file_ref.Inline file → is_file_name file.filename ≡ true
+      → NoneHolds s.table told (qcow2_rest name read_only back (file_ref.Inline file)) → (exp : Told) → AllCan s (qcow2_edits s.table exp name read_only back (file_ref.Inline file))
   unfolding changed
-  qcow2_inline_can image file back driver inline asks exp =
+  qcow2_inline_can image file back driver inline named asks exp =
       let room = room-left s.table told 2 asks.1.1.1.1.0 in
       let row : NodeRecord = inline_row s.table exp name file in
       let now : State = stepped s (change.AddFile row) in
-      let added_can = inline_can file false (λ e closed. qcow2_told_absent s c image file driver inline closed e)
+      let added_can = inline_can file false named (λ e closed. qcow2_told_absent s c image file driver inline closed e)
       (λ e. rw (driver, inline, e) (and_right (not (is_unopened s.table file.filename)) false refl)) room
       asks.1.1.1.1.1.1.0 asks.1.1.1.1.1.1.1.0 asks.1.1.1.1.1.1.1.1.0 exp in
       let under = inline_under now row refl refl (omega arith) in
@@ -484,30 +493,35 @@ module _ (s : State) (told : Told) (c : BlockdevAdd (List ℕ)) (name : List ℕ
       (record { fresh = free_fresh s.table (room-left s.table told 1 asks.1.1.0); filter = refl }, tt)
 
   file_all : (filename : List ℕ) → c.driver ≡ added.File filename
-      → NoneHolds s.table told (added_rest name read_only (added.File filename))
+      → NoneHolds s.table told (added_names (added.File filename)) → NoneHolds s.table told (added_rest name read_only (added.File filename))
       → (exp : Told) → AllCan s (added_edits s.table exp name read_only (added.File filename))
-  file_all filename driver asks exp = (file_can filename driver asks (length_told exp) read_only name, tt)
+  file_all filename driver names asks exp =
+      (file_can filename driver (named-file s.table told (codes "filename") filename names.0) asks (length_told exp) read_only name, tt)
 
   raw_all : (raw : AddRaw (List ℕ)) (file : FileRef (List ℕ)) → c.driver ≡ added.Raw raw → raw.file ≡ file
-      → NoneHolds s.table told (raw_rest name read_only raw file)
+      → NoneHolds s.table told (file_names file) → NoneHolds s.table told (raw_rest name read_only raw file)
       → (exp : Told) → AllCan s (raw_edits s.table exp name read_only raw file)
-  raw_all raw (file_ref.Name file) driver is asks exp = raw_named_can raw file asks exp
-  raw_all raw (file_ref.Inline file) driver is asks exp = raw_inline_can raw file driver is asks exp
+  raw_all raw (file_ref.Name file) driver is names asks exp = raw_named_can raw file asks exp
+  raw_all raw (file_ref.Inline file) driver is names asks exp =
+      raw_inline_can raw file driver is (named-file s.table told (codes "filename") file.filename names.0) asks exp
 
   qcow2_all : (image : AddQcow2 (List ℕ)) (file : FileRef (List ℕ)) (back : Option (List ℕ)) → c.driver ≡ added.Qcow2 image → image.file ≡ file
-      → NoneHolds s.table told (qcow2_rest name read_only back file)
+      → NoneHolds s.table told (file_names file) → NoneHolds s.table told (qcow2_rest name read_only back file)
       → (exp : Told) → AllCan s (qcow2_edits s.table exp name read_only back file)
-  qcow2_all image (file_ref.Name file) back driver is asks exp = qcow2_named_can file back asks exp
-  qcow2_all image (file_ref.Inline file) back driver is asks exp = qcow2_inline_can image file back driver is asks exp
+  qcow2_all image (file_ref.Name file) back driver is names asks exp = qcow2_named_can file back asks exp
+  qcow2_all image (file_ref.Inline file) back driver is names asks exp =
+      qcow2_inline_can image file back driver is (named-file s.table told (codes "filename") file.filename names.0) asks exp
 
   driver_can : (driver : Added (List ℕ)) → c.driver ≡ driver → is_added driver ≡ true
-      → NoneHolds s.table told (added_rest name read_only driver)
+      → NoneHolds s.table told (added_names driver) → NoneHolds s.table told (added_rest name read_only driver)
       → (exp : Told) → AllCan s (added_edits s.table exp name read_only driver)
-  driver_can (added.File filename) e known asks exp = file_all filename e asks exp
-  driver_can (added.Raw raw) e known asks exp = raw_all raw raw.file e refl asks exp
-  driver_can (added.Qcow2 image) e known asks exp = qcow2_all image image.file (backing_name image.backing) e refl asks exp
-  driver_can (added.CopyOnRead file) e known asks exp = copy_on_read_can file asks exp
-  driver_can added.Unknown e known asks exp = absurd cc
+  driver_can (added.File filename) e known names asks exp = file_all filename e names asks exp
+  driver_can (added.Raw raw) e known names asks exp = raw_all raw raw.file e refl names asks exp
+  driver_can (added.Qcow2 image) e known names asks exp =
+      qcow2_all image image.file (backing_name image.backing) e refl
+      (none-ahead s.table told (file_names image.file) (ask.Named (codes "backing") (backing_name image.backing) ∷ []) names) asks exp
+  driver_can (added.CopyOnRead file) e known names asks exp = copy_on_read_can file asks exp
+  driver_can added.Unknown e known names asks exp = absurd cc
 
 -- ---- commands
 
@@ -516,7 +530,7 @@ add_can : (s : State) (told exp : Told) (c : BlockdevAdd (List ℕ)) → Stands 
     → NoneHolds s.table told (add_asks c) → AllCan s (add_edits s.table exp c)
 add_can s told exp c stands may asks =
     driver_can s told c c.node_name (is_read_only c.options) stands may c.driver refl
-    (good-value s.table told (codes "driver") (is_added c.driver) asks.0)
+    (good-value s.table told (codes "driver") (is_added c.driver) asks.0) (names-asked s.table told c asks).1
     (none-behind s.table told front (added_rest c.node_name (is_read_only c.options) c.driver) asks) exp
   where
     front : List Asking

@@ -13,8 +13,6 @@ use Rattle.qmp_codec.specs.declared.nodes.AddRaw.{AddRaw}
 use Rattle.qmp_codec.specs.declared.nodes.Added.{Added}
 use Rattle.qmp_codec.specs.declared.nodes.Added.TheVariants as added
 use Rattle.qmp_rules.specs.declared.told.Told.{Told}
-use Rattle.blk_base.specs.declared.fault.FaultFrom.TheVariants as from
-use Rattle.qmp_rules.specs.declared.refusal.Refusal.TheVariants as refusal
 use Rattle.qmp_rules.specs.Table.{RunTable}
 use Rattle.qmp_rules.specs.Edits.{edits_of, added_edits, raw_edits, qcow2_edits}
 use Rattle.qmp_rules.specs.Answers.{refusal_to, command_edits}

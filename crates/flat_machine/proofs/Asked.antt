@@ -13,6 +13,7 @@ use Rattle.qmp_rules.specs.Table.{RunTable, node_named, file_state, first_into}
 use Rattle.qmp_rules.specs.Chains.{is_settled}
 use Rattle.qmp_rules.specs.Refusals.{refused, or_else}
 use Rattle.qmp_asks.specs.Asking.{Asking}
+use Rattle.qmp_asks.specs.Naming.{is_file_name}
 use Rattle.qmp_rules.specs.Asks.{holds, first_unmet_ask, takes, stands_for, is_lost, is_file, name_of_file, in_use}
 
 -- ---- lists
@@ -70,6 +71,10 @@ module _ (t : RunTable) (told : Told) where
   pub room-left : (count : ℕ) → holds t told (ask.RoomForNodes count) ≡ None → length t.nodes + count ≤ 64
   unfolding holds
   room-left count h = ltb-false 64 (length t.nodes + count) (not-refused _ _ h)
+
+  pub named-file : (member name : List ℕ) → holds t told (ask.FileNamed member (Some name)) ≡ None → is_file_name name ≡ true
+  unfolding holds
+  named-file member name h = not-false _ (not-refused _ _ h)
 
   pub none-stands : (name : List ℕ) → holds t told (ask.Closed name) ≡ None → list_any (stands_for name) t.nodes ≡ false
   unfolding holds

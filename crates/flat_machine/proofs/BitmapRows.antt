@@ -1,22 +1,23 @@
 -- What calls of the table of bitmaps make of its rows is what the changes and the pieces of a run make of the table of names
 -- and of dirty granules.
-use Rattle.std.proofs.Common.{◌≡◌, ℕ, append-nil, ◌*◌, ◌<◌, ◌≤◌, ◌^◌, inl, inr, Bool, true, false, cond, List, [], ◌∷◌, ◌++◌, length, map, take, refl, sym, ap, subst, ◌∙◌, arith, Option, Some, None, option_map}
-use Rattle.std.specs.Prelude.{◌==◌, ◌&&◌, ◌||◌, not, count_by}
+use Rattle.std.proofs.Common.{◌≡◌, ℕ, zero, suc, ◌+◌, append-nil, ◌*◌, ◌<◌, ◌≤◌, ◌^◌, inl, inr, Bool, true, false, cond, List, [], ◌∷◌, ◌++◌, length, map, take, refl, sym, ap, subst, ◌∙◌, arith, Option, Some, None, option_map}
+use Rattle.std.specs.Prelude.{◌==◌, ◌&&◌, ◌||◌, not, count_by, is_some}
 use Rattle.std.specs.List.{find, filter, list_any, list_all, Contains}
 use Rattle.std.proofs.lemmas.List.{map-append, length-replicate}
 use Rattle.std.proofs.Math.Seq.{take-length}
 use Rattle.std.proofs.lemmas.List.FromFn.{length-map-range_with_len}
-use Rattle.std.proofs.lemmas.List.Sums.{count_by-le-length}
+use Rattle.std.proofs.lemmas.List.Sums.{count_by-le-length, count_by_more_no, count_by_more_yes}
 use Rattle.std.proofs.Math.Nat.{mul-le-mul_right, mul_comm}
 use Rattle.blk_graph.proofs.Members.{Contains-here, Contains-there, Contains-cases, Contains-nil, Contains-filter}
 use Rattle.blk_base.specs.Pieces.{Extent}
-use Rattle.blk_bits.specs.Granules.{those_below}
+use Rattle.blk_bits.specs.Granules.{contains, those_below}
+use Rattle.blk_bits.proofs.GranuleLemmas.{contains-those_below}
 use Rattle.blk_bitmaps.specs.declared.row.Bitmap.{Bitmap}
-use Rattle.blk_bitmaps.specs.Rows.{is_named, switched, emptied, written, merged_row, records, dirty_below}
+use Rattle.blk_bitmaps.specs.Rows.{is_named, switched, emptied, written, merged_row, records, dirty_below, is_aside, is_dirty, with_frozen}
 use Rattle.blk_bitmaps.specs.Refusals.{first_row}
 use Rattle.blk_bitmaps.specs.Refusals as refusals
 use Rattle.blk_bitmaps.specs.Calls.{with_first, without_first, where_so, with_source}
-use Rattle.blk_bitmaps.proofs.Views.{changed-view, removed-view, found-view, named-view, left-view, mapped-view, first-view, where-view, found-itself, single-same, single-fewer, single-push, without-filter, dirty-count}
+use Rattle.blk_bitmaps.proofs.Views.{changed-view, removed-view, found-view, named-view, left-view, mapped-view, first-view, where-view, found-itself, single-same, single-fewer, single-push, without-filter}
 use Rattle.qmp_rules.specs.declared.rows.BitmapRow.{BitmapRow}
 use Rattle.qmp_rules.specs.Table.{RunTable, is_bitmap}
 use Rattle.qmp_rules.specs.declared.change.Change.{Change}
@@ -28,7 +29,7 @@ use Rattle.flat_machine.specs.State.{Dirty}
 use Rattle.flat_machine.specs.Marking.{is_dirty_of, dirty_at, clean, marked, where_recording, merge_from, dirty_bytes}
 use Rattle.flat_machine.specs.Marking as marking
 use Rattle.flat_machine.specs.Machine.{noted}
-use Rattle.flat_machine.specs.Bitmaps.{bitmap_of, dirty_in, noted_rows, IsFreeBitmap, AreBitmapsOf, FollowChanges}
+use Rattle.flat_machine.specs.Bitmaps.{bitmap_of, dirty_in, noted_rows, IsFreeBitmap, IsSoundBitmap, AreBitmapsOf, FollowChanges}
 use Rattle.flat_machine.specs.Recording.{dirty_beside, dirty_after}
 
 and-both : (a b : Bool) → (a && b) ≡ true → (a ≡ true) × (b ≡ true)
@@ -86,18 +87,25 @@ later-names [] (y ∷ now) like = absurd like
 later-names (x ∷ rows) [] like = absurd like
 later-names (x ∷ rows) (y ∷ now) like = rw (like.0.name, later-names rows now like.1) refl
 
-later-free : (row later : Bitmap) → IsLater row later → IsFreeBitmap row → IsFreeBitmap later
-later-free row later like free = record {
-  free = like.busy ∙ free.free;
-  whole = like.frozen ∙ free.whole;
+later-sound : (row later : Bitmap) → IsLater row later → IsSoundBitmap row → IsSoundBitmap later
+later-sound row later like free = record {
+  aside = ap is_some like.busy ∙ free.aside ∙ ap is_some (sym like.frozen);
+  alike = λ set is. free.alike set (sym like.frozen ∙ is) ∙ sym like.count;
   countable = rw (like.count, like.granularity) free.countable;
 }
 
-later-each : (rows now : List Bitmap) → AreLater rows now → ((row : Bitmap) → Contains rows row → IsFreeBitmap row) → (row : Bitmap) → Contains now row → IsFreeBitmap row
+free-sound : (row : Bitmap) → IsFreeBitmap row → IsSoundBitmap row
+free-sound row free = record {
+  aside = ap is_some free.free ∙ sym (ap is_some free.whole);
+  alike = λ set is. absurd (let none = free.whole in cc);
+  countable = free.countable;
+}
+
+later-each : (rows now : List Bitmap) → AreLater rows now → ((row : Bitmap) → Contains rows row → IsSoundBitmap row) → (row : Bitmap) → Contains now row → IsSoundBitmap row
 later-each rows [] like each row there = absurd (Contains-nil row there)
 later-each [] (y ∷ now) like each row there = absurd like
 later-each (x ∷ rows) (y ∷ now) like each row there = elim (Contains-cases y now row there) [
-  | inl here ↦ subst IsFreeBitmap (sym here) (later-free x y like.0 (each x (Contains-here x rows)))
+  | inl here ↦ subst IsSoundBitmap (sym here) (later-sound x y like.0 (each x (Contains-here x rows)))
   | inr further ↦ later-each rows now like.1 (λ r is. each r (Contains-there x rows r is)) row further
 ]
 
@@ -193,7 +201,7 @@ module _ (old : List BitmapRow) (rows : List Bitmap) (was : AreBitmapsOf old row
   left-dirty node = left-view dirty_in (λ d. d.node) (λ row. refl) node rows
 
   -- one more
-  pub pushed-bitmaps : (new : Bitmap) → find (is_bitmap new.node new.name.bytes) old ≡ None → IsFreeBitmap new → AreBitmapsOf (old ++ bitmap_of new ∷ []) (rows ++ new ∷ [])
+  pub pushed-bitmaps : (new : Bitmap) → find (is_bitmap new.node new.name.bytes) old ≡ None → IsSoundBitmap new → AreBitmapsOf (old ++ bitmap_of new ∷ []) (rows ++ new ∷ [])
   pushed-bitmaps new fresh free = record {
     listed = ap (λ rs. rs ++ bitmap_of new ∷ []) was.listed ∙ sym (map-append bitmap_of rows (new ∷ []));
     single = single-push new rows (sym (named-bitmap new.node new.name.bytes old rows was) ∙ none-there old fresh) was.single;
@@ -210,13 +218,13 @@ module _ (old : List BitmapRow) (rows : List Bitmap) (was : AreBitmapsOf old row
           at true h rest = absurd cc
           at false h rest = rest h
 
-      pushed-each : (rs : List Bitmap) (row : Bitmap) → ((r : Bitmap) → Contains rs r → IsFreeBitmap r) → Contains (rs ++ new ∷ []) row → IsFreeBitmap row
+      pushed-each : (rs : List Bitmap) (row : Bitmap) → ((r : Bitmap) → Contains rs r → IsSoundBitmap r) → Contains (rs ++ new ∷ []) row → IsSoundBitmap row
       pushed-each [] row each there = elim (Contains-cases new [] row there) [
-        | inl here ↦ subst IsFreeBitmap (sym here) free
+        | inl here ↦ subst IsSoundBitmap (sym here) free
         | inr none ↦ absurd (Contains-nil row none)
       ]
       pushed-each (r ∷ rs) row each there = elim (Contains-cases r (rs ++ new ∷ []) row there) [
-        | inl here ↦ subst IsFreeBitmap (sym here) (each r (Contains-here r rs))
+        | inl here ↦ subst IsSoundBitmap (sym here) (each r (Contains-here r rs))
         | inr later ↦ pushed-each rs row (λ x is. each x (Contains-there r rs x is)) later
       ]
 
@@ -260,17 +268,57 @@ pub record HasCount (row : Bitmap) : Type 0 where
   pub few : dirty_below row (length row.dirty) * row.granularity < 2 ^ 64
   pub same : dirty_below row (length row.dirty) * row.granularity ≡ dirty_bytes (dirty_in row)
 
-pub free-count : (row : Bitmap) → IsFreeBitmap row → HasCount row
-free-count row free =
-    let all : take (length row.dirty) row.dirty ≡ row.dirty = take-length row.dirty in
-    let count : dirty_below row (length row.dirty) ≡ count_by (λ member. member) row.dirty =
-    dirty-count row free.whole (length row.dirty) (omega arith) ∙ ap (count_by (λ member. member)) all in
-    let low : count_by (λ member. member) row.dirty ≤ length row.dirty = count_by-le-length (λ member. member) row.dirty in
-    let bytes : count_by (λ member. member) row.dirty * row.granularity ≤ length row.dirty * row.granularity = mul-le-mul_right row.granularity low in
-    let most = free.countable in
+-- a granule is dirty or stands aside exactly where one of all that is dirty is
+whole-dirty : (row : Bitmap) → IsSoundBitmap row → (length (with_frozen row.dirty row.frozen) ≡ length row.dirty)
+    × ((k : ℕ) → k < length row.dirty → is_dirty row k ≡ contains (with_frozen row.dirty row.frozen) k)
+whole-dirty row sound = by_frozen row.frozen refl
+  where
+    by_frozen : (frozen : Option (List Bool)) → row.frozen ≡ frozen
+        → (length (with_frozen row.dirty frozen) ≡ length row.dirty)
+        × ((k : ℕ) → k < length row.dirty → (contains row.dirty k || is_aside frozen k) ≡ contains (with_frozen row.dirty frozen) k)
+    by_frozen None is = (refl, λ k less. last (contains row.dirty k))
+      where
+        last : (b : Bool) → (b || false) ≡ b
+        last true = refl
+        last false = refl
+    by_frozen (Some old) is = (
+      counted (length row.dirty) (λ k. contains row.dirty k || contains old k),
+      λ k less. sym (contains-those_below (length row.dirty) (λ k. contains row.dirty k || contains old k) k less),
+    )
+
+-- so that many are counted
+aside-count : (row : Bitmap) (all : List Bool) → length all ≡ length row.dirty → ((k : ℕ) → k < length row.dirty → is_dirty row k ≡ contains all k)
+    → (k : ℕ) → k ≤ length row.dirty → dirty_below row k ≡ count_by (λ member. member) (take k all)
+aside-count row all long same zero few = refl
+aside-count row all long same (suc k) few = at (contains all k) refl (aside-count row all long same k (omega arith))
+  where
+    at : (b : Bool) → contains all k ≡ b → dirty_below row k ≡ count_by (λ member. member) (take k all) → dirty_below row (suc k) ≡ count_by (λ member. member) (take (suc k) all)
+    at true e rest =
+        let more : count_by (λ member. member) (take (k + 1) all) ≡ count_by (λ member. member) (take k all) + 1 = count_by_more_yes (λ member. member) all k false (omega (arith, long)) e in
+        let further : suc k ≡ k + 1 = omega arith in
+        let dirty : is_dirty row k ≡ true = same k (omega arith) ∙ e in
+        rw (further, dirty) (ap (λ n. n + 1) rest ∙ sym more)
+    at false e rest =
+        let more : count_by (λ member. member) (take (k + 1) all) ≡ count_by (λ member. member) (take k all) = count_by_more_no (λ member. member) all k false (omega (arith, long)) e in
+        let further : suc k ≡ k + 1 = omega arith in
+        let clear : is_dirty row k ≡ false = same k (omega arith) ∙ e in
+        rw (further, clear) (let none : dirty_below row k + 0 ≡ dirty_below row k = omega arith in none ∙ rest ∙ sym more)
+
+pub sound-count : (row : Bitmap) → IsSoundBitmap row → HasCount row
+sound-count row sound =
+    let whole = whole-dirty row sound in
+    let all : List Bool = with_frozen row.dirty row.frozen in
+    let long : length all ≡ length row.dirty = whole.0 in
+    let cut : take (length row.dirty) all ≡ all = ap (λ n. take n all) (sym long) ∙ take-length all in
+    let count : dirty_below row (length row.dirty) ≡ count_by (λ member. member) all =
+    aside-count row all long whole.1 (length row.dirty) (omega arith) ∙ ap (count_by (λ member. member)) cut in
+    let low : count_by (λ member. member) all ≤ length all = count_by-le-length (λ member. member) all in
+    let low_row : count_by (λ member. member) all ≤ length row.dirty = omega (arith, low, long) in
+    let bytes : count_by (λ member. member) all * row.granularity ≤ length row.dirty * row.granularity = mul-le-mul_right row.granularity low_row in
+    let most = sound.countable in
     record {
       few = rw count (omega arith);
-      same = rw (count, free.whole) (mul_comm (count_by (λ member. member) row.dirty) row.granularity);
+      same = rw count (mul_comm (count_by (λ member. member) all) row.granularity);
     }
 
 -- ---- changes of commands
@@ -366,6 +414,6 @@ pub follow-added : (t : RunTable) (rows : List Bitmap) → AreBitmapsOf t.bitmap
     → IsFreeBitmap new → dirty_in new ≡ clean (bitmap_of new) (bytes_of_node t new.node) → FollowChanges t rows (rows ++ new ∷ []) (change.AddBitmap (bitmap_of new) ∷ [])
 unfolding changed
 follow-added t rows was new fresh free is_clean = record {
-  listed = pushed-bitmaps t.bitmaps rows was new fresh free;
+  listed = pushed-bitmaps t.bitmaps rows was new fresh (free-sound new free);
   dirty = map-append dirty_in rows (new ∷ []) ∙ ap (λ d. map dirty_in rows ++ d ∷ []) is_clean;
 }

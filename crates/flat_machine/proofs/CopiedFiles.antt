@@ -19,7 +19,7 @@ use Rattle.flat_machine.specs.Standing.{IsUsedFile, Stands}
 use Rattle.flat_machine.proofs.TablesKept.{over_own}
 
 -- a filter with a file copies what is read
-copying : (kind : Kind) → has_role kind File ≡ true → IsSome (filter_role kind) → filter_role kind ≡ Some File
+pub copying : (kind : Kind) → has_role kind File ≡ true → IsSome (filter_role kind) → filter_role kind ≡ Some File
 copying Protocol has filter = absurd cc
 copying Raw has filter = absurd cc
 copying Qcow2 has filter = absurd cc

@@ -13,19 +13,17 @@ use Rattle.blk_graph.specs.declared.kind.NodeKind.{NodeKind}
 use Rattle.blk_graph.specs.Edges.{same_parent, same_role}
 use Rattle.blk_graph.specs.Edits.{is_edge, child_after, stays, replaced, takes_place, with_child, with_edge, with_replaced}
 use Rattle.blk_graph.specs.Judged.{IsOverlayApart}
-use Rattle.blk_graph.specs.Paths.{IsAcyclic, IsPath, LeadsBack, Reaches}
+use Rattle.blk_graph.specs.Paths.{IsPath, Reaches}
 use Rattle.blk_graph.specs.Permissions.{has_role, node_edge}
 use Rattle.blk_graph.specs.Refreshed.{refreshed}
 use Rattle.blk_graph.proofs.Members.{Contains-map, find-Some, map-Contains}
 use Rattle.blk_graph.proofs.EditLemmas.{IsSameEdge, Contains-with_edge}
 use Rattle.blk_graph.proofs.CycleLemmas.{and-left, same_parent-true}
 use Rattle.blk_graph.proofs.RoleLemmas.{same_role-refl, same_role-true, takes_place-role}
-use Rattle.blk_graph.proofs.ChildLemmas.{child-kept, reached-entered}
+use Rattle.blk_graph.proofs.ChildLemmas.{child-kept}
 use Rattle.blk_graph.proofs.RuleLemmas.{find-None}
-use Rattle.blk_graph.proofs.DraftLemmas.{acyclic_put, children_replaced}
-use Rattle.blk_graph.proofs.OverLemmas.{IsAcyclic-with_over}
-use Rattle.blk_graph.proofs.PathLemmas.{IsAcyclic-covered, Reaches-edge}
-use Rattle.blk_graph.proofs.RefreshLemmas.{child_of-refreshed, IsAcyclic-refreshed}
+use Rattle.blk_graph.proofs.DraftLemmas.{children_replaced}
+use Rattle.blk_graph.proofs.RefreshLemmas.{child_of-refreshed}
 use Rattle.qmp_rules.specs.declared.rows.NodeRecord.{NodeRecord}
 use Rattle.qmp_rules.specs.Table.{RunTable, child, node_by_id}
 use Rattle.qmp_rules.specs.Chains.{filter_role}
@@ -260,30 +258,6 @@ module _ (t : RunTable) (node overlay : NodeRecord) (kinds : List NodeKind) (ove
 
 -- ---- no cycle
 
-replaced-like : (from to : ℕ) (but : Option Parent) (a b : Edge) → IsSameEdge a b → IsSameEdge (replaced from to but a) (replaced from to but b)
-replaced-like from to but a b same =
-    let test : (a.child == from && not (stays but a.parent)) ≡ (b.child == from && not (stays but b.parent))
-    = ap (λ (c : ℕ). c == from && not (stays but a.parent)) same.child ∙ ap (λ (p : Parent). b.child == from && not (stays but p)) same.parent in
-    rw test (by_test (b.child == from && not (stays but b.parent)))
-  where
-    by_test : (moves : Bool) → IsSameEdge (cond moves (with_child to a) a) (cond moves (with_child to b) b)
-    by_test true = record { parent = same.parent; role = same.role; child = refl }
-    by_test false = same
-
--- edges that are replaced close none where they wouldn't before they were derived
-replaced-acyclic : (from to : ℕ) (but : Option Parent) (kinds : List NodeKind) (edges : List Edge) → IsAcyclic (with_replaced from to but edges)
-    → IsAcyclic (with_replaced from to but (refreshed kinds edges))
-replaced-acyclic from to but kinds edges =
-    IsAcyclic-covered (with_replaced from to but (refreshed kinds edges)) (with_replaced from to but edges) (λ a e there parent.
-    let r = Contains-map (replaced from to but) (refreshed kinds edges) e there in
-    let old = refreshed-old kinds edges r.0 r.1 in
-    let same = replaced-like from to but old.edge r.0 old.same in
-    let leads : (replaced from to but old.edge).child ≡ e.child = same.child ∙ ap (λ (x : Edge). x.child) (sym r.2) in
-    subst (Reaches (with_replaced from to but edges) a) leads
-    (Reaches-edge (with_replaced from to but edges) a (replaced from to but old.edge)
-    (map-Contains (replaced from to but) edges old.edge old.there)
-    (same.parent ∙ ap (λ (x : Edge). x.parent) (sym r.2) ∙ parent)))
-
 module _ (t : RunTable) (node overlay : NodeRecord) (over : LiesOver t node overlay) (bare : child t overlay.id Backing ≡ None) (h : TableStands t) where
   -- a `file` node makes no edges
   none_from_file : (e : Edge) (row : NodeRecord) → Contains t.edges e → Contains t.nodes row → e.parent ≡ Node row.id → IsSome row.filename → ⊥
@@ -364,19 +338,3 @@ module _ (t : RunTable) (node overlay : NodeRecord) (over : LiesOver t node over
   -- nothing leads to the overlay, and it doesn't lead to the node
   pub overlay_apart : IsOverlayApart t.edges node.id overlay.id
   overlay_apart = record { differ = over.other; unused = λ e there is. over.lone e there is; away = away }
-
-  pub attached_acyclic : (kinds : List NodeKind) → IsAcyclic (refreshed kinds (with_edge (node_edge overlay.id Backing node.id) t.edges))
-  attached_acyclic kinds =
-      IsAcyclic-refreshed kinds (with_edge (node_edge overlay.id Backing node.id) t.edges)
-      (acyclic_put (node_edge overlay.id Backing node.id) t.edges none h.acyclic)
-    where
-      none : LeadsBack t.edges node.id (Node overlay.id) → ⊥
-      none (inl same) = over.other (sym same)
-      none (inr way) = reached-entered t.edges node.id overlay.id way.first way.rest way.path (λ e there is. over.lone e there is)
-
-  pub moved_acyclic : (kinds again : List NodeKind)
-      → IsAcyclic (refreshed again (with_replaced node.id overlay.id (Some (Node overlay.id)) (refreshed kinds (with_edge (node_edge overlay.id Backing node.id) t.edges))))
-  moved_acyclic kinds again =
-      let attached : List Edge = with_edge (node_edge overlay.id Backing node.id) t.edges in
-      IsAcyclic-refreshed again (with_replaced node.id overlay.id (Some (Node overlay.id)) (refreshed kinds attached))
-      (replaced-acyclic node.id overlay.id (Some (Node overlay.id)) kinds attached (IsAcyclic-with_over node.id overlay.id t.edges h.acyclic overlay_apart))

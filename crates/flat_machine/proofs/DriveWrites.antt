@@ -1,7 +1,7 @@
 -- A guest on a node can write its disk.
-use Rattle.std.proofs.Common.{◌≡◌, ◌≢◌, ◌⊎◌, ℕ, true, false, List, [], refl, sym, ap, subst, ◌∙◌, inl, inr, Option, Some, None}
-use Rattle.std.specs.Prelude.{◌==◌, IsSome}
-use Rattle.std.specs.List.{find, Contains}
+use Rattle.std.proofs.Common.{◌≡◌, ◌≢◌, ℕ, true, false, List, [], refl, sym, ap, subst, ◌∙◌, inl, inr, Option, Some, None}
+use Rattle.std.specs.Prelude.{◌==◌, All, IsSome}
+use Rattle.std.specs.List.{Contains}
 use Rattle.std.proofs.lemmas.Bool.{eqb-true}
 use Rattle.std.proofs.lemmas.List.Elements.{All-weaker}
 use Rattle.blk_graph.specs.declared.edge.Parent.TheVariants.{Node}
@@ -18,7 +18,80 @@ use Rattle.flat_machine.specs.Writing.{IsGuestWritable}
 use Rattle.flat_machine.specs.Wiring.{StandsFor, LeadsToFile, IsDiskOf, writes_through}
 use Rattle.flat_machine.specs.Standing.{IsUsedUp, MayGuestWrite, Stands}
 use Rattle.flat_machine.proofs.Kept.{own_disk}
-use Rattle.flat_machine.proofs.WritingKept.{role_edge, IsNoFilter, WritesFileUnder, writes_file}
+use Rattle.flat_machine.proofs.WritingKept.{role_edge, WritesFileUnder, writes_file}
+
+-- Of a plain node that may be written a guest may write what it reads as, where nothing is known of a file that it stands for, and no
+-- disk is left in that.
+pub node_writable : (s : State) (d : NodeRecord) → Stands s → Contains s.table.nodes d → filter_role d.kind ≡ None → d.read_only ≡ false
+    → ((name : List ℕ) → d.filename ≡ Some name → (content_in s.files name ≡ Some Unknown) × All (λ (l : Left). l.file ≢ name) s.left)
+    → IsGuestWritable s d.id
+node_writable s d h here own writable file = record {
+  disk = h.writing.disks d here own;
+  under = no_disk;
+  known = λ name is. is_known name (writes_file s.table d.id name is);
+  left = λ name is. not_left name (writes_file s.table d.id name is);
+  named = λ name is. is_named name (writes_file s.table d.id name is);
+}
+  where
+    same_row : (a : NodeRecord) → Contains s.table.nodes a → a.id ≡ d.id → d ≡ a
+    same_row a there ids =
+        let at_d = h.table.apart d here in
+        let at_a = subst (λ n. node_by_id s.table n ≡ Some a) ids (h.table.apart a there) in
+        cc
+
+    -- the file under it
+    has_file : (under : NodeRecord) → Contains s.table.nodes under → child s.table d.id File ≡ Some under.id → LeadsToFile s.table d under
+    has_file under under_there is =
+        let to = role_edge (Node d.id) File s.table.edges under.id is in
+        record { over_there = here; under_there = under_there; edge = to.edge; there = to.there; parent = to.from; role = to.role_is; child = to.to }
+
+    no_disk : (file : ℕ) (r : NodeRecord) → child s.table d.id File ≡ Some file → node_by_id s.table file ≡ Some r → HasDisk r → ⊥
+    no_disk file r is found has =
+        let r_here = find-Some (λ x. x.id == file) s.table.nodes r found in
+        let f = has_file r r_here.0 (is ∙ ap Some (sym (eqb-true r.id file r_here.1))) in
+        by_name r f r.filename refl has
+      where
+        by_name : (r : NodeRecord) → LeadsToFile s.table d r → (name : Option (List ℕ)) → r.filename ≡ name → HasDisk r → ⊥
+        by_name r f None k has = let filter = h.table.filtered d r f k in let none = subst IsSome own filter in cc
+        by_name r f (Some name) k has =
+            let gone = (h.table.taken d r f (subst IsSome (sym k) refl) own).gone in
+            let kept = has.settled in
+            cc
+
+    of_own : (name : List ℕ) (row : NodeRecord) → StandsFor s.table name row → row.id ≡ d.id → d.filename ≡ Some name
+    of_own name row of is = ap (λ r. r.filename) (same_row row of.there is) ∙ of.filename
+
+    is_known : (name : List ℕ) → WritesFileUnder s.table d.id name → content_in s.files name ≡ Some Unknown
+    is_known name w = elim w.from [
+      | inl is ↦ (file name (of_own name w.row w.stands is)).0
+      | inr is ↦ h.writing.unknown name d w.row (has_file w.row w.stands.there is.0) w.stands.filename
+    ]
+
+    not_left : (name : List ℕ) → WritesFileUnder s.table d.id name → All (λ (l : Left). l.file ≢ name) s.left
+    not_left name w = elim w.from [
+      | inl is ↦ (file name (of_own name w.row w.stands is)).1
+      | inr is ↦
+          let f = has_file w.row w.stands.there is.0 in
+          All-weaker (IsUsedUp s) (λ l. l.file ≢ name)
+          (λ l used same_file.
+          used.is_open w.row (subst (λ n. StandsFor s.table n w.row) (sym same_file) w.stands)
+          (record { edge = f.edge; there = f.there; over = f.role; child = f.child })) s.left h.writing.left
+    ]
+
+    is_named : (name : List ℕ) → WritesFileUnder s.table d.id name → has_name name s.named ≡ true
+    is_named name w = elim w.from [
+      | inl is ↦ h.writing.named name w.row w.stands (subst (λ r. r.read_only ≡ false) (same_row w.row w.stands.there is) writable)
+      | inr is ↦
+          let f = has_file w.row w.stands.there is.0 in
+          let taken = h.table.taken d w.row f (subst IsSome (sym w.stands.filename) refl) own in
+          h.writing.named name w.row w.stands (taken.writable writable)
+    ]
+
+-- in the file of a `file` node that has its disk none is left
+pub settled_unleft : (s : State) → Stands s → (row : NodeRecord) (name : List ℕ) → StandsFor s.table name row → row.is_settled ≡ true
+    → All (λ (l : Left). l.file ≢ name) s.left
+settled_unleft s h row name of settled = All-weaker (IsUsedUp s) (λ l. l.file ≢ name)
+    (λ l used same_file. let gone = used.gone row (subst (λ n. StandsFor s.table n row) (sym same_file) of) in cc) s.left h.writing.left
 
 -- A guest on a node writes what may be written, where a `file` node that it reads as has its flat disk and was used.
 pub drive_may : (s : State) (device : DeviceRow) (row : NodeRecord) → Stands s → Contains s.table.nodes row → device.read_only ≡ row.read_only
@@ -36,91 +109,13 @@ drive_may s device row h there same settled known writes = by_disk (node_by_id s
 
     by_disk : (found : Option NodeRecord) → node_by_id s.table disk ≡ found → With found (IsDiskOf s.table row) → IsGuestWritable s disk
     by_disk None e of = absurd of
-    by_disk (Some d) e of = record {
-      disk = subst (λ n. IsSome (find (λ x. x.node == n) s.disks)) id_is (h.writing.disks d here of.own);
-      under = λ file r is found has. no_disk file r is found has;
-      known = λ name is. is_known name (writes_file s.table disk name is);
-      left = λ name is. All-weaker (IsUsedUp s) (λ l. l.file ≢ name) (λ l used same_file. not_left name (writes_file s.table disk name is) l used same_file)
-          s.left h.writing.left;
-      named = λ name is. is_named name (writes_file s.table disk name is);
-    }
-      where
-        here : Contains s.table.nodes d
-        here = (find-Some (λ r. r.id == disk) s.table.nodes d e).0
-
-        id_is : d.id ≡ disk
-        id_is = eqb-true d.id disk (find-Some (λ r. r.id == disk) s.table.nodes d e).1
-
-        same_row : (a b : NodeRecord) → Contains s.table.nodes a → Contains s.table.nodes b → a.id ≡ b.id → a ≡ b
-        same_row a b there_a there_b ids =
-            let at_a = h.table.apart a there_a in
-            let at_b = subst (λ n. node_by_id s.table n ≡ Some b) (sym ids) (h.table.apart b there_b) in
-            cc
-
-        -- the file under it
-        has_file : (under : NodeRecord) → Contains s.table.nodes under → child s.table disk File ≡ Some under.id → LeadsToFile s.table d under
-        has_file under under_there is =
-            let to = role_edge (Node disk) File s.table.edges under.id is in
-            record {
-              over_there = here;
-              under_there = under_there;
-              edge = to.edge;
-              there = to.there;
-              parent = to.from ∙ ap Node (sym id_is);
-              role = to.role_is;
-              child = to.to;
-            }
-
-        no_disk : (file : ℕ) (r : NodeRecord) → child s.table disk File ≡ Some file → node_by_id s.table file ≡ Some r → HasDisk r → ⊥
-        no_disk file r is found has =
-            let r_here = find-Some (λ x. x.id == file) s.table.nodes r found in
-            let f = has_file r r_here.0 (is ∙ ap Some (sym (eqb-true r.id file r_here.1))) in
-            by_name r f r.filename refl has
-          where
-            by_name : (r : NodeRecord) → LeadsToFile s.table d r → (name : Option (List ℕ)) → r.filename ≡ name → HasDisk r → ⊥
-            by_name r f None k has = let filter = h.table.filtered d r f k in let own = of.own in let none = subst IsSome own filter in cc
-            by_name r f (Some name) k has =
-                let gone = (h.table.taken d r f (subst IsSome (sym k) refl) of.own).gone in
-                let kept = has.settled in
-                cc
-
-        is_known : (name : List ℕ) → WritesFileUnder s.table disk name → content_in s.files name ≡ Some Unknown
-        is_known name w = by_from w.from
-          where
-            by_from : ((w.row.id ≡ disk) ⊎ ((child s.table disk File ≡ Some w.row.id) × IsNoFilter s.table disk))
-                → content_in s.files name ≡ Some Unknown
-            by_from (inl is) =
-                let as_disk : d ≡ w.row = same_row d w.row here w.stands.there (id_is ∙ sym is) in
-                known d name e (ap (λ r. r.filename) as_disk ∙ w.stands.filename)
-            by_from (inr is) = h.writing.unknown name d w.row (has_file w.row w.stands.there is.0) w.stands.filename
-
-        not_left : (name : List ℕ) → WritesFileUnder s.table disk name → (l : Left) → IsUsedUp s l → l.file ≡ name → ⊥
-        not_left name w l used same_file = by_from w.from
-          where
-            over : StandsFor s.table l.file w.row
-            over = subst (λ n. StandsFor s.table n w.row) (sym same_file) w.stands
-
-            by_from : ((w.row.id ≡ disk) ⊎ ((child s.table disk File ≡ Some w.row.id) × IsNoFilter s.table disk)) → ⊥
-            by_from (inl is) =
-                let as_disk : d ≡ w.row = same_row d w.row here w.stands.there (id_is ∙ sym is) in
-                let kept = settled d e (subst IsSome (sym (ap (λ r. r.filename) as_disk ∙ w.stands.filename)) refl) in
-                let gone = ap (λ r. r.is_settled) as_disk ∙ used.gone w.row over in
-                cc
-            by_from (inr is) =
-                let f = has_file w.row w.stands.there is.0 in
-                used.is_open w.row over (record { edge = f.edge; there = f.there; over = f.role; child = f.child })
-
-        is_named : (name : List ℕ) → WritesFileUnder s.table disk name → has_name name s.named ≡ true
-        is_named name w = by_from w.from
-          where
-            by_from : ((w.row.id ≡ disk) ⊎ ((child s.table disk File ≡ Some w.row.id) × IsNoFilter s.table disk)) → has_name name s.named ≡ true
-            by_from (inl is) =
-                let as_disk : d ≡ w.row = same_row d w.row here w.stands.there (id_is ∙ sym is) in
-                h.writing.named name w.row w.stands (subst (λ r. r.read_only ≡ false) as_disk (of.writable did))
-            by_from (inr is) =
-                let f = has_file w.row w.stands.there is.0 in
-                let taken = h.table.taken d w.row f (subst IsSome (sym w.stands.filename) refl) of.own in
-                h.writing.named name w.row w.stands (taken.writable (of.writable did))
+    by_disk (Some d) e of =
+        let here = find-Some (λ r. r.id == disk) s.table.nodes d e in
+        subst (IsGuestWritable s) (eqb-true d.id disk here.1)
+        (node_writable s d h here.0 of.own (of.writable did) (λ name is. (
+          known d name e is,
+          settled_unleft s h d name (record { there = here.0; filename = is }) (settled d e (subst IsSome (sym is) refl)),
+        )))
 
 -- a node that is no filter has its own disk
 pub one-disk : (t : RunTable) (row : NodeRecord) → node_by_id t row.id ≡ Some row → filter_role row.kind ≡ None

@@ -14,12 +14,11 @@ use Rattle.qmp_rules.specs.declared.rows.JobRecord.{JobRecord}
 use Rattle.qmp_rules.specs.declared.rows.UsedBitmap.{UsedBitmap}
 use Rattle.qmp_rules.specs.Changes.{busy_by, given_back, is_used_by}
 use Rattle.qmp_rules.specs.Table.{RunTable, is_bitmap, job_at}
-use Rattle.flat_machine.specs.State.{Dirty}
 use Rattle.flat_machine.specs.Bitmaps.{bitmap_of, dirty_in}
 use Rattle.flat_machine.specs.Changed.{back_of, back_by}
 use Rattle.flat_machine.specs.InUse.{AreListed, AreWith, AreInUse, is_copied_by, is_use_of}
 use Rattle.flat_machine.specs.Jobs.{aside_by}
-use Rattle.flat_machine.specs.Marking.{is_dirty_of, made_dirty, put_aside, taken_back, records_writes, where_dirty, where_recording}
+use Rattle.flat_machine.specs.Marking.{is_dirty_of, made_dirty, put_aside, taken_back, records_writes, where_recording}
 
 -- ---- a use begins
 

@@ -1,6 +1,6 @@
--- What holds of tables stays where the edges into a node lead on to it, or to an overlay of it.
-use Rattle.std.proofs.Common.{◌≡◌, ◌≢◌, ◌⊎◌, ℕ, zero, suc, Bool, true, false, List, refl, sym, ap, subst, ◌∙◌, inl, inr, Option, Some, None, option_map}
-use Rattle.std.specs.Prelude.{◌==◌, ◌||◌, not, IsSome, option_and_then}
+-- What nodes read as where the edges into a node lead on to it, or to an overlay of it.
+use Rattle.std.proofs.Common.{◌≡◌, ◌≢◌, ◌⊎◌, ℕ, zero, suc, Bool, false, List, refl, sym, ap, subst, ◌∙◌, inl, inr, Option, Some, None, option_map}
+use Rattle.std.specs.Prelude.{◌==◌, ◌||◌, IsSome, option_and_then}
 use Rattle.std.specs.List.{list_any, Contains}
 use Rattle.std.proofs.lemmas.Bool.{eqb-true, cases_eq}
 use Rattle.blk_graph.specs.declared.edge.Edge.{Edge}
@@ -10,8 +10,7 @@ use Rattle.blk_graph.specs.declared.edge.Role.TheVariants.{Drive, File, Backing}
 use Rattle.blk_graph.specs.declared.kind.Kind.{Kind}
 use Rattle.blk_graph.specs.declared.kind.Kind.TheVariants.{Protocol, Raw, Qcow2, CopyOnRead, BeforeWrite, Mirror, Commit}
 use Rattle.blk_graph.specs.Edits.{child_of}
-use Rattle.blk_graph.specs.Paths.{IsAcyclic}
-use Rattle.blk_graph.specs.Permissions.{node_edge, has_role}
+use Rattle.blk_graph.specs.Permissions.{node_edge}
 use Rattle.blk_graph.proofs.Members.{find-Some}
 use Rattle.blk_graph.proofs.EditLemmas.{IsSameEdge}
 use Rattle.qmp_rules.specs.declared.rows.NodeRecord.{NodeRecord}
@@ -23,11 +22,10 @@ use Rattle.flat_machine.specs.State.{drive_of}
 use Rattle.flat_machine.specs.Machine.{copies_at, copies_through, path, path_from}
 use Rattle.flat_machine.specs.Agreement.{HasDisk}
 use Rattle.flat_machine.specs.Suiting.{IsAlone}
-use Rattle.flat_machine.specs.Wiring.{HasEnds, StandsFor, LeadsToFile, IsDiskOf, IsInline, InlineAreUnder, IsUnderNoFormat, TableStands, writes_through}
+use Rattle.flat_machine.specs.Wiring.{LeadsToFile, IsInline, InlineAreUnder, IsUnderNoFormat, TableStands}
 use Rattle.flat_machine.proofs.Tables.{HasLike}
 use Rattle.flat_machine.proofs.Rows.{same_row, from-child, path-child, copies-at}
-use Rattle.flat_machine.proofs.Wired.{with_at}
-use Rattle.flat_machine.proofs.TablesKept.{no_copies, not_copying, own_reads}
+use Rattle.flat_machine.proofs.TablesKept.{no_copies}
 use Rattle.flat_machine.proofs.TableSuited.{settled-free}
 
 -- ---- an overlay without parents, and the node that it is put over
@@ -157,74 +155,6 @@ module _ (t : RunTable) (es : List Edge) (node overlay : NodeRecord) (to : ℕ �
   free_led : (n : ℕ) → IsUnderNoFormat t n → IsUnderNoFormat led n
   free_led n free under over_row at some f own = free under over_row at some (was_under over_row under f some) own
 
-  still_filtered : (over_row under : NodeRecord) → LeadsToFile led over_row under → under.filename ≡ None → IsSome (filter_role over_row.kind)
-  still_filtered over_row under f none = elim (r.old f.edge f.there) [
-    | inr own ↦ absurd (let bad = own.role ∙ f.role in cc)
-    | inl l ↦ elim l.leads [
-      | inl same ↦ into l under f.under_there (sym same ∙ f.child) none
-      | inr moved ↦ elim (cases_eq l.edge.child node.id) [
-        | inr differ ↦ into l under f.under_there (sym (r.others l.edge.child differ) ∙ sym moved ∙ f.child) none
-        | inl at_it ↦ by_name l at_it node.filename refl
-      ]
-    ]
-  ]
-    where
-      into : (l : LedEdge t to f.edge) (row : NodeRecord) → Contains t.nodes row → l.edge.child ≡ row.id → row.filename ≡ None
-          → IsSome (filter_role over_row.kind)
-      into l row there is unnamed = h.filtered over_row row
-          (record {
-            over_there = f.over_there;
-            under_there = there;
-            edge = l.edge;
-            there = l.there;
-            parent = l.parent ∙ f.parent;
-            role = l.role ∙ f.role;
-            child = is;
-          })
-          unnamed
-
-      by_name : (l : LedEdge t to f.edge) → l.edge.child ≡ node.id → (name : Option (List ℕ)) → node.filename ≡ name
-          → IsSome (filter_role over_row.kind)
-      by_name l at_it None e = into l node over.node_there at_it e
-      by_name l at_it (Some name) e = by_role (filter_role over_row.kind) refl
-        where
-          by_role : (role : Option Role) → filter_role over_row.kind ≡ role → IsSome (filter_role over_row.kind)
-          by_role (Some role) filter = subst IsSome (sym filter) refl
-          by_role None own = absurd (node_free node over_row node_found (subst IsSome (sym e) refl) (record {
-            over_there = f.over_there;
-            under_there = over.node_there;
-            edge = l.edge;
-            there = l.there;
-            parent = l.parent ∙ f.parent;
-            role = l.role ∙ f.role;
-            child = at_it;
-          }) own)
-
-  still_on_top : (e : Edge) (row : NodeRecord) (above : ℕ) → Contains es e → Contains t.nodes row → e.parent ≡ Node above → e.child ≡ row.id
-      → row.kind ≢ CopyOnRead
-  still_on_top e row above there row_there from to_row = elim (r.old e there) [
-    | inr own ↦ at_row node over.node_there over.disk.own (sym to_row ∙ sym own.child)
-    | inl l ↦ elim l.leads [
-      | inl same ↦ before l (sym same ∙ to_row)
-      | inr moved ↦ elim (cases_eq l.edge.child node.id) [
-        | inr differ ↦ before l (sym (r.others l.edge.child differ) ∙ sym moved ∙ to_row)
-        | inl at_it ↦
-            let goes : row.id ≡ to node.id = sym to_row ∙ moved ∙ ap to at_it in
-            elim r.at_node [
-              | inl on ↦ at_row node over.node_there over.disk.own (goes ∙ on)
-              | inr over_it ↦ at_row overlay over.overlay_there overlay_own (goes ∙ over_it)
-            ]
-      ]
-    ]
-  ]
-    where
-      at_row : (other : NodeRecord) → Contains t.nodes other → filter_role other.kind ≡ None → row.id ≡ other.id → row.kind ≢ CopyOnRead
-      at_row other other_there own is =
-          not_copying row.kind (ap (λ x. filter_role x.kind) (same_row t h.apart other row other_there row_there is) ∙ own)
-
-      before : (l : LedEdge t to e) → l.edge.child ≡ row.id → row.kind ≢ CopyOnRead
-      before l is = h.on_top l.edge row above l.there row_there (l.parent ∙ from) is
-
   -- ---- what nodes read as
 
   filtered-led : (n : ℕ) → filtered led n ≡ option_map to (filtered t n)
@@ -313,135 +243,6 @@ module _ (t : RunTable) (es : List Edge) (node overlay : NodeRecord) (to : ℕ �
   pub copies_led : (n : ℕ) → n ≢ node.id → copies_through led n ≡ copies_through t n
   unfolding path
   copies_led n differ = path_from-led 64 n differ
-
-  pub writes_led : (read_only : Bool) (n : ℕ) → n ≢ node.id → writes_through led read_only n ≡ writes_through t read_only n
-  writes_led read_only n differ = ap (λ b. not read_only || b) (copies_led n differ)
-
-  reads_led : (n : ℕ) (row : NodeRecord) → node_by_id t n ≡ Some row → With (node_by_id t (disk_node led n)) (IsDiskOf led row)
-  reads_led n row found = elim (cases_eq n node.id) [
-    | inl is ↦
-        let row_is : row ≡ node = (let at_it = subst (λ m. node_by_id t m ≡ Some row) is found in let at_node = node_found in cc) in
-        subst (λ m. With (node_by_id t (disk_node led m)) (IsDiskOf led row)) (sym is)
-        (subst (λ x. With (node_by_id t (disk_node led node.id)) (IsDiskOf led x)) (sym row_is) (own_reads led node node_found over.disk.own))
-    | inr differ ↦ by_disk differ (node_by_id t (disk_node t n)) refl (h.reads n row found)
-  ]
-    where
-      still : n ≢ node.id → (d : NodeRecord) → IsDiskOf t row d → IsDiskOf led row d
-      still differ d k =
-          let here = find-Some (λ x. x.id == n) t.nodes row found in
-          let is : row.id ≡ n = eqb-true row.id n here.1 in
-          record {
-            own = k.own;
-            itself = λ some. elim (k.itself some) [ inl same ↦ inl same | inr free ↦ inr (free_led d.id free) ];
-            writable = λ w. k.writable (sym (writes_led row.read_only row.id (λ same. differ (sym is ∙ same))) ∙ w);
-          }
-
-      by_disk : n ≢ node.id → (d : Option NodeRecord) → node_by_id t (disk_node t n) ≡ d → With d (IsDiskOf t row)
-          → With (node_by_id t (disk_node led n)) (IsDiskOf led row)
-      by_disk differ None e k = absurd k
-      by_disk differ (Some d) e k = elim (cases_eq (disk_node t n) node.id) [
-        | inr other ↦
-            subst (λ m. With (node_by_id t m) (IsDiskOf led row)) (sym (disk_led n differ ∙ r.others (disk_node t n) other))
-            (with_at (IsDiskOf led row) (node_by_id t (disk_node t n)) d e (still differ d k))
-        | inl at_it ↦ elim r.at_node [
-          | inl on ↦
-              subst (λ m. With (node_by_id t m) (IsDiskOf led row)) (sym (disk_led n differ ∙ ap to at_it ∙ on ∙ sym at_it))
-              (with_at (IsDiskOf led row) (node_by_id t (disk_node t n)) d e (still differ d k))
-          | inr over_it ↦
-              subst (λ m. With (node_by_id t m) (IsDiskOf led row)) (sym (disk_led n differ ∙ ap to at_it ∙ over_it))
-              (with_at (IsDiskOf led row) (node_by_id t overlay.id) overlay overlay_found
-              (record {
-                own = overlay_own;
-                itself = λ some. absurd (let bad = subst IsSome overlay_named some in cc);
-                writable = λ w. over.writable;
-              }))
-        ]
-      ]
-
-  -- ---- all that holds of the table
-
-  pub was_standing : (name : List ℕ) (row : NodeRecord) → StandsFor led name row → StandsFor t name row
-  was_standing name row over_file = record { there = over_file.there; filename = over_file.filename }
-
-  ends_led : (e : Edge) → Contains es e → HasEnds led e
-  ends_led e there = elim (r.old e there) [
-    | inl l ↦ record {
-      parent = λ n is. (h.edges l.edge l.there).parent n (l.parent ∙ is);
-      child = elim l.leads [
-        | inl same ↦ subst (λ n. IsSome (node_by_id t n)) (sym same) (h.edges l.edge l.there).child
-        | inr moved ↦ subst (λ n. IsSome (node_by_id t n)) (sym moved) (to_there l.edge l.there)
-      ];
-    }
-    | inr own ↦ record {
-      parent = λ n is.
-          let same : overlay.id ≡ n = (let both = own.parent ∙ is in cc) in
-          subst (λ m. IsSome (node_by_id t m)) same (subst IsSome (sym overlay_found) refl);
-      child = subst (λ m. IsSome (node_by_id t m)) own.child (subst IsSome (sym node_found) refl);
-    }
-  ]
-    where
-      to_there : (edge : Edge) → Contains t.edges edge → IsSome (node_by_id t (to edge.child))
-      to_there edge there = elim (cases_eq edge.child node.id) [
-        | inr other ↦ subst (λ n. IsSome (node_by_id t n)) (sym (r.others edge.child other)) (h.edges edge there).child
-        | inl at_it ↦ subst (λ n. IsSome (node_by_id t (to n))) (sym at_it) (elim r.at_node [
-          | inl on ↦ subst (λ n. IsSome (node_by_id t n)) (sym on) (subst IsSome (sym node_found) refl)
-          | inr over_it ↦ subst (λ n. IsSome (node_by_id t n)) (sym over_it) (subst IsSome (sym overlay_found) refl)
-        ])
-      ]
-
-  pub led_stands : IsAcyclic es → TableStands led
-  led_stands acyclic = record {
-    apart = h.apart;
-    drivers = λ name row f. h.drivers name row (was_standing name row f);
-    names = h.names;
-    own_names = h.own_names;
-    hidden = h.hidden;
-    alone = λ name a b fa fb. h.alone name a b (was_standing name a fa) (was_standing name b fb);
-    edges = ends_led;
-    roles = λ e row there row_there is. elim (r.old e there) [
-      | inl l ↦ subst (λ role. has_role row.kind role ≡ true) l.role (h.roles l.edge row l.there row_there (l.parent ∙ is))
-      | inr own ↦
-          let ids : row.id ≡ overlay.id = (let both = own.parent ∙ is in cc) in
-          let same : row ≡ overlay = same_row t h.apart overlay row over.overlay_there row_there ids in
-          let kind : row.kind ≡ Qcow2 = ap (λ x. x.kind) same ∙ over.driver in
-          rw (kind, sym own.role) refl
-    ];
-    acyclic = acyclic;
-    single = λ e there role. elim (r.old e there) [
-      | inl l ↦
-          let was = l.role ∙ role in
-          let o = h.single l.edge l.there was in (
-            o.0,
-            (
-              sym l.parent ∙ o.1.0,
-              r.children o.0 File (λ same. absurd cc) ∙ ap (option_map to) o.1.1 ∙ ap (λ (c : ℕ). Some c) (sym (l.file was)),
-            ),
-          )
-      | inr own ↦ absurd (let bad = own.role ∙ role in cc)
-    ];
-    taken = λ over_row under f some format.
-        let k = h.taken over_row under (was_under over_row under f some) some format in
-        record {
-          gone = k.gone;
-          sole = λ e there is. elim (r.old e there) [
-            | inl l ↦
-                let s = k.sole l.edge l.there (into_file e l under f.under_there some is) in
-                (sym l.parent ∙ s.0, sym l.role ∙ s.1)
-            | inr own ↦ absurd (not_node under f.under_there k.gone (sym is ∙ sym own.child))
-          ];
-          writable = k.writable;
-        };
-    filtered = still_filtered;
-    on_top = still_on_top;
-    reads = reads_led;
-    numbers = h.numbers;
-  }
-    where
-      not_node : (under : NodeRecord) → Contains t.nodes under → under.is_settled ≡ false → under.id ≡ node.id → ⊥
-      not_node under there gone is =
-          let same : under ≡ node = same_row t h.apart node under over.node_there there is in
-          let settled = ap (λ x. x.is_settled) same ∙ over.disk.settled in
-          cc
 
   -- a `file` node that was made with another one is under that
   pub led_inline : InlineAreUnder t → InlineAreUnder led

@@ -512,7 +512,7 @@ module _ (g : Graph) (small : (n : ℕ) → HasNode g n → n < 64) (t : RunTabl
       (kinds-mapped (node_changed id unsettled) (λ r. (same_unsettled id r).id) (kind_unsettled id) t.nodes (replicate 64 no_kind)) refl
   change_keeps_nodes (change.MakeWritable id) is suits fits =
       let now : RunTable = changed t (change.MakeWritable id) in
-      keeps_access g small t now (nodes_mapped t now (node_changed id writable) (same_writable id) refl) h.apart suits refl
+      keeps_access g small t now (nodes_mapped t now (node_changed id writable) (same_writable id) refl) h.apart (table_keeps t (change.MakeWritable id) suits h) refl
   change_keeps_nodes (change.PutFilter row node) is suits fits = absurd cc
   change_keeps_nodes (change.UseNode slot what node) is suits fits =
       keeps_put g small t (changed t (change.UseNode slot what node)) refl (table_keeps t (change.UseNode slot what node) suits h)
@@ -531,15 +531,16 @@ module _ (g : Graph) (small : (n : ℕ) → HasNode g n → n < 64) (t : RunTabl
       (table_keeps t (change.EndJob number slot drops) suits h) (Job slot) (λ n same. cc) refl
   change_keeps_nodes (change.PullFilter filter) is suits fits = absurd cc
   change_keeps_nodes (change.Rebase node None) is suits fits =
-      keeps_unbacked g small t (changed t (change.Rebase node None)) refl suits.stands node refl
-  change_keeps_nodes (change.Rebase node (Some base)) is suits fits = backed_keeps node base (suits.sizes base refl) suits.stands
+      keeps_unbacked g small t (changed t (change.Rebase node None)) refl (table_keeps t (change.Rebase node None) suits h) node refl
+  change_keeps_nodes (change.Rebase node (Some base)) is suits fits =
+      backed_keeps node base suits.sizes (table_keeps t (change.Rebase node (Some base)) suits h)
   change_keeps_nodes (change.Settle node disk) is suits fits =
       let now : RunTable = changed t (change.Settle node disk) in
       keeps_still g t now (nodes_mapped t now (node_changed node settled) (same_settled node) refl)
       (kinds-mapped (node_changed node settled) (λ r. (same_settled node r).id) (kind_settled node) t.nodes (replicate 64 no_kind)) refl
   change_keeps_nodes (change.MakeReadOnly id) is suits fits =
       let now : RunTable = changed t (change.MakeReadOnly id) in
-      keeps_access g small t now (nodes_mapped t now (node_changed id kept_from_writes) (same_read_only id) refl) h.apart suits refl
+      keeps_access g small t now (nodes_mapped t now (node_changed id kept_from_writes) (same_read_only id) refl) h.apart (table_keeps t (change.MakeReadOnly id) suits h) refl
   change_keeps_nodes (change.AddDevice device node) is suits fits =
       let now : RunTable = changed t (change.AddDevice device node) in
       keeps_put g small t now refl (table_keeps t (change.AddDevice device node) suits h) (device_edge device node) refl
@@ -552,9 +553,11 @@ module _ (g : Graph) (small : (n : ℕ) → HasNode g n → n < 64) (t : RunTabl
   change_keeps_nodes (change.RemoveDevice number) is suits fits =
       keeps_without g small t (changed t (change.RemoveDevice number)) refl (table_keeps t (change.RemoveDevice number) suits h) (Guest number)
       (λ n same. cc) refl
-  change_keeps_nodes (change.Attach overlay node) is suits fits = backed_keeps overlay node suits.sizes suits.stands
+  change_keeps_nodes (change.Attach overlay node) is suits fits =
+      backed_keeps overlay node suits.sizes (table_keeps t (change.Attach overlay node) suits h)
   change_keeps_nodes (change.Move from to but) is suits fits =
-      keeps_moved g small t (changed t (change.Move from to but)) refl there h suits.stands from to but suits.sizes suits.free refl
+      keeps_moved g small t (changed t (change.Move from to but)) refl there h (table_keeps t (change.Move from to but) suits h) from to but suits.sizes suits.plain.free
+      refl
   change_keeps_nodes (change.AddBitmap row) is suits fits = keeps_same g t (changed t (change.AddBitmap row)) refl refl
   change_keeps_nodes (change.RemoveBitmap node name) is suits fits = keeps_same g t (changed t (change.RemoveBitmap node name)) refl refl
   change_keeps_nodes (change.TurnBitmap node name on) is suits fits = keeps_same g t (changed t (change.TurnBitmap node name on)) refl refl

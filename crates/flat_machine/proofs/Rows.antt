@@ -173,6 +173,25 @@ stays-at t now rows node some = by_row (node_by_id t node) refl some
           like = later.1.1;
         }
 
+-- ---- rows that are changed, each of which keeps its id
+
+pub mapped_apart : (t now : RunTable) (f : NodeRecord → NodeRecord) → ((row : NodeRecord) → (f row).id ≡ row.id) → now.nodes ≡ map f t.nodes
+    → HaveDistinctIds t → HaveDistinctIds now
+mapped_apart t now f ids nodes apart later there = by_row (Contains-map f t.nodes later (subst (λ ns. Contains ns later) nodes there))
+  where
+    by_row : (row : NodeRecord) × Contains t.nodes row × (later ≡ f row) → node_by_id now later.id ≡ Some later
+    by_row (row, at, is) =
+        let id : later.id ≡ row.id = ap (λ r. r.id) is ∙ ids row in
+        ap (find (λ r. r.id == later.id)) nodes
+        ∙ find-map (λ r. r.id == later.id) f (λ r. ap (λ k. k == later.id) (ids r)) t.nodes
+        ∙ ap (option_map f) (subst (λ n. node_by_id t n ≡ Some row) (sym id) (apart row at))
+        ∙ ap Some (sym is)
+
+pub found_mapped : (t now : RunTable) (f : NodeRecord → NodeRecord) → ((row : NodeRecord) → (f row).id ≡ row.id) → now.nodes ≡ map f t.nodes
+    → (n : ℕ) → node_by_id now n ≡ option_map f (node_by_id t n)
+found_mapped t now f ids nodes n =
+    ap (find (λ r. r.id == n)) nodes ∙ find-map (λ r. r.id == n) f (λ r. ap (λ k. k == n) (ids r)) t.nodes
+
 -- ---- what a node reads as
 
 pub from-child : (more : ℕ) (t : RunTable) (node : ℕ) (below : Option ℕ) → filtered t node ≡ below

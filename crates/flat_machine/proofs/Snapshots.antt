@@ -1,16 +1,21 @@
 -- A snapshot that nothing refuses: its changes can be made, and keep what holds of tables and states.
 use Rattle.std.proofs.Common.{◌≡◌, ℕ, true, false, List, [], ◌∷◌, ◌++◌, refl, sym, ap, subst, ◌∙◌, inl, inr, Option, Some, None}
-use Rattle.std.specs.Prelude.{◌==◌, not, bytes_eq, is_some}
-use Rattle.std.proofs.lemmas.Bool.{eqb-true, not-false}
+use Rattle.std.specs.Prelude.{◌==◌, ◌&&◌, not, bytes_eq, is_some, IsSome}
+use Rattle.std.specs.List.{Contains}
+use Rattle.std.proofs.lemmas.Bool.{eqb-true, eq-eqb, not-false}
 use Rattle.blk_graph.specs.declared.edge.Edge.{Edge}
 use Rattle.blk_graph.specs.declared.edge.Parent.TheVariants.{Node}
 use Rattle.blk_graph.specs.declared.edge.Role.TheVariants.{Backing}
 use Rattle.blk_graph.specs.declared.kind.Kind.{Kind}
 use Rattle.blk_graph.specs.declared.kind.Kind.TheVariants.{Protocol, Raw, Qcow2, CopyOnRead, BeforeWrite, Mirror, Commit}
 use Rattle.blk_graph.specs.Edits.{with_edge, with_replaced}
-use Rattle.blk_graph.specs.Paths.{IsAcyclic}
-use Rattle.blk_graph.specs.Permissions.{node_edge}
+use Rattle.blk_graph.specs.Edges.{same_parent}
+use Rattle.blk_graph.specs.Paths.{Reaches}
+use Rattle.blk_graph.specs.Permissions.{has_role, node_edge}
 use Rattle.blk_graph.specs.Refreshed.{refreshed}
+use Rattle.blk_graph.proofs.ChildLemmas.{reached-entered}
+use Rattle.blk_graph.proofs.Members.{Contains-filter}
+use Rattle.blk_graph.proofs.PathLemmas.{Reaches-covered, Reaches-edge}
 use Rattle.qmp_codec.specs.declared.nodes.Snapshot.{Snapshot}
 use Rattle.qmp_asks.specs.declared.ask.Ask.TheVariants as ask
 use Rattle.qmp_asks.specs.declared.ask.Drivers.TheVariants as drivers
@@ -18,7 +23,7 @@ use Rattle.qmp_rules.specs.declared.change.Change.{Change}
 use Rattle.qmp_rules.specs.declared.change.Change.TheVariants as change
 use Rattle.qmp_rules.specs.declared.rows.NodeRecord.{NodeRecord}
 use Rattle.qmp_rules.specs.declared.told.Told.{Told}
-use Rattle.qmp_rules.specs.Table.{RunTable, node_named, child, kinds_of}
+use Rattle.qmp_rules.specs.Table.{RunTable, node_by_id, node_named, child, kinds_of}
 use Rattle.qmp_rules.specs.Asks.{holds, takes}
 use Rattle.qmp_asks.specs.NodeAsks.{snapshot_values, snapshot_names, snapshot_rest}
 use Rattle.qmp_rules.specs.Edits.{snapshot_edits}
@@ -26,14 +31,17 @@ use Rattle.qmp_rules.specs.Changes.{changed, all_changed}
 use Rattle.qmp_rules.specs.Answers.{told_none}
 use Rattle.qmp_rules.specs.Chains.{filter_role}
 use Rattle.flat_machine.specs.Wiring.{InlineAreUnder, TableStands, TableAtRest}
-use Rattle.flat_machine.specs.Suiting.{AllTableSuit}
+use Rattle.flat_machine.specs.Suiting.{AllTableSuit, SuitsAttach, SuitsMove, without_way}
 use Rattle.flat_machine.proofs.Finds.{bytes_eq-same, same-bytes_eq}
 use Rattle.flat_machine.proofs.Asked.{not-refused, NoneHolds, good-value, found-named, takes-driver, lone-node, settled-node}
 use Rattle.flat_machine.proofs.Accepted.{no_filter, no_edge}
 use Rattle.flat_machine.proofs.Rows.{same_row}
 use Rattle.flat_machine.proofs.TableSuited.{named-row, own-settled, settled-free, writable-node}
-use Rattle.flat_machine.proofs.Redirected.{LiesOver, led_stands, led_inline}
-use Rattle.flat_machine.proofs.Covered.{staying, attached, attached_acyclic, moving, moved, moved_acyclic}
+use Rattle.flat_machine.proofs.Backed as backed
+use Rattle.flat_machine.proofs.MovedTables.{moved_table}
+use Rattle.flat_machine.proofs.Redirected.{LiesOver, led_inline, overlay_named}
+use Rattle.flat_machine.proofs.TablesKept.{not_copying}
+use Rattle.flat_machine.proofs.Covered.{staying, attached, moving, moved, overlay_apart}
 
 -- ---- its nodes
 
@@ -139,9 +147,30 @@ module _ (t : RunTable) (node overlay : NodeRecord) (over : LiesOver t node over
   abbrev pub covered_table : RunTable
   covered_table = record t { edges = covered_edges }
 
+  node_found : node_by_id t node.id ≡ Some node
+  node_found = h.apart node over.node_there
+
+  overlay_found : node_by_id t overlay.id ≡ Some overlay
+  overlay_found = h.apart overlay over.overlay_there
+
+  own_overlay : filter_role overlay.kind ≡ None
+  own_overlay = ap filter_role over.driver
+
+  pub attach_suits : SuitsAttach t overlay.id node.id
+  attach_suits = record {
+    sizes = record { row = overlay; other = node; found = overlay_found; other_found = node_found; same = over.size };
+    role = subst (λ k. has_role k Backing ≡ true) (sym over.driver) refl;
+    free = settled-free t told_none h node over.node_there over.disk.settled;
+    plain = not_copying node.kind over.disk.own;
+    apart = λ back. elim back [
+      | inl same ↦ over.other (sym same)
+      | inr way ↦ reached-entered t.edges node.id overlay.id way.first way.rest way.path (λ e there is. over.lone e there is)
+    ];
+  }
+
   pub attached_stands : TableStands attached_table
-  attached_stands = led_stands t attached_edges node overlay staying over (attached t node overlay (kinds_of t.nodes) bare) h
-      (attached_acyclic t node overlay over bare h (kinds_of t.nodes))
+  unfolding changed
+  attached_stands = backed.attached_table t overlay.id node.id attach_suits h
 
   pub over_attached : LiesOver attached_table node overlay
   over_attached = record {
@@ -161,12 +190,57 @@ module _ (t : RunTable) (node overlay : NodeRecord) (over : LiesOver t node over
     ];
   }
 
-  pub covered_acyclic : IsAcyclic covered_edges
-  covered_acyclic = moved_acyclic t node overlay over bare h (kinds_of t.nodes) (kinds_of t.nodes)
+  -- beside its edge to the node the overlay leads where it did
+  led_before : (a : ℕ) (e : Edge) → Contains (without_way overlay.id node.id attached_edges) e → e.parent ≡ Node a → Reaches t.edges a e.child
+  led_before a e there from =
+      let kept = Contains-filter (λ x. not (same_parent x.parent (Node overlay.id) && x.child == node.id)) attached_edges e there in
+      elim ((attached t node overlay (kinds_of t.nodes) bare).old e kept.0) [
+        | inl l ↦
+            let to : l.edge.child ≡ e.child = elim l.leads [ inl same ↦ sym same | inr same ↦ sym same ] in
+            subst (Reaches t.edges a) to (Reaches-edge t.edges a l.edge l.there (l.parent ∙ from))
+        | inr own ↦
+            let way : (same_parent e.parent (Node overlay.id) && e.child == node.id) ≡ true
+            = rw (sym own.parent, sym own.child, eq-eqb overlay.id overlay.id refl, eq-eqb node.id node.id refl) refl in
+            let not_way = kept.1 in
+            let bad = ap not way in
+            absurd cc
+      ]
+
+  pub move_suits : SuitsMove attached_table node.id overlay.id overlay.id
+  move_suits = record {
+    sizes = record { row = node; other = overlay; found = node_found; other_found = overlay_found; same = sym over.size };
+    plain = record {
+      row = node;
+      there = node_found;
+      own = over.disk.own;
+      free = settled-free attached_table told_none attached_stands node over.node_there over.disk.settled;
+    };
+    onto = record {
+      row = overlay;
+      there = overlay_found;
+      own = own_overlay;
+      free = λ under above at some f format.
+          let found = overlay_found in
+          let same : under ≡ overlay = cc in
+          let none = ap (λ r. r.filename) same ∙ overlay_named t attached_edges node overlay staying over (attached t node overlay (kinds_of t.nodes) bare) h in
+          let bad = subst IsSome none some in
+          cc;
+    };
+    writable = over.writable;
+    apart = λ back. elim back [
+      | inl same ↦ over.other same
+      | inr way ↦ (overlay_apart t node overlay over bare h).away
+          (Reaches-covered (without_way overlay.id node.id attached_edges) t.edges led_before overlay.id node.id way.first way.rest way.path)
+    ];
+    stays = λ row at.
+        let found = overlay_found in
+        let same : row ≡ overlay = cc in
+        ap (λ r. filter_role r.kind) same ∙ own_overlay;
+  }
 
   pub covered_stands : TableStands covered_table
-  covered_stands = led_stands attached_table covered_edges node overlay (moving node.id overlay.id) over_attached
-      (moved attached_table node overlay (kinds_of t.nodes) over_attached attached_stands) attached_stands covered_acyclic
+  unfolding changed
+  covered_stands = moved_table attached_table node.id overlay.id overlay.id move_suits attached_stands
 
   pub covered_inline : InlineAreUnder t → InlineAreUnder covered_table
   covered_inline inline = led_inline attached_table covered_edges node overlay (moving node.id overlay.id) over_attached
@@ -179,32 +253,7 @@ module _ (t : RunTable) (node overlay : NodeRecord) (over : LiesOver t node over
 
   pub covered_suit : AllTableSuit t (change.Attach overlay.id node.id ∷ change.Move node.id overlay.id overlay.id ∷ [])
   unfolding changed
-  covered_suit = (
-    record {
-      sizes = record {
-        row = overlay;
-        other = node;
-        found = h.apart overlay over.overlay_there;
-        other_found = h.apart node over.node_there;
-        same = over.size;
-      };
-      stands = attached_stands;
-    },
-    (
-      record {
-        sizes = record {
-          row = node;
-          other = overlay;
-          found = h.apart node over.node_there;
-          other_found = h.apart overlay over.overlay_there;
-          same = sym over.size;
-        };
-        free = settled-free attached_table told_none attached_stands node over.node_there over.disk.settled;
-        stands = covered_stands;
-      },
-      tt,
-    ),
-  )
+  covered_suit = (attach_suits, (move_suits, tt))
 
 -- ---- the command
 

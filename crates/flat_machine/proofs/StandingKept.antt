@@ -11,7 +11,6 @@ use Rattle.blk_graph.specs.declared.kind.JobUse.{JobUse}
 use Rattle.blk_graph.specs.declared.kind.NodeKind.{NodeKind}
 use Rattle.blk_graph.specs.Edges.{same_parent}
 use Rattle.blk_graph.specs.Edits.{child_of, takes_place, with_edge, without_parent}
-use Rattle.blk_graph.specs.Refreshed.{refreshed}
 use Rattle.blk_graph.specs.Permissions.{node_edge, job_edge}
 use Rattle.blk_graph.proofs.Members.{find-Some, Contains-filter}
 use Rattle.blk_graph.proofs.CycleLemmas.{same_parent-true}
@@ -29,12 +28,12 @@ use Rattle.flat_machine.specs.State.{State, Content, Unknown, content_in, filena
 use Rattle.flat_machine.specs.Contents.{with_content, mapped_in}
 use Rattle.flat_machine.specs.Changed.{stepped, all_stepped, name_if, name_file, overlay_file, know_if, content_under, bytes_by_format, left_disk}
 use Rattle.flat_machine.specs.Wiring.{StandsFor, IsUnder, TableStands}
-use Rattle.flat_machine.specs.Standing.{IsLostBy, IsOfState, IsOpenlyKnown, FilesAreOfState, IsUsedUp, WritingStands, Stands}
+use Rattle.flat_machine.specs.Standing.{IsLostBy, IsOfState, IsOpenlyKnown, IsUsedUp, WritingStands, Stands}
 use Rattle.flat_machine.specs.Suiting.{IsThere, IsPlainNode, FileSuits, FormatSuits, SuitsFilter, RemovalSuits, UnsettleSuits, DeviceSuits, Suits, AllSuit}
 use Rattle.flat_machine.proofs.Finds.{content_in-with, content_in-with_other, cases_name}
 use Rattle.flat_machine.proofs.Accepted.{added_files}
 use Rattle.flat_machine.proofs.Kept.{with_format, left_alone}
-use Rattle.flat_machine.proofs.Tables.{pushed-cases, pushed-old, filter-keeps, with_edge-keeps, apart-parents}
+use Rattle.flat_machine.proofs.Tables.{filter-keeps, with_edge-keeps, apart-parents}
 use Rattle.flat_machine.proofs.Rows.{under-refreshed, IsLike, SameRows, rows-same, rows-mapped, same_row, changed_row, like_unsettled, kept_unsettled}
 use Rattle.flat_machine.proofs.TablesKept.{new_parent, rows_table, file_table, format_table, filter_table, removed_table, device_table, rows_grow}
 use Rattle.flat_machine.proofs.Wired.{Grows, NoRow, NoEdge}
@@ -42,106 +41,13 @@ use Rattle.flat_machine.proofs.WritingKept.{grown_writing, left_still}
 use Rattle.flat_machine.proofs.WritingAdded.{has_name-grows, drive_there, same_devices, file_writing, format_writing, filter_writing, remove_writing, device_writing}
 use Rattle.flat_machine.proofs.DevicesGone.{gone_table, gone_writing}
 use Rattle.flat_machine.proofs.JobEdges.{over_table, over_writing, use_table, use_writing}
+use Rattle.flat_machine.proofs.StandingAdded.{IsNewRow, HasEdges, under-kept, added_stands, open-before, stands-pushed, no_file_row}
+use Rattle.flat_machine.proofs.LentStates.{settled_holds, writable_holds, kept_holds}
+use Rattle.flat_machine.proofs.MovedStates.{attached_holds, moved_holds, rebased_holds}
+use Rattle.flat_machine.proofs.FilterStates.{put_holds, pulled_holds}
 use Rattle.flat_machine.proofs.FilesStand.{use_stands, spoil_stands, make_stands, format_stands}
 
 -- ---- one node more
-
-record IsNewRow (now : State) (new : NodeRecord) : Type 0 where
-  file_there : (name : List ℕ) → new.filename ≡ Some name → IsSome (content_in now.files name)
-  settled : (name : List ℕ) → new.filename ≡ Some name → new.is_settled ≡ true
-
--- edges are the old ones, those to `file` nodes among them, with others, derived anew
-record HasEdges (s now : State) : Type 0 where
-  kinds : List NodeKind
-  before : List Edge
-  derived : now.table.edges ≡ refreshed kinds before
-  keeps : (e : Edge) → Contains s.table.edges e → e.role ≡ File → Contains before e
-
-under-kept : (s now : State) → HasEdges s now → (file : ℕ) → IsUnder s.table.edges file → IsUnder now.table.edges file
-under-kept s now es file h =
-    subst (λ edges. IsUnder edges file) (sym es.derived)
-    (under-refreshed es.kinds es.before file
-    (record { edge = h.edge; there = es.keeps h.edge h.there h.over; over = h.over; child = h.child }))
-
-module _ (s now : State) (between : RunTable) (new : NodeRecord) where
-  added_stands : SameRows s.table between → now.table.nodes ≡ between.nodes ++ new ∷ [] → HasEdges s now
-      → now.table.files ≡ s.table.files → IsNewRow now new
-      → ((name : List ℕ) → IsSome (content_in s.files name) → IsSome (content_in now.files name))
-      → ((other : List ℕ) (row later : NodeRecord) → StandsFor s.table other row → IsLike row later → Contains between.nodes later
-      → later.is_settled ≡ false → (row.is_settled ≡ false) ⊎ IsLostBy now.table other later)
-      → FilesAreOfState now → TableStands now.table → WritingStands now → Stands s → Stands now
-  added_stands rows nodes es files is_new there loses states table writing h = record {
-    table = table;
-    files = λ name row over. elim (origin row over.there) [
-      | inl old ↦ there name (h.files name old.0 (stood name row old over))
-      | inr same ↦ is_new.file_there name (sym (ap (λ r. r.filename) same) ∙ over.filename)
-    ];
-    lost = λ name row over gone. elim (pushed-cases between.nodes new row (subst (λ ns. Contains ns row) nodes over.there)) [
-      | inl in_between ↦
-          let old = rows.back row in_between in
-          elim (loses name old.0 row (stood name row old over) old.1.1 in_between gone) [
-            | inl was ↦ lost_as_before name old.0 row old.1.1 (h.lost name old.0 (stood name row old over) was)
-            | inr is_lost ↦ is_lost
-          ]
-      | inr same ↦
-          let settled = is_new.settled name (sym (ap (λ r. r.filename) same) ∙ over.filename) in
-          let lost_it = ap (λ r. r.is_settled) same in
-          absurd cc
-    ];
-    states = states;
-    formatted = λ name is.
-        let row = h.formatted name (subst (λ fs. option_map (λ r. r.state) (find (λ r. bytes_eq r.name name) fs) ≡ Some Formatted) files is) in
-        let later = rows.forth row.0 row.1.there in (
-          later.0,
-          record {
-            there = subst (λ ns. Contains ns later.0) (sym nodes) (pushed-old between.nodes new later.0 later.1.0);
-            filename = later.1.1.filename ∙ row.1.filename;
-          },
-        );
-    writing = writing;
-  }
-    where
-      origin : (row : NodeRecord) → Contains now.table.nodes row → ((old : NodeRecord) × (Contains s.table.nodes old × IsLike old row)) ⊎ (row ≡ new)
-      origin row in_now = elim (pushed-cases between.nodes new row (subst (λ ns. Contains ns row) nodes in_now)) [
-        | inl in_between ↦ inl (rows.back row in_between)
-        | inr same ↦ inr same
-      ]
-
-      stood : (name : List ℕ) (row : NodeRecord) (old : (r : NodeRecord) × (Contains s.table.nodes r × IsLike r row)) → StandsFor now.table name row
-          → StandsFor s.table name old.0
-      stood name row old over = record { there = old.1.0; filename = sym old.1.1.filename ∙ over.filename }
-
-      state_same : (name : List ℕ) (state : FileState) → file_state s.table name ≡ Some state → file_state now.table name ≡ Some state
-      state_same name state is =
-          subst (λ fs. option_map (λ r. r.state) (find (λ r. bytes_eq r.name name) fs) ≡ Some state) (sym files) is
-
-      lost_as_before : (name : List ℕ) (row later : NodeRecord) → IsLike row later → IsLostBy s.table name row → IsLostBy now.table name later
-      lost_as_before name row later like (inl used) = inl (state_same name Used used)
-      lost_as_before name row later like (inr (inl image)) = inr (inl (state_same name Formatted image))
-      lost_as_before name row later like (inr (inr under)) =
-          inr (inr (under-kept s now es later.id (subst (IsUnder s.table.edges) (sym like.id) under)))
-
--- what is open was open before
-open-before : (s now : State) → HasEdges s now
-    → ((name : List ℕ) (row : NodeRecord) → StandsFor s.table name row → (later : NodeRecord) × (StandsFor now.table name later × (later.id ≡ row.id)))
-    → (name : List ℕ) → IsOpenlyKnown now.table name → IsOpenlyKnown s.table name
-open-before s now es forth name is_open row over under =
-    let later = forth name row over in
-    is_open later.0 later.1.0 (under-kept s now es later.0.id (subst (IsUnder s.table.edges) (sym later.1.1) under))
-
-stands-pushed : (t between now : RunTable) (new : NodeRecord) → SameRows t between → now.nodes ≡ between.nodes ++ new ∷ []
-    → (name : List ℕ) (row : NodeRecord) → StandsFor t name row → (later : NodeRecord) × (StandsFor now name later × (later.id ≡ row.id))
-stands-pushed t between now new rows nodes name row over =
-    let later = rows.forth row over.there in (
-      later.0,
-      (
-        record {
-          there = subst (λ ns. Contains ns later.0) (sym nodes) (pushed-old between.nodes new later.0 later.1.0);
-          filename = later.1.1.filename ∙ over.filename;
-        },
-        later.1.1.id,
-      ),
-    )
 
 file_node_stands : (s : State) (row : NodeRecord) → FileSuits s row → Stands s → Stands (stepped s (change.AddFile row))
 unfolding changed
@@ -176,13 +82,6 @@ file_node_stands s row suits h =
           (subst (λ n. IsSome (content_in s.files n)) (same_name name is) suits.there);
       settled = λ name is. suits.settled;
     }
-
--- a row that stands for no file
-no_file_row : (now : State) (row : NodeRecord) → row.filename ≡ None → IsNewRow now row
-no_file_row now row none = record {
-  file_there = λ name is. absurd cc;
-  settled = λ name is. absurd cc;
-}
 
 filter_stands : (s : State) (row : NodeRecord) (child : ℕ) → SuitsFilter s.table row child → Stands s → Stands (stepped s (change.AddFilter row child))
 unfolding changed
@@ -650,8 +549,8 @@ stands_keep s (change.AddFilter row child) suits h = filter_stands s row child s
 stands_keep s (change.RemoveNode node) suits h = remove_stands s node suits h
 stands_keep s (change.AddDevice device node) suits h = device_stands s device node suits h
 stands_keep s (change.Unsettle id) suits h = unsettle_stands s id suits h
-stands_keep s (change.MakeWritable id) suits h = suits
-stands_keep s (change.PutFilter row node) suits h = suits
+stands_keep s (change.MakeWritable id) suits h = writable_holds s id suits h
+stands_keep s (change.PutFilter row node) suits h = put_holds s row node suits h
 stands_keep s (change.UseNode slot what node) suits h = node_used_stands s slot what node suits h
 stands_keep s (change.StartJob row) suits h = start_stands s row h
 stands_keep s (change.AskJob number asked) suits h =
@@ -659,13 +558,13 @@ stands_keep s (change.AskJob number asked) suits h =
 stands_keep s (change.ReadyJob number) suits h =
     still_stands s (stepped s (change.ReadyJob number)) refl refl refl refl refl refl refl refl refl h
 stands_keep s (change.EndJob number slot drops) suits h = over_stands s number slot drops h
-stands_keep s (change.PullFilter filter) suits h = suits
-stands_keep s (change.Rebase node backing) suits h = suits
-stands_keep s (change.Settle node disk) suits h = suits
-stands_keep s (change.MakeReadOnly id) suits h = suits
+stands_keep s (change.PullFilter filter) suits h = pulled_holds s filter suits h
+stands_keep s (change.Rebase node backing) suits h = rebased_holds s node backing suits h
+stands_keep s (change.Settle node disk) suits h = settled_holds s node disk suits h
+stands_keep s (change.MakeReadOnly id) suits h = kept_holds s id suits h
 stands_keep s (change.RemoveDevice number) suits h = device_gone_stands s number h
-stands_keep s (change.Attach overlay node) suits h = suits
-stands_keep s (change.Move from to but) suits h = suits
+stands_keep s (change.Attach overlay node) suits h = attached_holds s overlay node suits h
+stands_keep s (change.Move from to but) suits h = moved_holds s from to but suits h
 stands_keep s (change.AddBitmap row) suits h =
     still_stands s (stepped s (change.AddBitmap row)) refl refl refl refl refl refl refl refl refl h
 stands_keep s (change.RemoveBitmap node name) suits h =

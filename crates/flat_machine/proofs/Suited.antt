@@ -37,11 +37,11 @@ use Rattle.qmp_rules.specs.declared.rows.FileState.{FileState}
 use Rattle.qmp_rules.specs.declared.rows.FileState.TheVariants.{Used}
 use Rattle.qmp_rules.specs.declared.told.Told.{Told}
 use Rattle.qmp_rules.specs.Table.{RunTable, node_by_id, node_named, device_by_number, device_named, file_state, child, kinds_of}
-use Rattle.qmp_asks.specs.Naming.{is_name}
+use Rattle.qmp_asks.specs.Naming.{is_file_name, is_name}
 use Rattle.qmp_rules.specs.Chains.{filter_role, disk_node}
 use Rattle.qmp_rules.specs.Changes.{changed, without_record}
 use Rattle.qmp_rules.specs.Edits.{place_from, unused_from, device_number, inline_row, raw_edits, qcow2_edits, added_edits, add_edits, length_told, edits_of, file_uses, file_under, name_of_file_at, goes_with_node, with_inline, created_change, file_of_node, del_edits, new_device, device_add_edits, merges}
-use Rattle.qmp_asks.specs.NodeAsks.{create_values, create_names, create_rest, del_asks, device_add_asks, add_asks, option_values, added_values, added_names, is_read_only, added_rest, raw_rest, qcow2_rest, is_added, backing_name}
+use Rattle.qmp_asks.specs.NodeAsks.{create_values, create_names, create_rest, del_asks, device_add_asks, add_asks, option_values, added_values, added_names, file_names, is_read_only, added_rest, raw_rest, qcow2_rest, is_added, backing_name}
 use Rattle.qmp_rules.specs.Looks.{is_unopened}
 use Rattle.qmp_asks.specs.Asking.{Asking}
 use Rattle.qmp_rules.specs.Asks.{id_or, holds, first_unmet_ask, takes, is_file, is_lost, name_of_file}
@@ -58,13 +58,13 @@ use Rattle.flat_machine.specs.Standing.{Stands, StandsAtRest}
 use Rattle.flat_machine.specs.Suiting.{IsAlone, AllTableSuit, RemovalSuits, FormattingSuits, AllSuit}
 use Rattle.flat_machine.proofs.Finds.{bytes_eq-same, same-bytes_eq, content_in-with}
 use Rattle.flat_machine.proofs.Fresh.{any-Contains, lowest_from-cases, no-found}
-use Rattle.flat_machine.proofs.Asked.{none-both, not-refused, NoneHolds, none-holds, none-behind, good-value, found-named, takes-driver, room-left, none-stands, known-file, known-under, lone-node}
+use Rattle.flat_machine.proofs.Asked.{none-both, not-refused, NoneHolds, none-ahead, none-holds, none-behind, good-value, named-file, found-named, takes-driver, room-left, none-stands, known-file, known-under, lone-node}
 use Rattle.flat_machine.proofs.Accepted.{none-over, row_at, is_protocol, file_can, inline_can, raw_told_absent, qcow2_told_absent, no_edge}
 use Rattle.flat_machine.proofs.Tables.{file_state-with}
 use Rattle.flat_machine.proofs.Wired.{OldEdge, NoEdge}
 use Rattle.flat_machine.proofs.TablesKept.{IsOther, kept_row}
 use Rattle.flat_machine.proofs.FilesStand.{use_stands}
-use Rattle.flat_machine.proofs.OwnNames.{named-if}
+use Rattle.flat_machine.proofs.OwnNames.{named-if, names-asked}
 use Rattle.flat_machine.proofs.CopiedFiles.{copied_used}
 use Rattle.flat_machine.proofs.TableSuited.{named-row, own-settled, file-own, inline-found, add-table, NamedDrive, named-drive, device-suits, free-used}
 use Rattle.flat_machine.proofs.DriveWrites.{drive_may, one-disk}
@@ -84,11 +84,12 @@ not_used is_raw state kept used = let lost = subst (λ st. is_lost is_raw st ≡
 module _ (s : State) (told : Told) (c : BlockdevAdd (List ℕ)) (name : List ℕ) (read_only : Bool) (stands : Stands s)
     (may : MayStop s (command.BlockdevAdd c) (told_for s (command.BlockdevAdd c)).stopped told.stopped) where
   file_suits : (filename : List ℕ) → c.driver ≡ added.File filename
-      → NoneHolds s.table told (added_rest name read_only (added.File filename))
+      → NoneHolds s.table told (added_names (added.File filename)) → NoneHolds s.table told (added_rest name read_only (added.File filename))
       → (exp : Told) → AllTableSuit s.table (added_edits s.table exp name read_only (added.File filename))
       → AllSuit s (added_edits s.table exp name read_only (added.File filename))
-  file_suits filename driver asks exp table =
-      let can = file_can s told c name read_only stands may filename driver asks (length_told exp) read_only name in
+  file_suits filename driver names asks exp table =
+      let can = file_can s told c name read_only stands may filename driver (named-file s.table told (codes "filename") filename names.0) asks
+      (length_told exp) read_only name in
       let named = table.0.filename in
       let same : filename ≡ table.0.name = cc in (
         record {
@@ -102,13 +103,13 @@ module _ (s : State) (told : Told) (c : BlockdevAdd (List ℕ)) (name : List ℕ
       )
 
   raw_inline_suits : (raw : AddRaw (List ℕ)) (file : InlineFile (List ℕ)) → c.driver ≡ added.Raw raw → raw.file ≡ file_ref.Inline file
-      → NoneHolds s.table told (raw_rest name read_only raw (file_ref.Inline file))
+      → is_file_name file.filename ≡ true → NoneHolds s.table told (raw_rest name read_only raw (file_ref.Inline file))
       → (exp : Told) → AllTableSuit s.table (raw_edits s.table exp name read_only raw (file_ref.Inline file))
       → AllSuit s (raw_edits s.table exp name read_only raw (file_ref.Inline file))
   unfolding changed
-  raw_inline_suits raw file driver inline asks exp table =
+  raw_inline_suits raw file driver inline of_file_name asks exp table =
       let room = room-left s.table told 2 asks.1.1.1.0 in
-      let can = inline_can s told c name read_only stands may file true
+      let can = inline_can s told c name read_only stands may file true of_file_name
       (λ e closed. raw_told_absent s c raw file driver inline closed e) (λ e. rw driver refl) room
       asks.1.1.1.1.0 asks.1.1.1.1.1.0 asks.1.1.1.1.1.1.0 exp in
       let known = known-file s.table told file.filename true asks.1.1.1.1.1.1.0 in
@@ -136,13 +137,14 @@ module _ (s : State) (told : Told) (c : BlockdevAdd (List ℕ)) (name : List ℕ
       )
 
   qcow2_inline_suits : (image : AddQcow2 (List ℕ)) (file : InlineFile (List ℕ)) (back : Option (List ℕ)) → c.driver ≡ added.Qcow2 image
-      → image.file ≡ file_ref.Inline file → NoneHolds s.table told (qcow2_rest name read_only back (file_ref.Inline file))
+      → image.file ≡ file_ref.Inline file → is_file_name file.filename ≡ true
+      → NoneHolds s.table told (qcow2_rest name read_only back (file_ref.Inline file))
       → (exp : Told) → AllTableSuit s.table (qcow2_edits s.table exp name read_only back (file_ref.Inline file))
       → AllSuit s (qcow2_edits s.table exp name read_only back (file_ref.Inline file))
   unfolding changed
-  qcow2_inline_suits image file back driver inline asks exp table =
+  qcow2_inline_suits image file back driver inline of_file_name asks exp table =
       let room = room-left s.table told 2 asks.1.1.1.1.0 in
-      let can = inline_can s told c name read_only stands may file false
+      let can = inline_can s told c name read_only stands may file false of_file_name
       (λ e closed. qcow2_told_absent s c image file driver inline closed e)
       (λ e. rw (driver, inline, e) (and_right (not (is_unopened s.table file.filename)) false refl)) room
       asks.1.1.1.1.1.1.0 asks.1.1.1.1.1.1.1.0 asks.1.1.1.1.1.1.1.1.0 exp in
@@ -186,11 +188,12 @@ module _ (s : State) (told : Told) (c : BlockdevAdd (List ℕ)) (name : List ℕ
       not_used is_raw (file_state s.table of) (subst (λ n. is_lost is_raw (file_state s.table n) ≡ false) name_is kept) used
 
   raw_suits : (raw : AddRaw (List ℕ)) (file : FileRef (List ℕ)) → c.driver ≡ added.Raw raw → raw.file ≡ file
-      → NoneHolds s.table told (raw_rest name read_only raw file)
+      → NoneHolds s.table told (file_names file) → NoneHolds s.table told (raw_rest name read_only raw file)
       → (exp : Told) → AllTableSuit s.table (raw_edits s.table exp name read_only raw file)
       → AllSuit s (raw_edits s.table exp name read_only raw file)
-  raw_suits raw (file_ref.Inline file) driver is asks exp table = raw_inline_suits raw file driver is asks exp table
-  raw_suits raw (file_ref.Name file) driver is asks exp table = (
+  raw_suits raw (file_ref.Inline file) driver is names asks exp table =
+      raw_inline_suits raw file driver is (named-file s.table told (codes "filename") file.filename names.0) asks exp table
+  raw_suits raw (file_ref.Name file) driver is names asks exp table = (
     record {
       suits = table.0;
       unused = unused_under file true (found-named s.table told file asks.0) asks.1.1.1.0 asks.1.1.1.1.1.0 table.0.under table.0.found table.0.name
@@ -200,11 +203,12 @@ module _ (s : State) (told : Told) (c : BlockdevAdd (List ℕ)) (name : List ℕ
   )
 
   qcow2_suits : (image : AddQcow2 (List ℕ)) (file : FileRef (List ℕ)) (back : Option (List ℕ)) → c.driver ≡ added.Qcow2 image → image.file ≡ file
-      → NoneHolds s.table told (qcow2_rest name read_only back file)
+      → NoneHolds s.table told (file_names file) → NoneHolds s.table told (qcow2_rest name read_only back file)
       → (exp : Told) → AllTableSuit s.table (qcow2_edits s.table exp name read_only back file)
       → AllSuit s (qcow2_edits s.table exp name read_only back file)
-  qcow2_suits image (file_ref.Inline file) back driver is asks exp table = qcow2_inline_suits image file back driver is asks exp table
-  qcow2_suits image (file_ref.Name file) back driver is asks exp table = (
+  qcow2_suits image (file_ref.Inline file) back driver is names asks exp table =
+      qcow2_inline_suits image file back driver is (named-file s.table told (codes "filename") file.filename names.0) asks exp table
+  qcow2_suits image (file_ref.Name file) back driver is names asks exp table = (
     record {
       suits = table.0;
       unused = unused_under file false (found-named s.table told file asks.0) asks.1.1.1.1.0 asks.1.1.1.1.1.1.0 table.0.under table.0.found table.0.name
@@ -214,21 +218,23 @@ module _ (s : State) (told : Told) (c : BlockdevAdd (List ℕ)) (name : List ℕ
   )
 
   driver_suits : (driver : Added (List ℕ)) → c.driver ≡ driver → is_added driver ≡ true
-      → NoneHolds s.table told (added_rest name read_only driver)
+      → NoneHolds s.table told (added_names driver) → NoneHolds s.table told (added_rest name read_only driver)
       → (exp : Told) → AllTableSuit s.table (added_edits s.table exp name read_only driver)
       → AllSuit s (added_edits s.table exp name read_only driver)
-  driver_suits (added.File filename) e known asks exp table = file_suits filename e asks exp table
-  driver_suits (added.Raw raw) e known asks exp table = raw_suits raw raw.file e refl asks exp table
-  driver_suits (added.Qcow2 image) e known asks exp table = qcow2_suits image image.file (backing_name image.backing) e refl asks exp table
-  driver_suits (added.CopyOnRead file) e known asks exp table = (table.0, tt)
-  driver_suits added.Unknown e known asks exp table = absurd cc
+  driver_suits (added.File filename) e known names asks exp table = file_suits filename e names asks exp table
+  driver_suits (added.Raw raw) e known names asks exp table = raw_suits raw raw.file e refl names asks exp table
+  driver_suits (added.Qcow2 image) e known names asks exp table =
+      qcow2_suits image image.file (backing_name image.backing) e refl
+      (none-ahead s.table told (file_names image.file) (ask.Named (codes "backing") (backing_name image.backing) ∷ []) names) asks exp table
+  driver_suits (added.CopyOnRead file) e known names asks exp table = (table.0, tt)
+  driver_suits added.Unknown e known names asks exp table = absurd cc
 
 add_suits : (s : State) (told exp : Told) (c : BlockdevAdd (List ℕ)) → Stands s
     → MayStop s (command.BlockdevAdd c) (told_for s (command.BlockdevAdd c)).stopped told.stopped
     → NoneHolds s.table told (add_asks c) → AllSuit s (add_edits s.table exp c)
 add_suits s told exp c stands may asks =
     driver_suits s told c c.node_name (is_read_only c.options) stands may c.driver refl
-    (good-value s.table told (codes "driver") (is_added c.driver) asks.0)
+    (good-value s.table told (codes "driver") (is_added c.driver) asks.0) (names-asked s.table told c asks).1
     (none-behind s.table told front (added_rest c.node_name (is_read_only c.options) c.driver) asks) exp
     (add-table s.table told stands.table c exp asks)
   where

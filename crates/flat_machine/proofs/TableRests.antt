@@ -48,6 +48,11 @@ use Rattle.flat_machine.proofs.Wired.{OldRow, Grows, NoRow, NoEdge, at_with, wit
 use Rattle.flat_machine.proofs.TablesKept.{IsOther, rows_grow, rows_table, file_grow, file_table, IsNewEdge, format_grow, format_table, is_under, IsNewFilterEdge, filter_grow, filter_table, removed_grow, removed_table, IsDriveEdge, device_grow, device_table}
 use Rattle.flat_machine.proofs.DevicesGone.{gone_grow, gone_table}
 use Rattle.flat_machine.proofs.JobEdges.{over_table, use_table}
+use Rattle.flat_machine.proofs.Lent.{settled_stands, writable_stands, kept_stands}
+use Rattle.flat_machine.proofs.Backed.{attached_table, rebased_table}
+use Rattle.flat_machine.proofs.MovedTables.{moved_table}
+use Rattle.flat_machine.proofs.FilterPut.{put_table}
+use Rattle.flat_machine.proofs.FilterPull.{pull_table}
 use Rattle.flat_machine.proofs.Asked.{none-both, NoneHolds, none-holds, found-named, lone-node}
 use Rattle.flat_machine.proofs.Accepted.{no_edge}
 use Rattle.flat_machine.proofs.TableSuited.{named-row, add-table, device-table}
@@ -82,8 +87,8 @@ table_keeps t (change.AddDevice device node) suits h =
 table_keeps t (change.Unsettle id) suits h =
     let now : RunTable = changed t (change.Unsettle id) in
     rows_table t now (rows-mapped t now (node_changed id unsettled) (like_unsettled id) refl h.apart) refl refl refl h
-table_keeps t (change.MakeWritable id) suits h = suits
-table_keeps t (change.PutFilter row node) suits h = suits
+table_keeps t (change.MakeWritable id) suits h = writable_stands t h id suits
+table_keeps t (change.PutFilter row node) suits h = put_table t row node suits h
 table_keeps t (change.UseNode slot what node) suits h =
     use_table t (changed t (change.UseNode slot what node)) slot what node suits refl (kinds_of t.nodes) refl h refl refl
 table_keeps t (change.StartJob row) suits h =
@@ -94,14 +99,14 @@ table_keeps t (change.ReadyJob number) suits h =
     rows_table t (changed t (change.ReadyJob number)) (rows-same t (changed t (change.ReadyJob number)) refl h.apart) refl refl refl h
 table_keeps t (change.EndJob number slot drops) suits h =
     over_table t (changed t (change.EndJob number slot drops)) slot refl (kinds_of t.nodes) refl h refl refl
-table_keeps t (change.PullFilter filter) suits h = suits
-table_keeps t (change.Rebase node backing) suits h = suits.stands
-table_keeps t (change.Settle node disk) suits h = suits
-table_keeps t (change.MakeReadOnly id) suits h = suits
+table_keeps t (change.PullFilter filter) suits h = pull_table t filter suits h
+table_keeps t (change.Rebase node backing) suits h = rebased_table t node backing suits h
+table_keeps t (change.Settle node disk) suits h = settled_stands t h node disk suits
+table_keeps t (change.MakeReadOnly id) suits h = kept_stands t h id suits
 table_keeps t (change.RemoveDevice number) suits h =
     gone_table t (changed t (change.RemoveDevice number)) number refl (kinds_of t.nodes) refl h refl refl
-table_keeps t (change.Attach overlay node) suits h = suits.stands
-table_keeps t (change.Move from to but) suits h = suits.stands
+table_keeps t (change.Attach overlay node) suits h = attached_table t overlay node suits h
+table_keeps t (change.Move from to but) suits h = moved_table t from to but suits h
 table_keeps t (change.AddBitmap row) suits h =
     rows_table t (changed t (change.AddBitmap row)) (rows-same t (changed t (change.AddBitmap row)) refl h.apart) refl refl refl h
 table_keeps t (change.RemoveBitmap node name) suits h =

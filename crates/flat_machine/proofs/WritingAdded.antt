@@ -46,7 +46,7 @@ pub has_name-grows : (name other : List ℕ) (names : List (List ℕ)) → has_n
 has_name-grows name other names h =
     list_any-append (λ n. bytes_eq n other) names (name ∷ []) ∙ ap (λ b. b || has_name other (name ∷ [])) h
 
-has_name-own : (name : List ℕ) (names : List (List ℕ)) → has_name name (names ++ name ∷ []) ≡ true
+pub has_name-own : (name : List ℕ) (names : List (List ℕ)) → has_name name (names ++ name ∷ []) ≡ true
 has_name-own name names =
     list_any-append (λ n. bytes_eq n name) names (name ∷ []) ∙ ap (λ b. has_name name names || (b || false)) (bytes_eq-same name)
     ∙ last (has_name name names)

@@ -28,7 +28,7 @@ use Rattle.flat_machine.proofs.Kept.{own_disk, quiet_keeps}
 
 -- ---- disks
 
-bytes_in-changed : (node : ℕ) (f : List ℕ → List ℕ) (disks : List Disk) → IsSome (find (λ d. d.node == node) disks)
+pub bytes_in-changed : (node : ℕ) (f : List ℕ → List ℕ) (disks : List Disk) → IsSome (find (λ d. d.node == node) disks)
     → bytes_in (map (disk_changed node f) disks) node ≡ f (bytes_in disks node)
 bytes_in-changed node f [] h = absurd cc
 bytes_in-changed node f (d ∷ disks) h = by_test (d.node == node) refl h (bytes_in-changed node f disks)
@@ -39,7 +39,7 @@ bytes_in-changed node f (d ∷ disks) h = by_test (d.node == node) refl h (bytes
     by_test true e some ih = rw e refl
     by_test false e some ih = rw e (ih some)
 
-bytes_in-unchanged : (node n : ℕ) (f : List ℕ → List ℕ) (disks : List Disk) → n ≢ node
+pub bytes_in-unchanged : (node n : ℕ) (f : List ℕ → List ℕ) (disks : List Disk) → n ≢ node
     → bytes_in (map (disk_changed node f) disks) n ≡ bytes_in disks n
 bytes_in-unchanged node n f [] differ = refl
 bytes_in-unchanged node n f (d ∷ disks) differ = by_test (d.node == node) refl (bytes_in-unchanged node n f disks differ)
@@ -192,7 +192,7 @@ read_beside drive s = by_test (list_any (copies_at s.table) (path s.table drive)
 -- ---- a piece
 
 -- a disk of which nothing is done stays
-unwritten : (node : ℕ) (f : List ℕ → List ℕ) (disks : List Disk) → ((bytes : List ℕ) → f bytes ≡ bytes)
+pub unwritten : (node : ℕ) (f : List ℕ → List ℕ) (disks : List Disk) → ((bytes : List ℕ) → f bytes ≡ bytes)
     → (n : ℕ) → bytes_in (map (disk_changed node f) disks) n ≡ bytes_in disks n
 unwritten node f [] same n = refl
 unwritten node f (d ∷ disks) same n = by_test (d.node == node) (unwritten node f disks same n)

@@ -1,5 +1,5 @@
 -- The table of bitmaps, of which the table of names has the rows and the flat machine the dirty granules.
-use Rattle.std.specs.Prelude.{◌≡◌, ℕ, List, [], ◌∷◌, map, Contains, None}
+use Rattle.std.specs.Prelude.{◌≡◌, ℕ, Bool, List, [], ◌∷◌, length, map, Contains, Some, None, is_some}
 use Rattle.blk_bitmaps.specs.declared.row.Bitmap.{Bitmap}
 use Rattle.blk_base.specs.Pieces.{Extent}
 use Rattle.blk_bitmaps.specs.Rows.{HaveDistinctNames, IsCountable, records, written}
@@ -37,17 +37,23 @@ noted_rows span rows [] = rows
 noted_rows span rows (node ∷ nodes) =
     noted_rows span (where_so (records node) (written span) rows) nodes
 
--- no job uses it: no command that starts a job is carried out yet
+-- no job uses it
 pub record IsFreeBitmap (row : Bitmap) : Type 0 where
   pub free : row.busy ≡ None
   pub whole : row.frozen ≡ None
+  pub countable : IsCountable row
+
+-- A job uses it exactly where a set stands aside, which has as many granules.
+pub record IsSoundBitmap (row : Bitmap) : Type 0 where
+  pub aside : is_some row.busy ≡ is_some row.frozen
+  pub alike : (set : List Bool) → row.frozen ≡ Some set → length set ≡ length row.dirty
   pub countable : IsCountable row
 
 -- the rows are of these bitmaps, of which no two have one node and name
 pub record AreBitmapsOf (rows : List BitmapRow) (bitmaps : List Bitmap) : Type 0 where
   pub listed : rows ≡ map bitmap_of bitmaps
   pub single : HaveDistinctNames bitmaps
-  pub each : (row : Bitmap) → Contains bitmaps row → IsFreeBitmap row
+  pub each : (row : Bitmap) → Contains bitmaps row → IsSoundBitmap row
 
 -- they are what the changes make of rows and of dirty granules
 pub record FollowChanges (t : RunTable) (old now : List Bitmap)

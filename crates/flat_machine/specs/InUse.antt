@@ -1,5 +1,5 @@
 -- Bitmaps in the use of jobs, in the table of names and in that of bitmaps.
-use Rattle.std.specs.Prelude.{◌≡◌, ℕ, Bool, false, List, Contains, map, Option, Some, None}
+use Rattle.std.specs.Prelude.{◌≡◌, ℕ, Bool, true, false, List, Contains, map, Option, Some, None}
 use Rattle.blk_bitmaps.specs.declared.row.Bitmap.{Bitmap}
 use Rattle.blk_bitmaps.specs.Rows.{HaveDistinctNames}
 use Rattle.qmp_rules.specs.declared.rows.BitmapRow.{BitmapRow}
@@ -29,6 +29,11 @@ is_copied_by source (Some used) row = is_bitmap source used.name row
 abbrev pub is_use_of : Option JobRecord → BitmapRow → Bool
 is_use_of None row = false
 is_use_of (Some job) row = is_copied_by job.source job.bitmap row
+
+-- a bitmap that a job over the source is to copy by is in nobody's use
+abbrev pub IsUnused : RunTable → ℕ → Option UsedBitmap → Type 0
+IsUnused t source by = (row : BitmapRow) → Contains t.bitmaps row → is_copied_by source by row ≡ true
+    → row.busy ≡ None
 
 -- a bitmap is busy with a job exactly where that job is there and copies by it
 abbrev pub AreInUse : RunTable → Type 0

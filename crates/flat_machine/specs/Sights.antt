@@ -14,10 +14,12 @@ use Rattle.qmp_codec.specs.declared.command.Action.TheVariants as action
 use Rattle.qmp_codec.specs.declared.command.Command.TheVariants as command
 use Rattle.qmp_codec.specs.declared.nodes.FileRef.{FileRef}
 use Rattle.qmp_codec.specs.declared.nodes.FileRef.TheVariants as file_ref
+use Rattle.qmp_codec.specs.declared.nodes.AddRaw.{AddRaw}
 use Rattle.qmp_codec.specs.declared.nodes.Added.{Added}
 use Rattle.qmp_codec.specs.declared.nodes.Added.TheVariants as added
 use Rattle.qmp_codec.specs.declared.nodes.Created.{Created}
 use Rattle.qmp_codec.specs.declared.nodes.Created.TheVariants as created
+use Rattle.qmp_asks.specs.Asking.{same_look}
 use Rattle.qmp_asks.specs.declared.look.Look.{Look}
 use Rattle.qmp_asks.specs.declared.look.Look.TheVariants as look
 use Rattle.qmp_rules.specs.declared.told.Stopped.{Stopped}
@@ -26,7 +28,7 @@ use Rattle.qmp_rules.specs.declared.refusal.FileFault.TheVariants.{Absent}
 use Rattle.qmp_rules.specs.declared.refusal.Refusal.{Refusal}
 use Rattle.qmp_rules.specs.declared.refusal.Refusal.TheVariants as refusal
 use Rattle.qmp_rules.specs.Table.{RunTable, node_named, id_named, has_name}
-use Rattle.qmp_rules.specs.Looks.{FileSight, ImageSight, is_unopened, is_free_file, add_told, create_told}
+use Rattle.qmp_rules.specs.Looks.{FileSight, ImageSight, is_unopened, is_free_file, part_look, add_told, create_told}
 use Rattle.qmp_rules.specs.Answers.{told_none}
 use Rattle.blk_history.specs.Fold.{With}
 use Rattle.flat_machine.specs.State.{State, Content, Bytes, Blank, Unknown, Mapped, MapsNone, MapsSome, Unsure, Image, content_in}
@@ -118,10 +120,16 @@ abbrev pub reads_image : RunTable → FileRef (List ℕ) → Bool
 reads_image t (file_ref.Name name) = is_free_file t name
 reads_image t (file_ref.Inline file) = not (is_unopened t file.filename)
 
--- the calls of an addition: a file is opened, that of a part to see where it may begin, and an image is read
+-- the file of a part, at the look that opens it
+abbrev pub opens_part : RunTable → Look → AddRaw (List ℕ) → Bool
+opens_part t what raw = same_look what (part_look raw) && opens_file t raw.file
+
+-- the calls of an addition: a file is opened, and an image is read
 abbrev pub adds_at : RunTable → Look → Added (List ℕ) → Bool
 adds_at t look.File (added.File filename) = not (is_unopened t filename)
-adds_at t look.Begin (added.Raw raw) = opens_file t raw.file
+adds_at t look.Begin (added.Raw raw) = opens_part t look.Begin raw
+adds_at t look.End (added.Raw raw) = opens_part t look.End raw
+adds_at t look.File (added.Raw raw) = opens_part t look.File raw
 adds_at t look.File (added.Qcow2 image) = opens_file t image.file
 adds_at t look.Image (added.Qcow2 image) = reads_image t image.file
 adds_at t what driver = false
@@ -141,6 +149,7 @@ calls_at t what c = false
 -- its capacity.
 abbrev pub IsFailure : Look → Refusal → Type 0
 IsFailure look.Begin (refusal.Io from.Store count) = Unit {0}
+IsFailure look.End (refusal.Io from.Store count) = Unit {0}
 IsFailure look.File (refusal.Io from.Store count) = Unit {0}
 IsFailure look.Image (refusal.Io (from.Dev dev) count) = Unit {0}
 IsFailure look.Format (refusal.Io (from.Dev dev) count) = Unit {0}

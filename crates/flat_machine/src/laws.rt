@@ -26,7 +26,7 @@ ghost use Rattle.qmp_rules.specs.declared.change.Change.{Change};
 ghost use Rattle.blk_history.specs.Disk.{is_write};
 ghost use Rattle.flat_machine.specs.State.{State, drive_of};
 ghost use Rattle.flat_machine.specs.Opening.{start};
-ghost use Rattle.flat_machine.specs.Suiting.{AllSuit};
+ghost use Rattle.flat_machine.specs.Suiting.{AllSuit, AllTableSuit};
 ghost use Rattle.flat_machine.specs.declared.opening.Opening.{Opening};
 ghost use Rattle.blk_history.specs.declared.entry.JobEnd.{JobEnd};
 ghost use Rattle.qmp_rules.specs.declared.rows.JobRecord.{JobRecord};
@@ -38,7 +38,7 @@ ghost use Rattle.flat_machine.specs.Legal.{Legal};
 ghost use Rattle.flat_machine.specs.Unique.{HaveOneHistory};
 ghost use Rattle.blk_history.specs.declared.event.Event.{Event};
 ghost use Rattle.flat_machine.specs.Writing.{CanWrite, PieceDone};
-ghost use Rattle.flat_machine.specs.Wiring.{TableAtRest};
+ghost use Rattle.flat_machine.specs.Wiring.{TableStands, TableAtRest};
 ghost use Rattle.flat_machine.specs.Standing.{Stands, StandsAtRest};
 ghost use Rattle.flat_machine.specs.Agreement.{Contents, Agrees};
 ghost use Rattle.flat_machine.specs.Performing.{Can, Performed, AllCan, AllPerformed};
@@ -69,13 +69,15 @@ pub fn accepted_changes_can_be_made()
         → refusal_to s.table told c ≡ None → AllCan s (command_edits s.table (expected s c) c) }
 {}
 
-/// What holds of states between events holds at the beginning, and changes that suit a state leave what each is to leave. What
-/// holds of the table alone an accepted command leaves whatever was told of files, and so do a creation of which a call failed
-/// and a guest's write.
+/// What holds of states between events holds at the beginning, and changes that suit a state or a table leave what each is to leave.
+/// What is asked of a change is said by its kind, of the state before it. What holds of the table alone an accepted command leaves
+/// whatever was told of files, and so do a creation of which a call failed and a guest's write.
 pub fn tables_stand()
     ensures beginning { (o : Opening) → StandsAtRest (start o) }
     ensures changes { (changes : List Change) (s : State)
         → AllSuit s changes → Stands s → Stands (all_stepped s changes) }
+    ensures tables { (changes : List Change) (t : RunTable)
+        → AllTableSuit t changes → TableStands t → TableStands (all_changed t changes) }
     ensures commands { (t : RunTable) (told : Told) (c : Cmd) → TableAtRest t
         → refusal_to t told c ≡ None → TableAtRest (all_changed t (command_edits t told c)) }
     ensures failures { (t : RunTable) (options : Created (List ℕ)) → TableAtRest t

@@ -32,7 +32,7 @@ use Rattle.job_tables.specs.Changes.{LeavesBySnapshot}
 use Rattle.job_tables.proofs.RowEdges.{in_left, copy_holds, holds_source}
 use Rattle.job_tables.proofs.Plain.{HasFile, formats-same, plain_same}
 use Rattle.job_tables.proofs.Kept.{mirror_row}
-use Rattle.job_tables.proofs.Others.{OthersStand, IsNobodys, move_others, rebase_others}
+use Rattle.job_tables.proofs.Others.{OthersStand, IsNobodys, source_of, move_others, rebase_others}
 
 -- ---- rows that say the same of nodes and edges
 
@@ -91,6 +91,9 @@ module _ (t now : RunTable) (f : JobRecord → JobRecord) (says : (row : JobReco
           read = (says row).read ∙ r.read;
           linked = subst (λ n. AreLinked now n (r.between ++ base ∷ [])) (sym (says row).source) (links_as row.source (r.between ++ base ∷ []) r.linked);
         };
+    below = λ n is.
+        subst (λ ids. Contains ids n) (sym (says row).read)
+        (s.below n (sym (child_as row.source Backing) ∙ subst (λ k. child now k Backing ≡ Some n) (says row).source is));
   }
   shape_as row Commit s = record {
     filter = filter_as row driver.Commit s.filter;
@@ -291,7 +294,10 @@ module _ (t : RunTable) (j : JobsStand t) (node overlay : ℕ) (free : LeavesByS
   attached_stand : OthersStand attached None
   unfolding changed
   attached_stand =
-      let same = rebase_others t overlay (Some node) others (record { none = λ b below there has is which. free.overlay_free.held b there has }) in
+      let same = rebase_others t overlay (Some node) others (record {
+        none = λ b below there has is which. free.overlay_free.held b there has;
+        off = λ b there same. free.overlay_free.held b there (subst (Contains (nodes_of_job b)) same (source_of t None others b there));
+      }) in
       record {
         each = λ b here. like_stands b (same.each b here);
         slots = same.slots;

@@ -241,6 +241,7 @@ module _ (t now : RunTable) (nodes : now.nodes ≡ t.nodes) (children : (node : 
     reads = λ base is.
         let r = s.reads base is in
         record { between = r.between; read = r.read; linked = same_links row.source (r.between ++ base ∷ []) r.linked };
+    below = λ n is. s.below n (sym (children row.source Backing) ∙ is);
   }
   same_shape Commit s = record {
     filter = same_filter driver.Commit s.filter;
@@ -328,6 +329,7 @@ module _ (t : RunTable) (row : JobRecord) (loose : Option ℕ) (o : OthersStand 
             kept_now e (stands.edges e mine) (ap is_job of) (λ u at taken.
             absurd (own_slot b here (let both : Job row.slot ≡ Job b.slot = takes_place-parent (edge_of row.slot u) e taken ∙ of in let one : row.slot ≡ b.slot = cc both in sym one)));
         links = λ node below held is which. same_children node Backing ∙ is;
+        none = λ is. same_children b.source Backing ∙ is;
         filter = λ kind g. same_filter t now same_nodes same_children b kind g;
       }
 

@@ -71,10 +71,10 @@ there_filter t j row node here is =
     let f = filter_of t row row.kind (j.each row here).shape node is in
     subst (IsThere t) f.3 (subst IsSome (sym f.2.there) refl)
 
-abbrev IsEntered : RunTable → ℕ → Type 0
+abbrev pub IsEntered : RunTable → ℕ → Type 0
 IsEntered t node = (e : Edge) × Contains t.edges e × (e.child ≡ node)
 
-entered : (t : RunTable) → TableStands t → (row : JobRecord) → JobStands t row → (node : ℕ) → Contains (nodes_of_job row) node
+pub entered : (t : RunTable) → TableStands t → (row : JobRecord) → JobStands t row → (node : ℕ) → Contains (nodes_of_job row) node
     → (below : NodeRecord) → node_by_id t node ≡ Some below → IsSome below.filename → IsEntered t node
 entered t h row stands node held below found named = by_kind row.kind refl stands.shape
   where
@@ -193,7 +193,7 @@ without_back gone edges e there is = (Contains-filter (λ x. not (same_parent x.
 -- ---- kinds of changes
 
 -- rows that keep ids and kinds
-rows_stand : (t now : RunTable) → SameRows t now → now.edges ≡ t.edges → now.jobs ≡ t.jobs → TableStands t → JobsStand t → JobsStand now
+pub rows_stand : (t now : RunTable) → SameRows t now → now.edges ≡ t.edges → now.jobs ≡ t.jobs → TableStands t → JobsStand t → JobsStand now
 rows_stand t now rows edges jobs h j =
     grown_jobs t now (IsThere t) NoRow NoEdge (rows_grow t now rows edges h) j jobs (same_edges t now edges)
     (there_node t j) (there_filter t j) (λ r never is. never) (λ e node never of at. never) (λ e row node below never role here held at found named. never)

@@ -201,6 +201,7 @@ module _ (t now : RunTable) (P : ℕ → Type 0) (IsNewRow : NodeRecord → Type
     reads = λ base is.
         let r = s.reads base is in
         record { between = r.between; read = r.read; linked = links_still row.source (r.between ++ base ∷ []) (source_stays row here) r.linked };
+    below = λ n is. s.below n (sym (g.children row.source Backing (source_stays row here)) ∙ is);
   }
   shape_still row here Commit s = record {
     filter = filter_still row here driver.Commit s.filter;

@@ -300,6 +300,9 @@ module _ (t : RunTable) (h : TableStands t) (j : JobsStand t) (d : EdgesAreDrawn
     filter = λ b there. plain_no_filter t j node ((j.each row here).plain node (in_left row.held row.read node held)) b (other_row b there).0;
   }
 
+  other_held : (b : JobRecord) → Contains rows b → Contains b.held b.source
+  other_held b there = holds_source t b (j.each b (other_row b there).0)
+
   source_held : Contains row.held row.source
   source_held = holds_source t row (j.each row here)
 
@@ -347,7 +350,10 @@ module _ (t : RunTable) (h : TableStands t) (j : JobsStand t) (d : EdgesAreDrawn
   stream_head k s Completed = by_target row.target refl
     where
       free : NoLinkFrom (changed t first) row.source
-      free = record { none = λ b below there has is which. (held_nobodys row.source source_held).held b there has }
+      free = record {
+        none = λ b below there has is which. (held_nobodys row.source source_held).held b there has;
+        off = λ b there same. (held_nobodys row.source source_held).held b there (in_left b.held b.read row.source (subst (Contains b.held) same (other_held b there)));
+      }
 
       by_target : (target : Option ℕ) → row.target ≡ target → IsHead (without_job row.number t.jobs) (all_changed t (first ∷ change.Rebase row.source target ∷ []))
       by_target None is =
@@ -504,6 +510,10 @@ module _ (t : RunTable) (h : TableStands t) (j : JobsStand t) (d : EdgesAreDrawn
                   | inl mine ↦ nobody.held b there (subst (Contains (nodes_of_job b)) (sym same) mine)
                   | inr filter ↦ nobody.filter b there (filter ∙ ap Some (sym same))
                 ];
+            off = λ b there same.
+                let at = other_row b there in
+                at.1 (j.apart b row overlay at.0 here (subst (Contains b.held) same (other_held b there))
+                (in_right row.held row.read overlay (subst (λ ids. Contains ids overlay) (sym is) (Contains-here overlay ids))));
           }
 
           rebased : IsHead (without_job row.number t.jobs) (all_changed t (first ∷ change.PullFilter c.filter.filter ∷ change.Rebase overlay (Some c.base) ∷ []))

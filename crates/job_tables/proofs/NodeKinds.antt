@@ -1,5 +1,5 @@
 -- The kinds of nodes by their rows, where one goes or may be written no more.
-use Rattle.std.proofs.Common.{◌≡◌, ◌≢◌, ◌⊎◌, ℕ, ◌<◌, ◌≤◌, arith, List, map, refl, sym, ◌∙◌, ap, subst, inl, inr, Bool, true, false, cond, Option, Some, None}
+use Rattle.std.proofs.Common.{◌≡◌, ◌≢◌, ◌⊎◌, ℕ, ◌<◌, ◌≤◌, arith, List, refl, sym, ◌∙◌, ap, subst, inl, inr, Bool, true, false, cond, Option, Some, None}
 use Rattle.std.specs.Prelude.{◌==◌, not, IsTrue}
 use Rattle.std.specs.Option.{option_map}
 use Rattle.std.specs.List.{Contains, find}
@@ -8,12 +8,13 @@ use Rattle.std.proofs.lemmas.List.{get_or_past}
 use Rattle.blk_graph.specs.declared.kind.NodeKind.{NodeKind}
 use Rattle.blk_graph.specs.Drafts.{WriteLess}
 use Rattle.blk_graph.specs.Refreshed.{kind_at, no_kind}
-use Rattle.blk_graph.proofs.Members.{Contains-filter, Contains-map}
+use Rattle.blk_graph.proofs.Members.{Contains-filter}
 use Rattle.qmp_rules.specs.declared.rows.NodeRecord.{NodeRecord}
 use Rattle.qmp_rules.specs.Changes.{node_changed, kept_from_writes, with_read_only, without_record}
 use Rattle.qmp_rules.specs.Table.{RunTable, node_by_id, kind_of_record, kinds_of}
 use Rattle.flat_machine.specs.Wiring.{HaveDistinctIds}
-use Rattle.flat_machine.proofs.Finds.{find-filter, find-map}
+use Rattle.flat_machine.proofs.Finds.{find-filter}
+pub use Rattle.flat_machine.proofs.Rows.{found_mapped, mapped_apart}
 use Rattle.flat_machine.proofs.RowKinds.{kind_or, kind_by, length-kinds_of}
 use Rattle.job_edges.specs.Ended.{AreOthers}
 
@@ -52,25 +53,6 @@ others_gone t now gone nodes apart n differ = elim (small_or n) [
       ∙ sym (kind_by t n apart small)
   | inr large ↦ past now.nodes n large ∙ sym (past t.nodes n large)
 ]
-
--- ---- rows that are changed, each of which keeps its id
-
-pub mapped_apart : (t now : RunTable) (f : NodeRecord → NodeRecord) → ((row : NodeRecord) → (f row).id ≡ row.id) → now.nodes ≡ map f t.nodes
-    → HaveDistinctIds t → HaveDistinctIds now
-mapped_apart t now f ids nodes apart later there = by_row (Contains-map f t.nodes later (subst (λ ns. Contains ns later) nodes there))
-  where
-    by_row : (row : NodeRecord) × Contains t.nodes row × (later ≡ f row) → node_by_id now later.id ≡ Some later
-    by_row (row, at, is) =
-        let id : later.id ≡ row.id = ap (λ r. r.id) is ∙ ids row in
-        ap (find (λ r. r.id == later.id)) nodes
-        ∙ find-map (λ r. r.id == later.id) f (λ r. ap (λ k. k == later.id) (ids r)) t.nodes
-        ∙ ap (option_map f) (subst (λ n. node_by_id t n ≡ Some row) (sym id) (apart row at))
-        ∙ ap Some (sym is)
-
-pub found_mapped : (t now : RunTable) (f : NodeRecord → NodeRecord) → ((row : NodeRecord) → (f row).id ≡ row.id) → now.nodes ≡ map f t.nodes
-    → (n : ℕ) → node_by_id now n ≡ option_map f (node_by_id t n)
-found_mapped t now f ids nodes n =
-    ap (find (λ r. r.id == n)) nodes ∙ find-map (λ r. r.id == n) f (λ r. ap (λ k. k == n) (ids r)) t.nodes
 
 -- ---- a node may be written no more
 

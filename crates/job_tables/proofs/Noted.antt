@@ -12,9 +12,11 @@ use Rattle.flat_machine.specs.Jobs.{outcome_of, changes_at_end, ended, readied_b
 use Rattle.flat_machine.specs.Wiring.{TableStands}
 use Rattle.flat_machine.proofs.Resting.{stepped_table}
 use Rattle.job_tables.specs.Jobs.{JobsStand, EdgesAreDrawn}
+use Rattle.job_tables.specs.Running.{JobsRun}
 use Rattle.job_tables.proofs.Asked.{ready_jobs}
 use Rattle.job_tables.proofs.Ended.{ends_keep}
 use Rattle.job_tables.proofs.Left.{ends_leave_jobs}
+use Rattle.job_tables.proofs.Runs.{ends_keep_run, ready_run}
 
 found_job : (t : RunTable) (number : ℕ) (row : JobRecord) → job_at t number ≡ Some row → Contains t.jobs row
 found_job t number row is = (find-Some (λ (job : JobRecord). job.number == number) t.jobs row is).0
@@ -45,3 +47,20 @@ readied_jobs s number j = by_found (job_at s.table number)
     by_found : (found : Option JobRecord) → JobsStand (readied_by s found).table
     by_found None = j
     by_found (Some row) = subst JobsStand (sym (stepped_table (ready_edits row) s)) (ready_jobs s.table row.number j)
+
+pub ended_run : (s : State) (number : ℕ) (why : JobEnd) → TableStands s.table → JobsStand s.table → JobsRun s.table
+    → JobsRun (ended s (job_at s.table number) why).table
+ended_run s number why h j r = by_found (job_at s.table number) refl
+  where
+    by_found : (found : Option JobRecord) → job_at s.table number ≡ found → JobsRun (ended s found why).table
+    by_found None is = r
+    by_found (Some row) is =
+        subst JobsRun (sym (stepped_table (changes_at_end s row why) s))
+        (ends_keep_run s.table h j row (found_job s.table number row is) (outcome_of why) r)
+
+pub readied_run : (s : State) (number : ℕ) → JobsRun s.table → JobsRun (readied number s).table
+readied_run s number r = by_found (job_at s.table number)
+  where
+    by_found : (found : Option JobRecord) → JobsRun (readied_by s found).table
+    by_found None = r
+    by_found (Some row) = subst JobsRun (sym (stepped_table (ready_edits row) s)) (ready_run s.table row.number r)

@@ -53,6 +53,7 @@ pub record RowStays (t now : RunTable) (row : JobRecord) : Type 0 where
   pub edges : (e : Edge) → Contains (edges_of_job row) e → Contains now.edges e
   pub links : (node below : ℕ) → Contains (nodes_of_job row) node → child t node Backing ≡ Some below
       → Contains (nodes_of_job row) below ⊎ (row.filter ≡ Some below) → child now node Backing ≡ Some below
+  pub none : child t row.source Backing ≡ None → child now row.source Backing ≡ None
   pub filter : (kind : Kind) → HasFilterOf t row kind → HasFilterOf now row kind
 
 module _ (t now : RunTable) (row : JobRecord) (stays : RowStays t now row) (stands : JobStands t row) where
@@ -77,6 +78,16 @@ module _ (t now : RunTable) (row : JobRecord) (stays : RowStays t now row) (stan
     other = c.other;
   }
 
+  -- what the source has as its backing node
+  below_stays : ((m : ℕ) → child t row.source Backing ≡ Some m → Contains row.read m) → (n : ℕ) → child now row.source Backing ≡ Some n → (o : Option ℕ)
+      → child t row.source Backing ≡ o → Contains row.read n
+  below_stays reads n is None at = absurd (let bad : None ≡ Some n = sym (stays.none at) ∙ is in cc bad)
+  below_stays reads n is (Some m) at =
+      let stay : child now row.source Backing ≡ Some m = stays.links row.source m source_in at (inl (in_right row.held row.read m (reads m at))) in
+      let both : Some m ≡ Some n = sym stay ∙ is in
+      let one : m ≡ n = cc both in
+      subst (Contains row.read) one (reads m at)
+
   shape_stays : (k : JobKind) → StandsByKind t row k → StandsByKind now row k
   shape_stays Stream s = record {
     bare = s.bare;
@@ -89,6 +100,7 @@ module _ (t now : RunTable) (row : JobRecord) (stays : RowStays t now row) (stan
           linked = linked_stays row.source (r.between ++ base ∷ []) source_in
               (λ n there. in_right row.held row.read n (subst (λ ids. Contains ids n) (sym r.read) there)) r.linked;
         };
+    below = λ n is. below_stays s.below n is (child t row.source Backing) refl;
   }
   shape_stays Commit s = record {
     filter = stays.filter driver.Commit s.filter;
@@ -188,6 +200,7 @@ module _ (t : RunTable) (j : JobsStand t) (row : JobRecord) (here : Contains t.j
             refreshed_jobs (kinds_of t.nodes) left e (ap is_job slot)
             (in_left_edges e (stands.edges e own) (λ same. let both : Job b.slot ≡ Job row.slot = sym slot ∙ same in at.1 (let one : b.slot ≡ row.slot = cc both in one)));
         links = λ node below held is which. child_left node Backing ∙ is;
+        none = λ is. child_left b.source Backing ∙ is;
         filter = λ kind f. filter_same t (changed t over) b kind f refl (child_left f.filter Filtered ∙ f.over);
       }
 
@@ -353,6 +366,16 @@ module _ (t : RunTable) (f source : ℕ) (o : OthersStand t (Some f)) (over : ch
       last_false true = refl
       last_false false = refl
 
+  none_pulled : (node : ℕ) → child t node Backing ≡ None → child_of (Node node) Backing (refreshed after pulled) ≡ None
+  none_pulled node is =
+      child_of-refreshed after (Node node) Backing pulled
+      ∙ children_without f t.edges source over (Node node) Backing (λ bad. let no : Backing ≡ Between = bad in cc no) (last_false (node == f))
+      ∙ ap (option_map (λ c. cond (c == f) source c)) is
+    where
+      last_false : (b : Bool) → (b && false) ≡ false
+      last_false true = refl
+      last_false false = refl
+
   -- where an edge leads, it led before
   pub pull_leads : (a : ℕ) (e : Edge) → Contains pulled e → e.parent ≡ Node a → Reaches t.edges a e.child
   pull_leads a e there from =
@@ -394,6 +417,7 @@ module _ (t : RunTable) (f source : ℕ) (o : OthersStand t (Some f)) (over : ch
               | inl mine ↦ no_filter.held b here (subst (Contains (nodes_of_job b)) same mine)
               | inr filter ↦ no_filter.filter b here (filter ∙ ap Some same)
             ]) is;
+        none = λ is. none_pulled b.source is;
         filter = λ kind g.
             let differ : g.filter ≢ f = λ same. no_filter.filter b here (g.is_filter ∙ ap Some same) in
             filter_same t (changed t pull) b kind g (same_found g.filter differ)
@@ -475,6 +499,12 @@ module _ (t : RunTable) (source target but : ℕ) (o : OthersStand t None) (no_s
       ∙ ap (option_map (λ c. cond (c == source && not (stays (Some (Node but)) (Node node))) target c)) is
       ∙ ap Some (rw (ne_eqb below source apart) refl)
 
+  none_over : (node : ℕ) → child t node Backing ≡ None → child_of (Node node) Backing (refreshed kinds over_there) ≡ None
+  none_over node is =
+      child_of-refreshed kinds (Node node) Backing over_there
+      ∙ children_replaced source target (Some (Node but)) t.edges (Node node) Backing
+      ∙ ap (option_map (λ c. cond (c == source && not (stays (Some (Node but)) (Node node))) target c)) is
+
   -- an edge leads where it led, or from a node that led to the source it leads to the target
   pub move_leads : (a : ℕ) (e : Edge) → Contains over_there e → e.parent ≡ Node a → Reaches t.edges a e.child ⊎ ((e.child ≡ target) × Reaches t.edges a source)
   move_leads a e there from = by_test r.0 r.1 r.2 (r.0.child == source && not (stays (Some (Node but)) r.0.parent)) refl
@@ -511,6 +541,7 @@ module _ (t : RunTable) (source target but : ℕ) (o : OthersStand t None) (no_s
               | inl mine ↦ no_source.held b here (subst (Contains (nodes_of_job b)) same mine)
               | inr filter ↦ no_source.filter b here (filter ∙ ap Some same)
             ]) is;
+        none = λ is. none_over b.source is;
         filter = λ kind g.
             filter_same t (changed t move) b kind g refl
             (child_over g.filter Filtered b.source
@@ -540,10 +571,11 @@ module _ (t : RunTable) (source target but : ℕ) (o : OthersStand t None) (no_s
 
 -- ---- another backing node, or none
 
--- no job's chain goes on from the node by its backing edge
+-- no job's chain goes on from the node by its backing edge, nor begins there
 pub record NoLinkFrom (t : RunTable) (node : ℕ) : Type 0 where
   pub none : (row : JobRecord) (below : ℕ) → Contains t.jobs row → Contains (nodes_of_job row) node → child t node Backing ≡ Some below
       → Contains (nodes_of_job row) below ⊎ (row.filter ≡ Some below) → ⊥
+  pub off : (row : JobRecord) → Contains t.jobs row → row.source ≢ node
 
 module _ (t : RunTable) (at : ℕ) (backing : Option ℕ) (o : OthersStand t None) (free : NoLinkFrom t at) where
   abbrev rebase : Change
@@ -627,6 +659,7 @@ module _ (t : RunTable) (at : ℕ) (backing : Option ℕ) (o : OthersStand t Non
           | inl same ↦ absurd (free.none b below here (subst (Contains (nodes_of_job b)) same held) (subst (λ n. child t n Backing ≡ Some below) same is) which)
           | inr differ ↦ child_other backing node differ ∙ is
         ];
+        none = λ is. child_other backing b.source (free.off b here) ∙ is;
         filter = λ kind g. filter_same t (changed t rebase) b kind g refl (child_role backing g.filter Filtered refl refl ∙ g.over);
       }
 
@@ -674,6 +707,7 @@ module _ (t now : RunTable) (f : NodeRecord → NodeRecord) (keeps : (row : Node
             plain-back t now node p (f p.row) (found node p.row p.there) (keeps p.row) (formats-mapped t now f keeps nodes node) (files node);
         edges = λ e own. same.kept e (stands.edges e own) (ap is_job (edge_slot b e own));
         links = λ node below held is which. children node Backing ∙ is;
+        none = λ is. children b.source Backing ∙ is;
         filter = λ kind g. record {
           filter = g.filter;
           is_filter = g.is_filter;

@@ -131,6 +131,14 @@ module _ (t : RunTable) (row : NodeRecord) (source : ℕ) (fresh : node_by_id t 
       ∙ children_filter source row.id idle_uses.perm idle_uses.shared t.edges (Node node) role single (λ same. other (let both : Node node ≡ Node row.id = same in let one : node ≡ row.id = cc both in one))
       ∙ ap (option_map (λ c. cond (c == source) row.id c)) is ∙ ap Some (rw (ne_eqb below source apart) refl)
 
+  pub child_put_none : (node : ℕ) → node ≢ row.id → child t node Backing ≡ None → child (changed t put) node Backing ≡ None
+  unfolding changed
+  child_put_none node other is =
+      child_of-refreshed after (Node node) Backing over
+      ∙ children_filter source row.id idle_uses.perm idle_uses.shared t.edges (Node node) Backing (λ bad. let no : Backing ≡ Between = bad in cc no)
+      (λ same. other (let both : Node node ≡ Node row.id = same in let one : node ≡ row.id = cc both in one))
+      ∙ ap (option_map (λ c. cond (c == source) row.id c)) is
+
   pub child_put_over : (node : ℕ) → node ≢ row.id → child t node Backing ≡ Some source → child (changed t put) node Backing ≡ Some row.id
   unfolding changed
   child_put_over node other is =
@@ -218,6 +226,8 @@ module _ (t : RunTable) (row : NodeRecord) (source : ℕ) (fresh : node_by_id t 
                 | inl mine ↦ free.held b here (subst (Contains (nodes_of_job b)) same mine)
                 | inr filter ↦ free.filter b here (filter ∙ ap Some same)
               ]) is;
+          none = λ is.
+              child_put_none b.source (absent b.source (subst IsSome (sym (stands.plain b.source (source_of t None o b here)).there) refl)) is;
           filter = λ kind g. record {
             filter = g.filter;
             is_filter = g.is_filter;

@@ -51,7 +51,7 @@ before_uses row = by_file (is_file row) row.filename
     by_file true (Some name) = (tt, tt)
     by_file false name = tt
 
-before_used : (t : RunTable) (node : Option ℕ) → AreBefore (file_used t node)
+pub before_used : (t : RunTable) (node : Option ℕ) → AreBefore (file_used t node)
 before_used t node = by_row (option_and_then (node_by_id t) node)
   where
     by_row : (found : Option NodeRecord) → AreBefore (of_row device_uses found)
@@ -72,11 +72,11 @@ before_base t row =
     before-append (writable_if row.made_writable.file (file_below t row.target)) (writable_if row.made_writable.base row.target)
     (before_if row.made_writable.file (file_below t row.target)) (before_if row.made_writable.base row.target)
 
-before_target : (t : RunTable) (target : Option ℕ) → AreBefore (target_edits t target)
+pub before_target : (t : RunTable) (target : Option ℕ) → AreBefore (target_edits t target)
 before_target t None = tt
 before_target t (Some target) = before-append (file_used t (Some target)) (change.Unsettle target ∷ []) (before_used t (Some target)) (tt, tt)
 
-before_commit : (t : RunTable) (row : JobRecord) → AreBefore (file_used t row.target ++ commit_unsettles t row ++ base_edits t row)
+pub before_commit : (t : RunTable) (row : JobRecord) → AreBefore (file_used t row.target ++ commit_unsettles t row ++ base_edits t row)
 before_commit t row =
     before-append (file_used t row.target ++ commit_unsettles t row) (base_edits t row)
     (before-append (file_used t row.target) (commit_unsettles t row) (before_used t row.target)
@@ -87,7 +87,7 @@ linked_like : (t now : RunTable) → IsLikeTable t now → (node : ℕ) (ids : L
 linked_like t now like node [] l = tt
 linked_like t now like node (below ∷ ids) l = (like.children node Backing ∙ l.0, linked_like t now like below ids l.1)
 
-chain_way : (t : RunTable) (node : ℕ) (ids : List ℕ) → AreLinked t node ids → (n : ℕ) → Contains ids n → Reaches t.edges node n
+pub chain_way : (t : RunTable) (node : ℕ) (ids : List ℕ) → AreLinked t node ids → (n : ℕ) → Contains ids n → Reaches t.edges node n
 chain_way t node [] l n there = absurd (Contains-nil n there)
 chain_way t node (below ∷ ids) l n there =
     let x = role_edge (Node node) Backing t.edges below l.0 in
@@ -108,7 +108,7 @@ module _ (t : RunTable) (h : TableStands t) (j : JobsStand t) (row : JobRecord) 
     filters = λ n there is. inr (j.filters n there is);
   }
 
-  source_held : Contains row.held row.source
+  pub source_held : Contains row.held row.source
   source_held = by_kind row.kind b.shape
     where
       first : (ids : List ℕ) → row.held ≡ row.source ∷ ids → Contains row.held row.source
@@ -120,7 +120,7 @@ module _ (t : RunTable) (h : TableStands t) (j : JobsStand t) (row : JobRecord) 
       by_kind Mirror s = first (s.copies.target ∷ []) s.copies.held
       by_kind Backup s = first (s.target ∷ []) s.held
 
-  source_plain : IsPlainNode t row.source
+  pub source_plain : IsPlainNode t row.source
   source_plain = b.plain row.source (in_left row.held row.read row.source source_held)
 
   -- ---- once the table is ready for it
@@ -174,6 +174,7 @@ module _ (t : RunTable) (h : TableStands t) (j : JobsStand t) (row : JobRecord) 
           reads = λ base is.
               let r = s.reads base is in
               record { between = r.between; read = r.read; linked = links_as row.source (r.between ++ base ∷ []) r.linked };
+          below = λ n is. s.below n (sym (like.children row.source Backing) ∙ is);
         });
         filters = λ node there none. absurd (let bad : None ≡ Some node.id = none in cc bad);
         copies = subst (λ own. AreApart now.edges (mirrors t.jobs ++ own)) (sym (ap (λ k'. mirror_to row k' row.target) k))

@@ -44,8 +44,8 @@ pub record CommitJobStands (t : RunTable) (row : JobRecord) : Type 0 where
   pub linked : AreLinked t row.source (between ++ base ∷ [])
   pub overlay : IsOverFilter t row.read row.filter
 
--- A stream to a base reads the chain from below its top to that, and has no filter. One without a base reads all that is
--- below.
+-- A stream to a base reads the chain from below its top to that, and has no filter. What its top
+-- has as its backing node it reads, with a base or without.
 pub record ReadsTo (t : RunTable) (row : JobRecord) (base : ℕ) : Type 0 where
   pub between : List ℕ
   pub read : row.read ≡ between ++ base ∷ []
@@ -55,6 +55,7 @@ pub record StreamJobStands (t : RunTable) (row : JobRecord) : Type 0 where
   pub bare : row.filter ≡ None
   pub held : row.held ≡ row.source ∷ []
   pub reads : (base : ℕ) → row.target ≡ Some base → ReadsTo t row base
+  pub below : (node : ℕ) → child t row.source Backing ≡ Some node → Contains row.read node
 
 abbrev pub StandsByKind : RunTable → JobRecord → JobKind → Type 0
 StandsByKind t row Stream = StreamJobStands t row

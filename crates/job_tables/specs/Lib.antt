@@ -3,4 +3,7 @@ pub mod Jobs
 pub mod Changes
 pub mod Guests
 pub mod Starts
-pub mod Lending
+pub mod Running
+pub mod Accepted
+pub mod TargetFiles
+pub mod Ends

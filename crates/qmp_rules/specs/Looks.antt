@@ -24,6 +24,7 @@ use Rattle.qmp_rules.specs.declared.told.Told.{Told}
 use Rattle.qmp_rules.specs.Table.{RunTable, node_named, file_state, first_into}
 use Rattle.qmp_rules.specs.Refusals.{refused}
 use Rattle.qmp_rules.specs.Asks.{if_there, file_node, stands_for, is_lost}
+use Rattle.qmp_asks.specs.Naming.{is_file_name}
 use Rattle.qmp_asks.specs.NodeAsks.{backing_name}
 use Rattle.qmp_asks.specs.Values.{most_length, begins_within, ends_within, part_fits, amount_or}
 use Rattle.std.specs.List.{list_any}
@@ -61,10 +62,20 @@ too_long filename is_long = refused is_long (refusal.File filename TooLong)
 abbrev pub absent_file : List ℕ → Option Stopped
 absent_file filename = stop_at look.File (Some (refusal.File filename Absent)) None
 
--- the file is not opened: a node stands for it, or its bytes are not known any more
+-- the file is not opened: its name is none, a node stands for it, or its bytes are not known any more
 abbrev pub is_unopened : RunTable → List ℕ → Bool
 is_unopened t filename =
-    list_any (stands_for filename) t.nodes || is_lost false (file_state t filename)
+    not (is_file_name filename)
+    || (list_any (stands_for filename) t.nodes || is_lost false (file_state t filename))
+
+-- the look that opens the file of a part: that at its beginning or its end, where one is said, else that at files
+abbrev pub look_for : Option Amount → Option Amount → Look
+look_for (Some offset) size = look.Begin
+look_for None (Some size) = look.End
+look_for None None = look.File
+
+abbrev pub part_look : AddRaw (List ℕ) → Look
+part_look raw = look_for raw.offset raw.size
 
 -- a file is longer than a node may stand for
 abbrev pub file_stop : List ℕ → ℕ → Option Stopped

@@ -20,15 +20,13 @@ use Rattle.qmp_rules.specs.Chains.{filter_role, filtered, disk_node}
 use Rattle.qmp_rules.specs.Changes.{changed, node_changed, settled, writable, kept_from_writes}
 use Rattle.qmp_rules.specs.Table.{RunTable, node_by_id, child, kinds_of}
 use Rattle.flat_machine.specs.Machine.{copies_at, is_copying, copies_through}
-use Rattle.flat_machine.specs.Suiting.{IsPlainNode}
+use Rattle.flat_machine.specs.Suiting.{IsPlainNode, MayBeWritten, MayBeKept}
 use Rattle.flat_machine.specs.Wiring.{LeadsToFile, writes_through, IsDiskOf, IsUnderNoFormat, TableStands}
-use Rattle.flat_machine.proofs.Rows.{disk_node-same, copies-same}
+use Rattle.flat_machine.proofs.Rows.{disk_node-same, copies-same, found_mapped, mapped_apart}
 use Rattle.flat_machine.proofs.Tables.{HasLike, same-edge, refreshed-old}
 use Rattle.flat_machine.proofs.TablesKept.{same_numbers, own_copies}
 use Rattle.flat_machine.proofs.Kept.{own_disk}
 use Rattle.flat_machine.proofs.Wired.{with_at, at_with}
-use Rattle.job_tables.specs.Lending.{MayBeWritten, MayBeKept}
-use Rattle.job_tables.proofs.NodeKinds.{mapped_apart, found_mapped}
 
 pub record KeepsMost (row later : NodeRecord) : Type 0 where
   pub id : later.id ≡ row.id
@@ -40,38 +38,32 @@ pub record KeepsMost (row later : NodeRecord) : Type 0 where
 -- ---- rows that change in whether they are settled or may be written
 
 module _ (t now : RunTable) (f : NodeRecord → NodeRecord) (keeps : (row : NodeRecord) → KeepsMost row (f row)) (nodes : now.nodes ≡ map f t.nodes)
-    (like : (e : Edge) → Contains now.edges e → HasLike t.edges e) (children : (node : ℕ) (role : Role) → child now node role ≡ child t node role)
-    (acyclic : IsAcyclic now.edges) (guests : now.guests ≡ t.guests) (devices : now.devices ≡ t.devices) (h : TableStands t)
-    (gone : (over under : NodeRecord) → LeadsToFile t over under → IsSome under.filename → filter_role over.kind ≡ None → (f under).is_settled ≡ false)
-    (taken : (over under : NodeRecord) → LeadsToFile t over under → IsSome under.filename → filter_role over.kind ≡ None → (f over).read_only ≡ false
-    → (f under).read_only ≡ false)
-    (reads : (row disk : NodeRecord) → Contains t.nodes row → Contains t.nodes disk → disk_node t row.id ≡ disk.id → writes_through t (f row).read_only row.id ≡ true
-    → (f disk).read_only ≡ false) where
-  record IsLater (later : NodeRecord) : Type 0 where
-    row : NodeRecord
-    there : Contains t.nodes row
-    is : later ≡ f row
+    (like : (e : Edge) → Contains now.edges e → HasLike t.edges e) (children : (node : ℕ) (role : Role) → child now node role ≡ child t node role) where
+  pub record IsLater (later : NodeRecord) : Type 0 where
+    pub row : NodeRecord
+    pub there : Contains t.nodes row
+    pub is : later ≡ f row
 
-  was : (later : NodeRecord) → Contains now.nodes later → IsLater later
+  pub was : (later : NodeRecord) → Contains now.nodes later → IsLater later
   was later there = let r = Contains-map f t.nodes later (subst (λ ns. Contains ns later) nodes there) in record { row = r.0; there = r.1; is = r.2 }
 
-  id_of : (later : NodeRecord) (r : IsLater later) → later.id ≡ r.row.id
+  pub id_of : (later : NodeRecord) (r : IsLater later) → later.id ≡ r.row.id
   id_of later r = ap (λ (x : NodeRecord). x.id) r.is ∙ (keeps r.row).id
 
-  file_of : (later : NodeRecord) (r : IsLater later) → later.filename ≡ r.row.filename
+  pub file_of : (later : NodeRecord) (r : IsLater later) → later.filename ≡ r.row.filename
   file_of later r = ap (λ (x : NodeRecord). x.filename) r.is ∙ (keeps r.row).filename
 
-  kind_of : (later : NodeRecord) (r : IsLater later) → later.kind ≡ r.row.kind
+  pub kind_of : (later : NodeRecord) (r : IsLater later) → later.kind ≡ r.row.kind
   kind_of later r = ap (λ (x : NodeRecord). x.kind) r.is ∙ (keeps r.row).kind
 
-  found : (node : ℕ) → node_by_id now node ≡ option_map f (node_by_id t node)
+  pub found : (node : ℕ) → node_by_id now node ≡ option_map f (node_by_id t node)
   found node = found_mapped t now f (λ r. (keeps r).id) nodes node
 
   some : (o : Option NodeRecord) → IsSome o → IsSome (option_map f o)
   some None is = is
   some (Some row) is = refl
 
-  was_over : (over under : NodeRecord) (a : IsLater over) (b : IsLater under) → LeadsToFile now over under → LeadsToFile t a.row b.row
+  pub was_over : (over under : NodeRecord) (a : IsLater over) (b : IsLater under) → LeadsToFile now over under → LeadsToFile t a.row b.row
   was_over over under a b l =
       let x = like l.edge l.there in
       record {
@@ -110,129 +102,135 @@ module _ (t now : RunTable) (f : NodeRecord → NodeRecord) (keeps : (row : Node
       by_found None = refl
       by_found (Some row) = ap is_copying (keeps row).kind
 
-  same_disk : (node : ℕ) → disk_node now node ≡ disk_node t node
+  pub same_disk : (node : ℕ) → disk_node now node ≡ disk_node t node
   same_disk node = disk_node-same t now Any (λ n here. same_filtered n) (λ n below here is. tt) node tt
 
-  same_copies : (node : ℕ) → copies_through now node ≡ copies_through t node
+  pub same_copies : (node : ℕ) → copies_through now node ≡ copies_through t node
   same_copies node = copies-same t now Any (λ n here. same_filtered n) (λ n below here is. tt) (λ n here. same_copies_at n) node tt
 
-  pub mapped_table : TableStands now
-  mapped_table = record {
-    apart = mapped_apart t now f (λ r. (keeps r).id) nodes h.apart;
-    drivers = λ name later of.
-        let r = was later of.there in
-        kind_of later r ∙ h.drivers name r.row (record { there = r.there; filename = sym (file_of later r) ∙ of.filename });
-    names = λ later there driver. let r = was later there in subst IsSome (sym (file_of later r)) (h.names r.row r.there (sym (kind_of later r) ∙ driver));
-    own_names = λ later there none over is.
-        let r = was later there in
-        λ same. h.own_names r.row r.there (sym (ap (λ (x : NodeRecord). x.made_with) r.is ∙ (keeps r.row).made_with) ∙ none) over is
-        (sym (ap (λ (x : NodeRecord). x.name) r.is ∙ (keeps r.row).name) ∙ same);
-    hidden = λ later there filter.
-        let r = was later there in
-        let name : later.name ≡ r.row.name = ap (λ (x : NodeRecord). x.name) r.is ∙ (keeps r.row).name in
-        rw name (h.hidden r.row r.there (sym (ap filter_role (kind_of later r)) ∙ filter));
-    alone = λ name a b of_a of_b.
-        let p = was a of_a.there in
-        let q = was b of_b.there in
-        id_of a p
-        ∙ h.alone name p.row q.row (record { there = p.there; filename = sym (file_of a p) ∙ of_a.filename }) (record { there = q.there; filename = sym (file_of b q) ∙ of_b.filename })
-        ∙ sym (id_of b q);
-    edges = λ e there.
-        let x = like e there in
-        let ends = h.edges x.edge x.there in
-        record {
-          parent = λ node from. subst IsSome (sym (found node)) (some (node_by_id t node) (ends.parent node (x.same.parent ∙ from)));
-          child = subst IsSome (sym (found e.child)) (some (node_by_id t e.child) (subst (λ n. IsSome (node_by_id t n)) x.same.child ends.child));
-        };
-    roles = λ e later there of from.
-        let x = like e there in
-        let r = was later of in
-        ap (λ k. has_role k e.role) (kind_of later r) ∙ ap (has_role r.row.kind) (sym x.same.role)
-        ∙ h.roles x.edge r.row x.there r.there (x.same.parent ∙ from ∙ ap Node (id_of later r));
-    acyclic = acyclic;
-    single = λ e there role.
-        let x = like e there in
-        let one = h.single x.edge x.there (x.same.role ∙ role) in
-        (one.0, (sym x.same.parent ∙ one.1.0, children one.0 File ∙ one.1.1 ∙ ap Some x.same.child));
-    taken = λ over under l file own.
-        let a = was over l.over_there in
-        let b = was under l.under_there in
-        let old = was_over over under a b l in
-        let named = subst IsSome (file_of under b) file in
-        let format = sym (ap filter_role (kind_of over a)) ∙ own in
-        let k = h.taken a.row b.row old named format in
-        record {
-          gone = ap (λ (x : NodeRecord). x.is_settled) b.is ∙ gone a.row b.row old named format;
-          sole = λ e there at.
-              let x = like e there in
-              let s = k.sole x.edge x.there (x.same.child ∙ at ∙ id_of under b) in
-              (sym x.same.parent ∙ s.0 ∙ ap Node (sym (id_of over a)), sym x.same.role ∙ s.1);
-          writable = λ w. ap (λ (x : NodeRecord). x.read_only) b.is ∙ taken a.row b.row old named format (sym (ap (λ (x : NodeRecord). x.read_only) a.is) ∙ w);
-        };
-    filtered = λ over under l none.
-        let a = was over l.over_there in
-        let b = was under l.under_there in
-        subst IsSome (sym (ap filter_role (kind_of over a))) (h.filtered a.row b.row (was_over over under a b l) (sym (file_of under b) ∙ none));
-    on_top = λ e later over there of from to.
-        let x = like e there in
-        let r = was later of in
-        λ is. h.on_top x.edge r.row over x.there r.there (x.same.parent ∙ from) (x.same.child ∙ to ∙ id_of later r) (sym (kind_of later r) ∙ is);
-    reads = λ node later at. reads_later node later at (node_by_id t node) refl;
-    numbers = same_numbers t now guests devices h.numbers;
-  }
-    where
-      free_still : (node : ℕ) → IsUnderNoFormat t node → IsUnderNoFormat now node
-      free_still node free under over at some l own =
+  module _ (acyclic : IsAcyclic now.edges) (guests : now.guests ≡ t.guests) (devices : now.devices ≡ t.devices) (h : TableStands t)
+      (gone : (over under : NodeRecord) → LeadsToFile t over under → IsSome under.filename → filter_role over.kind ≡ None → (f under).is_settled ≡ false)
+      (taken : (over under : NodeRecord) → LeadsToFile t over under → IsSome under.filename → filter_role over.kind ≡ None → (f over).read_only ≡ false
+      → (f under).read_only ≡ false)
+      (reads : (row disk : NodeRecord) → Contains t.nodes row → Contains t.nodes disk → disk_node t row.id ≡ disk.id
+      → writes_through t (f row).read_only row.id ≡ true → (f disk).read_only ≡ false) where
+    pub mapped_table : TableStands now
+    mapped_table = record {
+      apart = mapped_apart t now f (λ r. (keeps r).id) nodes h.apart;
+      drivers = λ name later of.
+          let r = was later of.there in
+          kind_of later r ∙ h.drivers name r.row (record { there = r.there; filename = sym (file_of later r) ∙ of.filename });
+      names = λ later there driver. let r = was later there in subst IsSome (sym (file_of later r)) (h.names r.row r.there (sym (kind_of later r) ∙ driver));
+      own_names = λ later there none over is.
+          let r = was later there in
+          λ same. h.own_names r.row r.there (sym (ap (λ (x : NodeRecord). x.made_with) r.is ∙ (keeps r.row).made_with) ∙ none) over is
+          (sym (ap (λ (x : NodeRecord). x.name) r.is ∙ (keeps r.row).name) ∙ same);
+      hidden = λ later there filter.
+          let r = was later there in
+          let name : later.name ≡ r.row.name = ap (λ (x : NodeRecord). x.name) r.is ∙ (keeps r.row).name in
+          rw name (h.hidden r.row r.there (sym (ap filter_role (kind_of later r)) ∙ filter));
+      alone = λ name a b of_a of_b.
+          let p = was a of_a.there in
+          let q = was b of_b.there in
+          id_of a p
+          ∙ h.alone name p.row q.row (record { there = p.there; filename = sym (file_of a p) ∙ of_a.filename }) (record { there = q.there; filename = sym (file_of b q) ∙ of_b.filename })
+          ∙ sym (id_of b q);
+      edges = λ e there.
+          let x = like e there in
+          let ends = h.edges x.edge x.there in
+          record {
+            parent = λ node from. subst IsSome (sym (found node)) (some (node_by_id t node) (ends.parent node (x.same.parent ∙ from)));
+            child = subst IsSome (sym (found e.child)) (some (node_by_id t e.child) (subst (λ n. IsSome (node_by_id t n)) x.same.child ends.child));
+          };
+      roles = λ e later there of from.
+          let x = like e there in
+          let r = was later of in
+          ap (λ k. has_role k e.role) (kind_of later r) ∙ ap (has_role r.row.kind) (sym x.same.role)
+          ∙ h.roles x.edge r.row x.there r.there (x.same.parent ∙ from ∙ ap Node (id_of later r));
+      acyclic = acyclic;
+      single = λ e there role.
+          let x = like e there in
+          let one = h.single x.edge x.there (x.same.role ∙ role) in
+          (one.0, (sym x.same.parent ∙ one.1.0, children one.0 File ∙ one.1.1 ∙ ap Some x.same.child));
+      taken = λ over under l file own.
           let a = was over l.over_there in
           let b = was under l.under_there in
-          let id_is : under.id ≡ node = eqb-true under.id node (find-Some (λ (r : NodeRecord). r.id == node) now.nodes under at).1 in
-          free b.row a.row (ap (node_by_id t) (sym id_is ∙ id_of under b) ∙ h.apart b.row b.there) (subst IsSome (file_of under b) some) (was_over over under a b l)
-          (sym (ap filter_role (kind_of over a)) ∙ own)
+          let old = was_over over under a b l in
+          let named = subst IsSome (file_of under b) file in
+          let format = sym (ap filter_role (kind_of over a)) ∙ own in
+          let k = h.taken a.row b.row old named format in
+          record {
+            gone = ap (λ (x : NodeRecord). x.is_settled) b.is ∙ gone a.row b.row old named format;
+            sole = λ e there at.
+                let x = like e there in
+                let s = k.sole x.edge x.there (x.same.child ∙ at ∙ id_of under b) in
+                (sym x.same.parent ∙ s.0 ∙ ap Node (sym (id_of over a)), sym x.same.role ∙ s.1);
+            writable = λ w. ap (λ (x : NodeRecord). x.read_only) b.is ∙ taken a.row b.row old named format (sym (ap (λ (x : NodeRecord). x.read_only) a.is) ∙ w);
+          };
+      filtered = λ over under l none.
+          let a = was over l.over_there in
+          let b = was under l.under_there in
+          subst IsSome (sym (ap filter_role (kind_of over a))) (h.filtered a.row b.row (was_over over under a b l) (sym (file_of under b) ∙ none));
+      on_top = λ e later over there of from to.
+          let x = like e there in
+          let r = was later of in
+          λ is. h.on_top x.edge r.row over x.there r.there (x.same.parent ∙ from) (x.same.child ∙ to ∙ id_of later r) (sym (kind_of later r) ∙ is);
+      reads = λ node later at. reads_later node later at (node_by_id t node) refl;
+      numbers = same_numbers t now guests devices h.numbers;
+    }
+      where
+        free_still : (node : ℕ) → IsUnderNoFormat t node → IsUnderNoFormat now node
+        free_still node free under over at some l own =
+            let a = was over l.over_there in
+            let b = was under l.under_there in
+            let id_is : under.id ≡ node = eqb-true under.id node (find-Some (λ (r : NodeRecord). r.id == node) now.nodes under at).1 in
+            free b.row a.row (ap (node_by_id t) (sym id_is ∙ id_of under b) ∙ h.apart b.row b.there) (subst IsSome (file_of under b) some) (was_over over under a b l)
+            (sym (ap filter_role (kind_of over a)) ∙ own)
 
-      reads_disk : (node : ℕ) (row : NodeRecord) → node_by_id t node ≡ Some row → (disk : Option NodeRecord) → node_by_id t (disk_node t node) ≡ disk → With disk (IsDiskOf t row)
-          → With (node_by_id now (disk_node now node)) (IsDiskOf now (f row))
-      reads_disk node row at None is of = absurd of
-      reads_disk node row at (Some disk) is of =
-          let row_at = find-Some (λ (r : NodeRecord). r.id == node) t.nodes row at in
-          let disk_at = find-Some (λ (r : NodeRecord). r.id == disk_node t node) t.nodes disk is in
-          let id : row.id ≡ node = eqb-true row.id node row_at.1 in
-          let there : node_by_id now (disk_node now node) ≡ Some (f disk) = ap (node_by_id now) (same_disk node) ∙ found (disk_node t node) ∙ ap (option_map f) is in
-          with_at (IsDiskOf now (f row)) (node_by_id now (disk_node now node)) (f disk) there (record {
-            own = ap filter_role (keeps disk).kind ∙ of.own;
-            itself = λ file. elim (of.itself (subst IsSome (keeps disk).filename file)) [
-              | inl same ↦ inl ((keeps disk).id ∙ same ∙ sym (keeps row).id)
-              | inr free ↦ inr (free_still (f disk).id (subst (IsUnderNoFormat t) (sym (keeps disk).id) free))
-            ];
-            writable = λ w.
-                reads row disk row_at.0 disk_at.0 (ap (disk_node t) id ∙ sym (eqb-true disk.id (disk_node t node) disk_at.1))
-                (sym (ap (λ b. not (f row).read_only || b) (ap (copies_through now) (keeps row).id ∙ same_copies row.id)) ∙ w);
-          })
+        reads_disk : (node : ℕ) (row : NodeRecord) → node_by_id t node ≡ Some row → (disk : Option NodeRecord) → node_by_id t (disk_node t node) ≡ disk → With disk (IsDiskOf t row)
+            → With (node_by_id now (disk_node now node)) (IsDiskOf now (f row))
+        reads_disk node row at None is of = absurd of
+        reads_disk node row at (Some disk) is of =
+            let row_at = find-Some (λ (r : NodeRecord). r.id == node) t.nodes row at in
+            let disk_at = find-Some (λ (r : NodeRecord). r.id == disk_node t node) t.nodes disk is in
+            let id : row.id ≡ node = eqb-true row.id node row_at.1 in
+            let there : node_by_id now (disk_node now node) ≡ Some (f disk) = ap (node_by_id now) (same_disk node) ∙ found (disk_node t node) ∙ ap (option_map f) is in
+            with_at (IsDiskOf now (f row)) (node_by_id now (disk_node now node)) (f disk) there (record {
+              own = ap filter_role (keeps disk).kind ∙ of.own;
+              itself = λ file. elim (of.itself (subst IsSome (keeps disk).filename file)) [
+                | inl same ↦ inl ((keeps disk).id ∙ same ∙ sym (keeps row).id)
+                | inr free ↦ inr (free_still (f disk).id (subst (IsUnderNoFormat t) (sym (keeps disk).id) free))
+              ];
+              writable = λ w.
+                  reads row disk row_at.0 disk_at.0 (ap (disk_node t) id ∙ sym (eqb-true disk.id (disk_node t node) disk_at.1))
+                  (sym (ap (λ b. not (f row).read_only || b) (ap (copies_through now) (keeps row).id ∙ same_copies row.id)) ∙ w);
+            })
 
-      reads_later : (node : ℕ) (later : NodeRecord) → node_by_id now node ≡ Some later → (o : Option NodeRecord) → node_by_id t node ≡ o
-          → With (node_by_id now (disk_node now node)) (IsDiskOf now later)
-      reads_later node later at None is = absurd (let bad : None ≡ Some later = sym (found node ∙ ap (option_map f) is) ∙ at in cc bad)
-      reads_later node later at (Some row) is =
-          let same : later ≡ f row = let both : Some later ≡ Some (f row) = sym at ∙ found node ∙ ap (option_map f) is in cc both in
-          subst (λ (r : NodeRecord). With (node_by_id now (disk_node now node)) (IsDiskOf now r)) (sym same)
-          (reads_disk node row is (node_by_id t (disk_node t node)) refl (h.reads node row is))
+        reads_later : (node : ℕ) (later : NodeRecord) → node_by_id now node ≡ Some later → (o : Option NodeRecord) → node_by_id t node ≡ o
+            → With (node_by_id now (disk_node now node)) (IsDiskOf now later)
+        reads_later node later at None is = absurd (let bad : None ≡ Some later = sym (found node ∙ ap (option_map f) is) ∙ at in cc bad)
+        reads_later node later at (Some row) is =
+            let same : later ≡ f row = let both : Some later ≡ Some (f row) = sym at ∙ found node ∙ ap (option_map f) is in cc both in
+            subst (λ (r : NodeRecord). With (node_by_id now (disk_node now node)) (IsDiskOf now r)) (sym same)
+            (reads_disk node row is (node_by_id t (disk_node t node)) refl (h.reads node row is))
 
 -- ---- the three kinds
 
-most_settled : (id : ℕ) (row : NodeRecord) → KeepsMost row (node_changed id settled row)
+pub most_settled : (id : ℕ) (row : NodeRecord) → KeepsMost row (node_changed id settled row)
 most_settled id row = by_test (row.id == id)
   where
     by_test : (b : Bool) → KeepsMost row (cond b (settled row) row)
     by_test true = record { id = refl; name = refl; kind = refl; filename = refl; made_with = refl }
     by_test false = record { id = refl; name = refl; kind = refl; filename = refl; made_with = refl }
 
-most_writable : (id : ℕ) (row : NodeRecord) → KeepsMost row (node_changed id writable row)
+pub most_writable : (id : ℕ) (row : NodeRecord) → KeepsMost row (node_changed id writable row)
 most_writable id row = by_test (row.id == id)
   where
     by_test : (b : Bool) → KeepsMost row (cond b (writable row) row)
     by_test true = record { id = refl; name = refl; kind = refl; filename = refl; made_with = refl }
     by_test false = record { id = refl; name = refl; kind = refl; filename = refl; made_with = refl }
 
-most_kept : (id : ℕ) (row : NodeRecord) → KeepsMost row (node_changed id kept_from_writes row)
+pub most_kept : (id : ℕ) (row : NodeRecord) → KeepsMost row (node_changed id kept_from_writes row)
 most_kept id row = by_test (row.id == id)
   where
     by_test : (b : Bool) → KeepsMost row (cond b (kept_from_writes row) row)
@@ -240,10 +238,10 @@ most_kept id row = by_test (row.id == id)
     by_test false = record { id = refl; name = refl; kind = refl; filename = refl; made_with = refl }
 
 -- which row a change finds
-changed_at : (id : ℕ) (g : NodeRecord → NodeRecord) (row : NodeRecord) → row.id ≡ id → node_changed id g row ≡ g row
+pub changed_at : (id : ℕ) (g : NodeRecord → NodeRecord) (row : NodeRecord) → row.id ≡ id → node_changed id g row ≡ g row
 changed_at id g row is = rw (eq-eqb row.id id is) refl
 
-changed_not : (id : ℕ) (g : NodeRecord → NodeRecord) (row : NodeRecord) → row.id ≢ id → node_changed id g row ≡ row
+pub changed_not : (id : ℕ) (g : NodeRecord → NodeRecord) (row : NodeRecord) → row.id ≢ id → node_changed id g row ≡ row
 changed_not id g row not_ = rw (ne_eqb row.id id not_) refl
 
 module _ (t : RunTable) (h : TableStands t) where
@@ -319,7 +317,7 @@ module _ (t : RunTable) (h : TableStands t) where
       reads row disk at_row at_disk is w = elim (cases_eq disk.id node) [
         | inl same ↦ ap (λ (r : NodeRecord). r.read_only) (changed_at node writable disk same)
         | inr other ↦ elim (cases_eq row.id node) [
-          | inl own ↦ absurd (other (sym is ∙ ap (disk_node t) own ∙ own_disk t node m.plain.row m.plain.there m.plain.own))
+          | inl own ↦ absurd (other (sym is ∙ ap (disk_node t) own ∙ own_disk t node m.disk.row m.disk.there m.disk.own))
           | inr apart ↦ still disk (disk_writable row disk at_row at_disk is (ap (λ (r : NodeRecord). writes_through t r.read_only row.id) (sym (changed_not node writable row apart)) ∙ w))
         ]
       ]
@@ -382,6 +380,6 @@ module _ (t : RunTable) (h : TableStands t) where
           no_more row at to w = elim (cases_eq row.id node) [
             | inl same ↦
                 let only : copies_through t row.id ≡ true = ap (λ (r : NodeRecord). writes_through t r.read_only row.id) (sym (changed_at node kept_from_writes row same)) ∙ w in
-                false≢true (sym (own_copies t node m.plain.row m.plain.there m.plain.own) ∙ ap (copies_through t) (sym same) ∙ only)
+                false≢true (sym (own_copies t node m.disk.row m.disk.there m.disk.own) ∙ ap (copies_through t) (sym same) ∙ only)
             | inr other ↦ other (m.filters row at to (ap (λ (r : NodeRecord). writes_through t r.read_only row.id) (sym (changed_not node kept_from_writes row other)) ∙ w))
           ]

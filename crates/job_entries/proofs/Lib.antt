@@ -1,0 +1,13 @@
+pub mod Files
+pub mod InTurn
+pub mod Steps
+pub mod Noted
+pub mod Sources
+pub mod Ending
+pub mod Starting
+pub mod Found
+pub mod Inline
+pub mod Alike
+pub mod CommitSuits
+pub mod StartSuits
+pub mod Headers
