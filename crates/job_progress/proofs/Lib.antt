@@ -1,0 +1,10 @@
+pub mod Stays
+pub mod Goes
+pub mod Changed
+pub mod Entries
+pub mod Copies
+pub mod Others
+pub mod Pieces
+pub mod Belong
+pub mod Begin
+pub mod Ends

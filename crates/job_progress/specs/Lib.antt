@@ -1,0 +1,5 @@
+pub mod Belonging
+pub mod Going
+pub mod Leaving
+pub mod Piecing
+pub mod Beginning
