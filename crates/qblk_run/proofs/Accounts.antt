@@ -32,7 +32,7 @@ use Rattle.world_parts.specs.Progress.{ended_in}
 use Rattle.world_parts.specs.Steps.{StoreSeen, IsOpeningOf, new_world}
 use Rattle.world_parts.specs.Tabling.{IsTableAfter}
 use Rattle.qblk_inputs.specs.Inputs.{Work}
-use Rattle.qblk_inputs.specs.Words.{Cast, guests_of}
+use Rattle.qblk_words.specs.Words.{Cast, guests_of}
 use Rattle.qblk_run.specs.Run.{Account, HasOpened, IsRun, HaveNotSunk, IsFlushedAs, LeavesFiles, EndsDone, EndsStuck, HasRunStopped, FailsToFlush, counts_at_first, counts_at_last, course_in, history_room, seen_waits}
 use Rattle.qblk_run.specs.Session.{IsEnd}
 use Rattle.qblk_run.specs.Tasks.{Tasks, KeepsTo, CanGoOn}

@@ -29,7 +29,7 @@ use Rattle.qblk_core.specs.declared.status.Status.{Status}
 use Rattle.qblk_core.specs.declared.status.Status.TheVariants.{Done, Fault, Stuck, NoMemory}
 use Rattle.qblk_core.specs.Session.{failed_as}
 use Rattle.qblk_inputs.specs.Inputs.{Work, HasWork, IsWork}
-use Rattle.qblk_inputs.specs.Words.{Cast, guests_of}
+use Rattle.qblk_words.specs.Words.{Cast, guests_of}
 use Rattle.qblk_run.specs.Beginning.{new_tasks}
 use Rattle.qblk_run.specs.Ending.{EndsAs, ended_as, WentOut}
 use Rattle.qblk_run.specs.Run.{Setting, Account, IsRun, WasRun, HasRunStopped, IsFaulty, Answers, history_room, whole_transcript, seen_waits}

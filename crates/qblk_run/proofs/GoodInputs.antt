@@ -6,7 +6,7 @@ use Rattle.trace_codec.specs.Amounts.{Amounts, nothing}
 use Rattle.trace_codec.specs.declared.wish.Wish.{Wish}
 use Rattle.trace_codec.specs.Script.{Order}
 use Rattle.qblk_inputs.specs.Inputs.{HasTraces, HasWork, IsBadScript, IsBadTrace, IsFirstRefused, IsRefusedInput, IsRefusedScript, IsRefusedTrace, IsScript, ReadsAsTrace, Work}
-use Rattle.qblk_inputs.specs.Words.{Cast, Player, guests_of}
+use Rattle.qblk_words.specs.Words.{Cast, Player, guests_of}
 use Rattle.qblk_inputs.specs.declared.stop.InputFlaw.{InputFlaw}
 use Rattle.qblk_inputs.specs.declared.stop.InputFlaw.TheVariants.{Absent, NotUtf8, TooLong, BadLine, TooMany}
 

@@ -21,12 +21,12 @@ use Rattle.world_parts.specs.Progress.{Progress, no_progress}
 use Rattle.world_parts.specs.Steps.{StoreSeen, IsOpeningOf, new_world}
 use Rattle.qblk_core.specs.declared.status.Status.{Status}
 use Rattle.qblk_core.specs.declared.status.Status.TheVariants.{NoMemory}
-use Rattle.qblk_core.specs.declared.words.Format.{Format}
-use Rattle.qblk_core.specs.Words.{IsIo}
+use Rattle.qblk_words.specs.declared.words.Format.{Format}
+use Rattle.qblk_words.specs.Words.{IsIo}
 use Rattle.qblk_inputs.specs.Inputs.{Work, HasWork, IsWork}
 use Rattle.qblk_inputs.specs.Reading.{StopsFor, OfInputs, StopsOn, OnInputs}
 use Rattle.qblk_inputs.specs.Room.{IsRoomFor, entries_for_all}
-use Rattle.qblk_inputs.specs.Words.{Cast, IsRunOf, Player, guests_of, player_of}
+use Rattle.qblk_words.specs.Words.{Cast, IsRunOf, Player, guests_of, player_of}
 use Rattle.qblk_inputs.specs.declared.stop.InputStop.{InputStop}
 use Rattle.qblk_inputs.specs.declared.stop.InputStop.TheVariants as stops
 use Rattle.qblk_run.specs.Beginning.{new_task, new_tasks, IsRunReady}

@@ -20,7 +20,7 @@ use Rattle.world_parts.specs.Counting.{seen_sources}
 use Rattle.world_parts.specs.Face.{WorldSeen, counts_now}
 use Rattle.qblk_core.specs.declared.status.Status.{Status}
 use Rattle.qblk_core.specs.declared.status.Status.TheVariants.{Done, Usage, Input, Fault, Stuck, NoMemory}
-use Rattle.qblk_inputs.specs.Words.{Cast}
+use Rattle.qblk_words.specs.Words.{Cast}
 use Rattle.qblk_core.specs.Completeness.{HasStood}
 use Rattle.world_files.specs.Closing.{IsBackAfterFlush}
 use Rattle.qblk_run.specs.Completeness.{HasSpaceFor, HaveSpace, NamesNoFault, NoneHasRisen, full_in}

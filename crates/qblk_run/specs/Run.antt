@@ -36,7 +36,7 @@ use Rattle.world_parts.specs.Tabling.{IsTableAfter}
 use Rattle.qblk_inputs.specs.Inputs.{Work, HasWork, IsWork, IsRefusedInput, SpeaksOfCast}
 use Rattle.qblk_inputs.specs.Reading.{FailsOn, OnInputs, input_read}
 use Rattle.qblk_inputs.specs.Room.{bytes_for_all, entries_for_all}
-use Rattle.qblk_inputs.specs.Words.{Cast, guests_of}
+use Rattle.qblk_words.specs.Words.{Cast, guests_of}
 use Rattle.qblk_inputs.specs.declared.stop.InputFlaw.{InputFlaw}
 use Rattle.qblk_inputs.specs.declared.stop.InputStop.{InputStop}
 use Rattle.qblk_inputs.specs.declared.stop.InputStop.TheVariants as stops

@@ -13,7 +13,7 @@ ghost use Rattle.qblk_core.specs.declared.status.InputWhy.{InputWhy};
 ghost use Rattle.qblk_core.specs.declared.status.Status.{Status};
 ghost use Rattle.qblk_core.specs.declared.status.Status.TheVariants.{Input};
 ghost use Rattle.qblk_inputs.specs.Inputs.{Work, HasWork};
-ghost use Rattle.qblk_inputs.specs.Words.{Cast};
+ghost use Rattle.qblk_words.specs.Words.{Cast};
 ghost use Rattle.qblk_run.specs.Completeness.{CanBeWhole, AreAttached, HaveSpace, MeetsNone, NamesNoFault, NoneHasRisen};
 ghost use Rattle.qblk_run.specs.Run.{Account, Answers, EndsStuck, HaveStood, IsRun, Setting, counts_at_first, counts_at_last, history_room};
 

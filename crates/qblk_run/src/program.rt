@@ -1,16 +1,16 @@
 //! What the words of the program ask for.
-ghost use Rattle.std.specs.Prelude.{◌≡◌, ℕ, List};
+ghost use Rattle.std.specs.Prelude.{◌≡◌, ◌⊎◌, ℕ, List};
 ghost use Rattle.qblk_core.specs.Run.{AnswersIo, TellsFaults};
-ghost use Rattle.qblk_core.specs.Words.{IsIo};
-ghost use Rattle.qblk_core.specs.declared.words.Format.{Format};
+ghost use Rattle.qblk_words.specs.Words.{IsIo};
+ghost use Rattle.qblk_words.specs.declared.words.Format.{Format};
 ghost use Rattle.qblk_inputs.specs.Reading.{NoneOut};
-ghost use Rattle.qblk_inputs.specs.Words.{Cast, IsRunOf, texts_in};
+ghost use Rattle.qblk_words.specs.Words.{Cast, IsRunOf, texts_in};
 ghost use Rattle.qblk_run.specs.Run.{Answers, setting, outside};
 
 use crate::run::run_script;
 use blk_base::{Sink, Store, Text};
-use qblk_core::Status;
-use qblk_inputs::run_words;
+use qblk_core::{Status, run_io};
+use qblk_words::{Form, WordsStop, read_words};
 use std::alloc::Global;
 
 /// Does what words of the forms `io FORMAT IMAGE TRACE` and `run 1 SCRIPT GUEST=TRACE ..` say, on the files of a store; all
@@ -39,7 +39,8 @@ pub fn qblk<S: Store, K: Sink>(alloc: Global, words: &[Text], store: S, out: &mu
     ensures usage { ((format : Format) (image trace : List ℕ)
         → IsIo (texts_in words.now) format image trace → ⊥)
         → ((cast : Cast) → IsRunOf (texts_in words.now) cast → ⊥)
-        → (result.0 ≡ Status.Usage) × (result.1 ≡ store) × (out.new ≡ out.old) }
+        → ((result.0 ≡ Status.Usage) ⊎ (result.0 ≡ Status.NoMemory))
+        × (result.1 ≡ store) × (out.new ≡ out.old) }
 
     // of `io`, no fault of the store or the sink goes untold
     ensures faults { (format : Format) (image trace : List ℕ)
@@ -53,8 +54,10 @@ pub fn qblk<S: Store, K: Sink>(alloc: Global, words: &[Text], store: S, out: &mu
     // whatever the words: no device is left out
     ensures back { NoneOut (S.opened result.1) }
 {
-    match run_words(words) {
-        Some(_) => run_script(alloc, words, store, out),
-        None => qblk_core::qblk(alloc, words, store, out),
+    match read_words(alloc, words) {
+        Ok(Form::Run(_)) => run_script(alloc, words, store, out),
+        Ok(Form::Io(_)) => run_io(alloc, words, store, out),
+        Err(WordsStop::Usage) => (Status::Usage, store),
+        Err(WordsStop::NoMemory) => (Status::NoMemory, store),
     }
 }

@@ -1,10 +1,10 @@
 //! The calls of the program.
-ghost use Rattle.std.specs.Prelude.{◌≡◌, ◌+◌, ◌^◌, ◌<◌, ◌≤◌, ℕ, List, false, length, map, vec_len};
+ghost use Rattle.std.specs.Prelude.{◌≡◌, ◌+◌, ◌^◌, ◌<◌, ◌≤◌, ℕ, List, IfSome, false, length, map, vec_len};
 ghost use Rattle.blk_base.specs.Files.{IfTold, is_out};
 ghost use Rattle.trace_codec.specs.Script.{seen_order};
 ghost use Rattle.qblk_inputs.specs.Inputs.{HasWork, IsWork};
 ghost use Rattle.qblk_inputs.specs.Reading.{NoneOut};
-ghost use Rattle.qblk_inputs.specs.Words.{Cast, IsRunOf, texts_in, guests_of};
+ghost use Rattle.qblk_words.specs.Words.{Cast, IsRunOf, cast_of, texts_in, guests_of};
 ghost use Rattle.qblk_core.specs.Run.{why_of};
 ghost use Rattle.qblk_run.specs.Run.{Answers, setting, status_of};
 
@@ -14,7 +14,8 @@ use crate::session::play;
 use blk_base::{FaultFrom, Sink, Store, Text};
 use blk_world::World;
 use qblk_core::{InputWhy, Status};
-use qblk_inputs::{InputFlaw, InputStop, Inputs, read_inputs, run_words};
+use qblk_inputs::{InputFlaw, InputStop, Inputs, read_inputs};
+use qblk_words::{Form, RunWords, read_words};
 use std::alloc::Global;
 
 /// Why an input is refused, as a status says it.
@@ -98,6 +99,17 @@ fn run_inputs<S: Store, K: Sink>(
     }
 }
 
+/// The words of a run. None where they are of no run, or memory is wanting.
+fn run_of(alloc: Global, words: &[Text]) -> Option<RunWords>
+    ensures { IfSome result (λ run. IsRunOf (texts_in words.now)
+        (cast_of run.script.bytes (texts_in run.players.items))) }
+{
+    match read_words(alloc, words) {
+        Ok(Form::Run(run)) => Some(run),
+        _ => None,
+    }
+}
+
 /// Runs the script and the traces of `run 1 SCRIPT GUEST=TRACE ..` on the files of a store, and puts the transcript. The words
 /// are of that form. The store comes back with no device out.
 pub fn run_script<S: Store, K: Sink>(
@@ -116,11 +128,16 @@ pub fn run_script<S: Store, K: Sink>(
         result.0 }
     ensures back { NoneOut (S.opened result.1) }
 {
-    let Some(run) = run_words(words) else {
-        unreachable!()
+    let Some(run) = run_of(alloc, words) else {
+        return (Status::NoMemory, store);
     };
     let mut store = store;
-    match read_inputs(alloc, &mut store, run.script, run.players) {
+    match read_inputs(
+        alloc,
+        &mut store,
+        run.script.as_str(),
+        run.players.as_slice(),
+    ) {
         Ok(inputs) => run_inputs(alloc, inputs, store, out),
         Err(stop) => (input_status(stop), store),
     }

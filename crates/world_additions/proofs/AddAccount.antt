@@ -11,6 +11,7 @@ use Rattle.qmp_codec.specs.declared.nodes.Added.TheVariants as added
 use Rattle.qmp_codec.specs.declared.nodes.FileRef.{FileRef}
 use Rattle.qmp_codec.specs.declared.nodes.FileRef.TheVariants as file_ref
 use Rattle.qmp_rules.specs.Answers.{refusal_to, told_none}
+use Rattle.qmp_rules.specs.Looks.{part_look}
 use Rattle.qmp_rules.specs.Table.{RunTable}
 use Rattle.qmp_rules.specs.declared.refusal.Refusal.{Refusal}
 use Rattle.qmp_asks.specs.declared.look.Look.TheVariants as look
@@ -52,11 +53,11 @@ module _ (o : Opening) (s : State) (w : WorldSeen) (shows : ShowsState o s w) (c
   seen-nothing mine held is = held-of s w c told (held ∙ sym mine) (seen-whole s c told (mine ∙ sym is))
 
   seen-part : (raw : AddRaw (List ℕ)) (file : FileRef (List ℕ)) → c.driver ≡ added.Raw raw → raw.file ≡ file
-      → LooksAtPart w.table c file (site_of w) now out image told → IsSeenHeld s w c told
+      → LooksAtPart w.table c (part_look raw) file (site_of w) now out image told → IsSeenHeld s w c told
   seen-part raw (file_ref.Name name) e f looks =
       seen-nothing (expects-nothing s c raw name e f) (expects-nothing (as_held w s) c raw name e f) looks.is
   seen-part raw (file_ref.Inline file) e f looks =
-      seen-out (record { filename = file.filename; what = look.Begin }) (AsPart raw file e f refl refl) looks
+      seen-out (record { filename = file.filename; what = part_look raw }) (AsPart raw file e f refl refl) looks
 
   seen-image : (q : AddQcow2 (List ℕ)) (file : FileRef (List ℕ)) → c.driver ≡ added.Qcow2 q → q.file ≡ file
       → LooksAtImage w.table c q file (site_of w) now out image told → IsSeenHeld s w c told

@@ -25,13 +25,14 @@ use Rattle.qmp_asks.specs.declared.look.Look.{Look}
 use Rattle.qmp_asks.specs.declared.look.Look.TheVariants as look
 use Rattle.qmp_rules.specs.declared.told.Told.{Told}
 use Rattle.flat_machine.proofs.Accepted.{less_lost, opened}
+use Rattle.flat_machine.specs.Sights.{order_of}
 use Rattle.flat_machine.specs.Wiring.{TableAtRest}
-use Rattle.flat_machine.proofs.OwnNames.{inline-free, name-asked}
-use Rattle.flat_machine.proofs.Asked.{NoneHolds, good-value, known-file, none-behind, none-both, none-holds, none-stands, not-refused}
+use Rattle.flat_machine.proofs.OwnNames.{inline-free, name-asked, names-asked}
+use Rattle.flat_machine.proofs.Asked.{NoneHolds, good-value, known-file, named-file, none-behind, none-both, none-holds, none-stands, not-refused}
 use Rattle.world_parts.specs.Adding.{Adding, Opens, Taken, LooksInside, Looks, probe, look_in_vain}
 use Rattle.world_parts.specs.Stores.{StoreInRun}
 use Rattle.q2_image.specs.Image.{Known}
-use Rattle.world_additions.proofs.AddTold.{has_look}
+use Rattle.world_additions.proofs.AddTold.{IsFrom, has_look, silent-from}
 use Rattle.world_additions.proofs.AddRefused.{refusal-is, stop-refused, unreached-refused}
 use Rattle.world_additions.proofs.AddSeen.{AsFile, AsImage, AsPart, OpensAs, has-at, has-vain, looks-as}
 
@@ -101,6 +102,9 @@ module _ (t : RunTable) (told : Told) (c : Adding) (none : refusal_to t told (co
           ++ added_values c.driver
           ++ ask.Named (codes "node-name") (Some c.node_name) ∷ added_names c.driver
 
+  driver-names : NoneHolds t told (added_names c.driver)
+  driver-names = (names-asked t told c all-asked).1
+
   pub known-driver : is_added c.driver ≡ true
   known-driver = good-value t told (codes "driver") (is_added c.driver) all-asked.0
 
@@ -133,16 +137,19 @@ module _ (t : RunTable) (told : Told) (c : Adding) (none : refusal_to t told (co
   pub unopened-not : (at : Opens) → OpensAs c at → is_unopened t at.filename ≡ false
   unopened-not at (AsFile e what) =
       let rest = rw e at rest-asked in
-      opened t at.filename (none-stands t told at.filename rest.1.1.0) (known-file t told at.filename false rest.1.1.1.1.0)
+      let names = rw e at driver-names in
+      opened t at.filename (named-file t told (codes "filename") at.filename names.0) (none-stands t told at.filename rest.1.1.0) (known-file t told at.filename false rest.1.1.1.1.0)
   unopened-not at (AsPart raw file e f name what) =
       let rest = rw (e, f) at rest-asked in
+      let names = rw (e, f) at driver-names in
       subst (λ (n : List ℕ). is_unopened t n ≡ false) name
-      (opened t file.filename (none-stands t told file.filename rest.1.1.1.1.0)
+      (opened t file.filename (named-file t told (codes "filename") file.filename names.0) (none-stands t told file.filename rest.1.1.1.1.0)
       (less_lost true (file_state t file.filename) (known-file t told file.filename true rest.1.1.1.1.1.1.0)))
   unopened-not at (AsImage image file e f name what) =
       let rest = rw (e, f) at rest-asked in
+      let names = rw (e, f) at driver-names in
       subst (λ (n : List ℕ). is_unopened t n ≡ false) name
-      (opened t file.filename (none-stands t told file.filename rest.1.1.1.1.1.1.0)
+      (opened t file.filename (named-file t told (codes "filename") file.filename names.0) (none-stands t told file.filename rest.1.1.1.1.1.1.0)
       (known-file t told file.filename false rest.1.1.1.1.1.1.1.1.0))
 
   pub taken-out : (at : Opens) → OpensAs c at → (old new : StoreInRun) (out : Option Taken) (image : Option Known)
@@ -152,7 +159,8 @@ module _ (t : RunTable) (told : Told) (c : Adding) (none : refusal_to t told (co
       by_away : (refusal_to t (probe at.what) (command.BlockdevAdd c) ≢ Some refusal.Aborted) ⊎ (is_unopened t at.filename ≡ true) → IsTakenFor t told c at old new out image
       by_away (inl not) =
           let same : refusal_to t told (command.BlockdevAdd c) ≡ refusal_to t (probe at.what) (command.BlockdevAdd c) =
-          unreached-refused t at.what c (looks-as c at opener) not told in
+          unreached-refused t at.what c (looks-as c at opener) not told
+          (silent-from at.what told (subst (λ (a : Told). IsFrom (order_of at.what) a.stopped) (sym looks.0.is) tt) (add_asks c)) in
           absurd (stop-refused t (probe at.what) at.what refusal.Aborted c refl (has-at c at opener) (sym same ∙ none))
       by_away (inr closed) = let bad : true ≡ false = sym closed ∙ unopened-not at opener in absurd (cc bad)
   taken-out at opener old new None image (inr looks) =

@@ -16,7 +16,7 @@ use Rattle.qmp_rules.specs.Answers.{command_edits, refusal_to}
 use Rattle.qmp_rules.specs.Asks.{id_or}
 use Rattle.qmp_rules.specs.Changes.{all_changed}
 use Rattle.qmp_rules.specs.Edits.{added_edits, edits_of, free_id, image_row, qcow2_edits, raw_edits}
-use Rattle.qmp_rules.specs.Looks.{file_stop, raw_stop}
+use Rattle.qmp_rules.specs.Looks.{file_stop, raw_stop, part_look}
 use Rattle.qmp_asks.specs.NodeAsks.{backing_name, is_read_only}
 use Rattle.qmp_rules.specs.Table.{RunTable, id_named}
 use Rattle.qmp_rules.specs.declared.change.Change.{Change}
@@ -88,7 +88,7 @@ module _ (w : WorldSeen) (coherent : IsCoherent w.table w.nodes w.opened w.progr
       shown-file w v told c none (store_of w) now.store coherent.out (middle-of w.table w.nodes w.opened w.progress coherent) coherent.table joined same_files s table_is
       filename e taken.device fresh (opened-bytes w files now.store filename taken.inside.first taken.device told_files taken.inside.out tells.kept) made.0 made.1 table
 
-  did-part-by : (raw : AddRaw (List ℕ)) (file : FileRef (List ℕ)) → c.driver ≡ added.Raw raw → raw.file ≡ file → LooksAtPart w.table c file (site_of w) now out image told
+  did-part-by : (raw : AddRaw (List ℕ)) (file : FileRef (List ℕ)) → c.driver ≡ added.Raw raw → raw.file ≡ file → LooksAtPart w.table c (part_look raw) file (site_of w) now out image told
       → HasAddedPart w.table c raw file out now.nodes v.nodes
       → v.table ≡ all_changed w.table (raw_edits w.table told c.node_name (is_read_only c.options) raw file)
       → Did (raw_edits w.table told c.node_name (is_read_only c.options) raw file)
@@ -99,7 +99,7 @@ module _ (w : WorldSeen) (coherent : IsCoherent w.table w.nodes w.opened w.progr
       shown-part w v told c none (store_of w) now.store coherent.out (middle-of w.table w.nodes w.opened w.progress coherent) coherent.table joined same_files s table_is
       raw (file_ref.Name name) e f None (ap (λ (x : Site). x.store.opened) looks.kept) tt made table
   did-part-by raw (file_ref.Inline file) e f looks has table =
-      let taken = taken-out w.table told c none (record { filename = file.filename; what = look.Begin }) (AsPart raw file e f refl refl) (store_of w) now.store out image looks.looks in
+      let taken = taken-out w.table told c none (record { filename = file.filename; what = part_look raw }) (AsPart raw file e f refl refl) (store_of w) now.store out image looks.looks in
       let tells : TellsLength (raw_stop file.filename raw taken.inside.first.size) taken.inside.first taken.device image told =
       subst (λ (d : Added (List ℕ)). TellsAddition w.table c.node_name file.filename d taken.inside.first taken.device image told) e taken.inside.tells in
       let short = part-short w.table told c none raw file e f file.filename taken.inside.first.size (ap (λ (a : Told). a.stopped) tells.is) in

@@ -23,7 +23,7 @@ use Rattle.qmp_codec.specs.declared.nodes.FileRef.TheVariants as file_ref
 use Rattle.qmp_codec.specs.declared.nodes.InlineFile.{InlineFile}
 use Rattle.qmp_rules.specs.Answers.{refusal_to}
 use Rattle.qmp_rules.specs.Asks.{file_node, is_file}
-use Rattle.qmp_rules.specs.Looks.{file_stop, unfit_image, is_unopened, raw_stop}
+use Rattle.qmp_rules.specs.Looks.{file_stop, unfit_image, is_unopened, raw_stop, part_look}
 use Rattle.qmp_rules.specs.Table.{RunTable, id_named, node_named}
 use Rattle.qmp_rules.specs.declared.refusal.Refusal.{Refusal}
 use Rattle.qmp_rules.specs.declared.refusal.Refusal.TheVariants as refusal
@@ -289,10 +289,10 @@ module _ (w v : WorldSeen) (c : Adding) (first_same : v.first_faults ≡ w.first
         by_image None (inl past) = no-stop (ap (λ (a : Told). a.stopped) past.is)
         by_image None (inr badly) = by_badly badly
 
-    by-part : (raw : AddRaw (List ℕ)) (file : FileRef (List ℕ)) → c.driver ≡ added.Raw raw → LooksAtPart w.table c file (site_of w) now out image told → IsCaused w v cmd cause
+    by-part : (raw : AddRaw (List ℕ)) (file : FileRef (List ℕ)) → c.driver ≡ added.Raw raw → LooksAtPart w.table c (part_look raw) file (site_of w) now out image told → IsCaused w v cmd cause
     by-part raw (file_ref.Name name) e looks = no-stop (ap (λ (a : Told). a.stopped) looks.is)
     by-part raw (file_ref.Inline file) e looks =
-        by-store (record { filename = file.filename; what = look.Begin })
+        by-store (record { filename = file.filename; what = part_look raw })
         (λ first device is taken free tells.
         let its : TellsLength (raw_stop file.filename raw first.size) first device image told =
         subst (λ (d : Added (List ℕ)). TellsAddition w.table c.node_name file.filename d first device image told) e tells in

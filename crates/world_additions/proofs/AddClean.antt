@@ -12,13 +12,14 @@ use Rattle.qmp_codec.specs.declared.nodes.Added.TheVariants as added
 use Rattle.qmp_codec.specs.declared.nodes.FileRef.{FileRef}
 use Rattle.qmp_codec.specs.declared.nodes.FileRef.TheVariants as file_ref
 use Rattle.qmp_rules.specs.Asks.{if_there}
-use Rattle.qmp_rules.specs.Looks.{ImageSight, unfit_image, raw_stop, stop_at, told_record, too_long}
+use Rattle.qmp_rules.specs.Looks.{ImageSight, unfit_image, raw_stop, stop_at, told_record, too_long, part_look}
 use Rattle.qmp_asks.specs.NodeAsks.{backing_name}
 use Rattle.qmp_rules.specs.Refusals.{refused}
 use Rattle.qmp_rules.specs.Table.{RunTable, node_named}
 use Rattle.qmp_asks.specs.Values.{begins_within, ends_within, part_fits}
 use Rattle.qmp_rules.specs.declared.refusal.Refusal.TheVariants as refusal
 use Rattle.qmp_rules.specs.declared.rows.NodeRecord.{NodeRecord}
+use Rattle.qmp_asks.specs.declared.look.Look.{Look}
 use Rattle.qmp_asks.specs.declared.look.Look.TheVariants as look
 use Rattle.qmp_rules.specs.declared.told.Stopped.{Stopped}
 use Rattle.qmp_rules.specs.declared.told.Told.{Told}
@@ -119,11 +120,11 @@ module _ (t : RunTable) (c : Adding) (told : Told) where
   clean-under q file old now None (inl past) = by-files None None None told past.is tt
   clean-under q file old now None (inr badly) = by-files _ _ _ told badly.is (files-unopened badly.device.number badly.cause)
 
-  clean-part : (file : FileRef (List ℕ)) (old now : Site) (out : Option Taken) (image : Option Known) → LooksAtPart t c file old now out image told
+  clean-part : (what : Look) (file : FileRef (List ℕ)) (old now : Site) (out : Option Taken) (image : Option Known) → LooksAtPart t c what file old now out image told
       → (told.dirty ≡ []) × StopsByFiles told.stopped
-  clean-part (file_ref.Name name) old now out image looks = by-files None None None told looks.is tt
-  clean-part (file_ref.Inline file) old now out image looks =
-      clean-out (record { filename = file.filename; what = look.Begin }) old.store now.store out image looks.looks
+  clean-part what (file_ref.Name name) old now out image looks = by-files None None None told looks.is tt
+  clean-part what (file_ref.Inline file) old now out image looks =
+      clean-out (record { filename = file.filename; what = what }) old.store now.store out image looks.looks
 
   clean-image : (q : AddQcow2 (List ℕ)) (file : FileRef (List ℕ)) (old now : Site) (out : Option Taken) (image : Option Known)
       → LooksAtImage t c q file old now out image told → (told.dirty ≡ []) × StopsByFiles told.stopped
@@ -135,7 +136,7 @@ module _ (t : RunTable) (c : Adding) (told : Told) where
       → (told.dirty ≡ []) × StopsByFiles told.stopped
   clean-by (added.File filename) old now out image looks =
       clean-out (record { filename = filename; what = look.File }) old.store now.store out image looks.looks
-  clean-by (added.Raw raw) old now out image looks = clean-part raw.file old now out image looks
+  clean-by (added.Raw raw) old now out image looks = clean-part (part_look raw) raw.file old now out image looks
   clean-by (added.Qcow2 q) old now out image looks = clean-image q q.file old now out image looks
   clean-by (added.CopyOnRead child) old now out image looks = by-files None None None told looks.is tt
   clean-by added.Unknown old now out image looks = by-files None None None told looks.is tt

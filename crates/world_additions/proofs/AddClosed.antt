@@ -2,16 +2,17 @@
 use Rattle.std.proofs.Common.{◌≡◌, ◌⊎◌, ℕ, suc, ◌==◌, Bool, true, false, cond, List, [], ◌∷◌, inl, inr, refl, sym, ◌∙◌, ap, subst, Option, Some, None}
 use Rattle.std.specs.Prelude.{Contains, IsSome, bytes_eq, find, is_none, option_and_then, option_map, slice_get, ◌&&◌, ◌||◌}
 use Rattle.std.specs.List.{list_any}
-use Rattle.std.proofs.lemmas.Bool.{eqb-true, false≢true, or_parts}
+use Rattle.std.proofs.lemmas.Bool.{eqb-true, false≢true}
 use Rattle.blk_base.specs.Files.{is_out, is_out_as}
 use Rattle.blk_base.specs.declared.file.Opened.{Opened}
 use Rattle.blk_graph.proofs.Members.{Contains-cases, Contains-nil, find-Some}
 use Rattle.blk_nodes.specs.Nodes.{DeviceSeen, Nodes}
-use Rattle.qmp_rules.specs.Asks.{is_lost, stands_for}
+use Rattle.qmp_rules.specs.Asks.{stands_for}
 use Rattle.qmp_rules.specs.Looks.{is_unopened}
-use Rattle.qmp_rules.specs.Table.{RunTable, file_state, node_by_id}
+use Rattle.qmp_rules.specs.Table.{RunTable, node_by_id}
 use Rattle.qmp_rules.specs.declared.rows.NodeRecord.{NodeRecord}
 use Rattle.flat_machine.specs.State.{filename_of}
+use Rattle.flat_machine.proofs.Accepted.{opened_parts}
 use Rattle.flat_machine.proofs.Finds.{bytes_eq-same, same-bytes_eq}
 use Rattle.world_parts.specs.Coherent.{AreOut}
 use Rattle.world_parts.specs.Face.{WorldSeen, device_numbered, held, held_in_file, told_bytes}
@@ -93,8 +94,7 @@ closed-in t nodes opened name out closed = by_out (is_out name opened) refl
         let one : opening.opening ≡ is.opening = cc same in
         let named : filename_of t held.0.node ≡ Some name = is.named ∙ ap (λ (o : Opened). Some o.name) (sym one) ∙ ap Some opening.named in
         let stands : list_any (stands_for name) t.nodes ≡ true = stands-by t held.0.node name named in
-        let none = or_parts (list_any (stands_for name) t.nodes) (is_lost false (file_state t name)) closed in
-        absurd (false≢true (sym none.0 ∙ stands))
+        absurd (false≢true (sym (opened_parts t name closed).1 ∙ stands))
 
 -- ---- what such a file holds stands in the store
 
@@ -109,7 +109,7 @@ find-closed name (x ∷ rows) none = find-head name x rows (stands_for name x) n
 
 pub closed-rows : (t : RunTable) (name : List ℕ) → is_unopened t name ≡ false → find (stands_for name) t.nodes ≡ None
 closed-rows t name closed =
-    find-closed name t.nodes (or_parts (list_any (stands_for name) t.nodes) (is_lost false (file_state t name)) closed).0
+    find-closed name t.nodes (opened_parts t name closed).1
 
 pub closed-held : (w : WorldSeen) (name : List ℕ) → is_unopened w.table name ≡ false → held w name ≡ told_bytes w.files name
 closed-held w name closed =

@@ -14,7 +14,7 @@ use Rattle.qmp_codec.specs.declared.nodes.FileRef.TheVariants as file_ref
 use Rattle.qmp_rules.specs.Answers.{command_edits, refusal_to}
 use Rattle.qmp_rules.specs.Changes.{all_changed}
 use Rattle.qmp_rules.specs.Edits.{added_edits, edits_of, qcow2_edits, raw_edits}
-use Rattle.qmp_rules.specs.Looks.{file_stop, raw_stop}
+use Rattle.qmp_rules.specs.Looks.{file_stop, raw_stop, part_look}
 use Rattle.qmp_asks.specs.NodeAsks.{backing_name, is_read_only}
 use Rattle.qmp_rules.specs.Table.{RunTable}
 use Rattle.qmp_asks.specs.declared.look.Look.TheVariants as look
@@ -67,7 +67,7 @@ module _ (t : RunTable) (told : Told) (c : Adding) (none : refusal_to t told (co
       whole-file t told c none old.store now.store old.nodes now.nodes new.nodes p (start-same looks.kept) was.out was.table.stands.apart joined filename e taken.device
       fresh made.0 made.1
 
-  part-case : (raw : AddRaw (List ℕ)) (file : FileRef (List ℕ)) → c.driver ≡ added.Raw raw → raw.file ≡ file → LooksAtPart t c file old now out image told
+  part-case : (raw : AddRaw (List ℕ)) (file : FileRef (List ℕ)) → c.driver ≡ added.Raw raw → raw.file ≡ file → LooksAtPart t c (part_look raw) file old now out image told
       → HasAddedPart t c raw file out now.nodes new.nodes
       → Middle (all_changed t (raw_edits t told c.node_name (is_read_only c.options) raw file)) new.nodes now.store.opened p
   part-case raw (file_ref.Name name) e f looks has =
@@ -75,7 +75,7 @@ module _ (t : RunTable) (told : Told) (c : Adding) (none : refusal_to t told (co
       whole-part t told c none old.store now.store old.nodes now.nodes new.nodes p (start-same (ap (λ (x : Site). x.nodes) looks.kept)) was.out was.table.stands.apart joined
       raw (file_ref.Name name) e f None (ap (λ (x : Site). x.store.opened) looks.kept) made
   part-case raw (file_ref.Inline file) e f looks has =
-      let taken = taken-out t told c none (record { filename = file.filename; what = look.Begin }) (AsPart raw file e f refl refl) old.store now.store out image looks.looks in
+      let taken = taken-out t told c none (record { filename = file.filename; what = part_look raw }) (AsPart raw file e f refl refl) old.store now.store out image looks.looks in
       let tells : TellsLength (raw_stop file.filename raw taken.inside.first.size) taken.inside.first taken.device image told =
       subst (λ (d : Added (List ℕ)). TellsAddition t c.node_name file.filename d taken.inside.first taken.device image told) e taken.inside.tells in
       let short = part-short t told c none raw file e f file.filename taken.inside.first.size (ap (λ (a : Told). a.stopped) tells.is) in

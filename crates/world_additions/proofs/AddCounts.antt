@@ -30,7 +30,7 @@ use Rattle.qmp_codec.specs.declared.nodes.FileRef.{FileRef}
 use Rattle.qmp_codec.specs.declared.nodes.FileRef.TheVariants as file_ref
 use Rattle.qmp_codec.specs.declared.nodes.InlineFile.{InlineFile}
 use Rattle.qmp_rules.specs.Answers.{refusal_to}
-use Rattle.qmp_rules.specs.Looks.{file_stop, unfit_image, is_unopened, raw_stop}
+use Rattle.qmp_rules.specs.Looks.{file_stop, unfit_image, is_unopened, raw_stop, part_look}
 use Rattle.qmp_rules.specs.Table.{RunTable}
 use Rattle.qmp_rules.specs.declared.refusal.Refusal.{Refusal}
 use Rattle.qmp_rules.specs.declared.refusal.Refusal.TheVariants as refusal
@@ -352,10 +352,10 @@ module _ (w : WorldSeen) (whole : IsWholeWorld w) (joined : IsJoined w.nodes) (c
   nowhere-over image looks = still (ap (λ (a : Told). a.stopped) looks.is) looks.none looks.kept
 
   part-over : (raw : AddRaw (List ℕ)) (file : FileRef (List ℕ)) (image : Option Known) → c.driver ≡ added.Raw raw → raw.file ≡ file
-      → LooksAtPart w.table c file (site_of w) now out image told → IsLookedOver w c told now out
+      → LooksAtPart w.table c (part_look raw) file (site_of w) now out image told → IsLookedOver w c told now out
   part-over raw (file_ref.Name name) image e f looks = nowhere-over image looks
   part-over raw (file_ref.Inline file) image e f looks =
-      store-over (record { filename = file.filename; what = look.Begin }) (AsPart raw file e f refl refl) (rw (e, f) refl) looks.kept image looks.looks
+      store-over (record { filename = file.filename; what = part_look raw }) (AsPart raw file e f refl refl) (rw (e, f) refl) looks.kept image looks.looks
 
   image-over : (q : AddQcow2 (List ℕ)) (file : FileRef (List ℕ)) (image : Option Known) → c.driver ≡ added.Qcow2 q → q.file ≡ file
       → LooksAtImage w.table c q file (site_of w) now out image told → IsLookedOver w c told now out

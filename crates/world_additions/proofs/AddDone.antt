@@ -12,7 +12,7 @@ use Rattle.qmp_codec.specs.declared.nodes.FileRef.{FileRef}
 use Rattle.qmp_codec.specs.declared.nodes.FileRef.TheVariants as file_ref
 use Rattle.qmp_rules.specs.Answers.{refusal_to}
 use Rattle.qmp_rules.specs.Asks.{file_node, holds, is_file}
-use Rattle.qmp_rules.specs.Looks.{raw_stop}
+use Rattle.qmp_rules.specs.Looks.{raw_stop, part_look}
 use Rattle.qmp_asks.specs.Naming.{inline_name}
 use Rattle.qmp_rules.specs.Table.{RunTable}
 use Rattle.qmp_asks.specs.Values.{most_length}
@@ -47,14 +47,14 @@ module _ (t : RunTable) (told : Told) (c : Adding) (none : refusal_to t told (co
       (inline-fresh t told c.node_name own rests (name-said t told c none) fresh free) (omega arith) room
 
   ready-part : (raw : AddRaw (List ℕ)) (file : FileRef (List ℕ)) → c.driver ≡ added.Raw raw → raw.file ≡ file
-      → LooksAtPart t c file old now out image told → CanAddPart t c raw file out now.nodes
+      → LooksAtPart t c (part_look raw) file old now out image told → CanAddPart t c raw file out now.nodes
   ready-part raw (file_ref.Name name) e f looks =
       let rest = rw (e, f) at (rest-asked t told c none) in
       let row = found-named t told name rest.0 in
       subst (λ (o : Option Taken). CanAddPart t c raw (file_ref.Name name) o now.nodes) (sym looks.none)
       (record { row = row.0; found = row.1; can = can-part t now.nodes alike joined apart told c none raw name e f row.0 row.1 })
   ready-part raw (file_ref.Inline file) e f looks =
-      let taken = taken-out t told c none (record { filename = file.filename; what = look.Begin }) (AsPart raw file e f refl refl) old.store now.store out image looks.looks in
+      let taken = taken-out t told c none (record { filename = file.filename; what = part_look raw }) (AsPart raw file e f refl refl) old.store now.store out image looks.looks in
       let inside = taken.inside in
       let tells : TellsLength (raw_stop file.filename raw inside.first.size) inside.first taken.device image told =
       subst (λ (d : Added (List ℕ)). TellsAddition t c.node_name file.filename d inside.first taken.device image told) e inside.tells in

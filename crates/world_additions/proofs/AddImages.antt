@@ -41,7 +41,7 @@ use Rattle.world_parts.specs.Coherent.{AreNodesOf}
 use Rattle.world_parts.specs.Joining.{backing_for}
 use Rattle.world_additions.proofs.AddAsked.{not-stopped, rest-asked}
 use Rattle.world_additions.proofs.AddReady.{size-alike}
-use Rattle.world_additions.proofs.AddRefused.{has-named, has-opened, looks-named, stop-refused, unreached-refused}
+use Rattle.world_additions.proofs.AddRefused.{has-named, has-opened, looks-named, silent-named, stop-refused, unreached-refused}
 use Rattle.world_additions.proofs.AddTold.{has_look}
 
 -- ---- devices of which counts have risen
@@ -148,7 +148,7 @@ module _ (t : RunTable) (told : Told) (c : Adding) (none : refusal_to t told (co
           → (open_image : Known) × (None ≡ Some open_image) × LooksWell t c.node_name file qcow2 old new open_image told
       by_away (inl not) =
           let same : refusal_to t told (command.BlockdevAdd c) ≡ refusal_to t (probe look.Image) (command.BlockdevAdd c) =
-          unreached-refused t look.Image c (looks-named c qcow2 file e f) not told in
+          unreached-refused t look.Image c (looks-named c qcow2 file e f) not told (silent-named c qcow2 file e f told) in
           absurd (stop-refused t (probe look.Image) look.Image refusal.Aborted c refl (has-named c qcow2 file e f) (sym same ∙ none))
       by_away (inr taken) =
           let rest = rw (e, f) at (rest-asked t told c none) in

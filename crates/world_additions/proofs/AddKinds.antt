@@ -9,6 +9,7 @@ use Rattle.qmp_codec.specs.declared.nodes.Added.{Added}
 use Rattle.qmp_codec.specs.declared.nodes.Added.TheVariants as added
 use Rattle.qmp_codec.specs.declared.nodes.FileRef.{FileRef}
 use Rattle.qmp_codec.specs.declared.nodes.FileRef.TheVariants as file_ref
+use Rattle.qmp_rules.specs.Looks.{part_look}
 use Rattle.qmp_rules.specs.Table.{RunTable}
 use Rattle.qmp_asks.specs.declared.look.Look.TheVariants as look
 use Rattle.qmp_rules.specs.declared.told.Told.{Told}
@@ -108,11 +109,11 @@ module _ (t : RunTable) (c : Adding) (old now : Site) (out : Option Taken) (imag
         nodes = nodes;
       })
 
-  looked-part : (raw : AddRaw (List ℕ)) (file : FileRef (List ℕ)) → raw.file ≡ file → LooksAtPart t c file old now out image told
+  looked-part : (raw : AddRaw (List ℕ)) (file : FileRef (List ℕ)) → raw.file ≡ file → LooksAtPart t c (part_look raw) file old now out image told
       → IsLookedSo (opened_name (added.Raw raw)) old now out
   looked-part raw (file_ref.Name name) f looks = still looks.kept looks.none (opened_name (added.Raw raw))
   looked-part raw (file_ref.Inline file) f looks =
-      rw f (looked-out (record { filename = file.filename; what = look.Begin }) out refl looks.kept looks.looks)
+      rw f (looked-out (record { filename = file.filename; what = part_look raw }) out refl looks.kept looks.looks)
 
   looked-image : (qcow2 : AddQcow2 (List ℕ)) (file : FileRef (List ℕ)) → qcow2.file ≡ file → LooksAtImage t c qcow2 file old now out image told
       → IsLookedSo (opened_name (added.Qcow2 qcow2)) old now out

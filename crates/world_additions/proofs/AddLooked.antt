@@ -14,8 +14,10 @@ use Rattle.qmp_codec.specs.declared.nodes.Added.TheVariants as added
 use Rattle.qmp_codec.specs.declared.nodes.FileRef.{FileRef}
 use Rattle.qmp_codec.specs.declared.nodes.FileRef.TheVariants as file_ref
 use Rattle.qmp_rules.specs.Asks.{is_file}
+use Rattle.qmp_rules.specs.Looks.{part_look}
 use Rattle.qmp_rules.specs.Table.{RunTable, node_by_id, node_named}
 use Rattle.qmp_rules.specs.declared.rows.NodeRecord.{NodeRecord}
+use Rattle.qmp_asks.specs.declared.look.Look.{Look}
 use Rattle.qmp_asks.specs.declared.look.Look.TheVariants as look
 use Rattle.qmp_rules.specs.declared.told.Told.{Told}
 use Rattle.flat_machine.specs.Wiring.{HaveDistinctIds}
@@ -55,11 +57,11 @@ module _ (t : RunTable) (c : Adding) (told : Told) (old new : Site) (out : Optio
   none-out : (driver : Added (List ℕ)) → out ≡ None → IsOutForAddition driver out new.store
   none-out driver none = subst (λ (o : Option Taken). IsOutForAddition driver o new.store) (sym none) tt
 
-  out-part : (raw : AddRaw (List ℕ)) (file : FileRef (List ℕ)) → raw.file ≡ file → LooksAtPart t c file old new out image told → IsOutForAddition (added.Raw raw) out new.store
+  out-part : (raw : AddRaw (List ℕ)) (file : FileRef (List ℕ)) → raw.file ≡ file → LooksAtPart t c (part_look raw) file old new out image told → IsOutForAddition (added.Raw raw) out new.store
   out-part raw (file_ref.Name name) f looks = none-out (added.Raw raw) looks.none
   out-part raw (file_ref.Inline file) f looks =
       out-by (added.Raw raw) new.store out
-      (λ device is. rw f (out-at t c told old.store new.store image (record { filename = file.filename; what = look.Begin }) out looks.looks device is))
+      (λ device is. rw f (out-at t c told old.store new.store image (record { filename = file.filename; what = part_look raw }) out looks.looks device is))
 
   out-image : (qcow2 : AddQcow2 (List ℕ)) (file : FileRef (List ℕ)) → qcow2.file ≡ file → LooksAtImage t c qcow2 file old new out image told
       → IsOutForAddition (added.Qcow2 qcow2) out new.store
@@ -92,9 +94,9 @@ module _ (t : RunTable) (c : Adding) (told : Told) (old new : Site) (out : Optio
   same-alike : new.nodes ≡ old.nodes → AreNodesOf t old.nodes → AreNodesOf t new.nodes
   same-alike same alike = subst (AreNodesOf t) (sym same) alike
 
-  alike-part : (file : FileRef (List ℕ)) → LooksAtPart t c file old new out image told → AreNodesOf t old.nodes → AreNodesOf t new.nodes
-  alike-part (file_ref.Name name) looks = same-alike (ap (λ (x : Site). x.nodes) looks.kept)
-  alike-part (file_ref.Inline file) looks = same-alike looks.kept
+  alike-part : (what : Look) (file : FileRef (List ℕ)) → LooksAtPart t c what file old new out image told → AreNodesOf t old.nodes → AreNodesOf t new.nodes
+  alike-part what (file_ref.Name name) looks = same-alike (ap (λ (x : Site). x.nodes) looks.kept)
+  alike-part what (file_ref.Inline file) looks = same-alike looks.kept
 
   alike-image : (qcow2 : AddQcow2 (List ℕ)) (file : FileRef (List ℕ)) → LooksAtImage t c qcow2 file old new out image told
       → AreNodesOf t old.nodes → AreNodesOf t new.nodes
@@ -103,7 +105,7 @@ module _ (t : RunTable) (c : Adding) (told : Told) (old new : Site) (out : Optio
 
   alike-by : (driver : Added (List ℕ)) → LooksBy t c driver old new out image told → AreNodesOf t old.nodes → AreNodesOf t new.nodes
   alike-by (added.File filename) looks = same-alike looks.kept
-  alike-by (added.Raw raw) looks = alike-part raw.file looks
+  alike-by (added.Raw raw) looks = alike-part (part_look raw) raw.file looks
   alike-by (added.Qcow2 qcow2) looks = alike-image qcow2 qcow2.file looks
   alike-by (added.CopyOnRead child) looks = same-alike (ap (λ (x : Site). x.nodes) looks.kept)
   alike-by added.Unknown looks = same-alike (ap (λ (x : Site). x.nodes) looks.kept)

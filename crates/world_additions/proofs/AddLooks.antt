@@ -1,6 +1,7 @@
 -- A look at the store came to what its files may tell.
 use Rattle.std.proofs.Common.{◌≡◌, ◌≢◌, ◌⊎◌, ℕ, ◌≤◌, Bool, true, false, List, length, inl, inr, refl, sym, ◌∙◌, ap, subst, arith, Option, Some, None}
-use Rattle.std.specs.Prelude.{◌==◌, codes, is_none, is_some, nat_lt, ◌||◌, ◌&&◌, not, option_map, option_and_then}
+use Rattle.std.proofs.lemmas.Bool.{le-leb}
+use Rattle.std.specs.Prelude.{◌==◌, if◌then◌else◌, codes, is_none, is_some, nat_lt, ◌||◌, ◌&&◌, not, option_map, option_and_then}
 use Rattle.blk_base.specs.Answers.{HasFile}
 use Rattle.blk_base.specs.Files.{file_at}
 use Rattle.blk_base.specs.declared.fault.DevNo.{DevNo}
@@ -14,6 +15,7 @@ use Rattle.q2_image.specs.Opening.{Names}
 use Rattle.q2_image.specs.declared.stop.ImageStop.{ImageStop}
 use Rattle.q2_image.specs.declared.stop.ImageStop.TheVariants as stop
 use Rattle.qmp_codec.specs.declared.command.Command.TheVariants as command
+use Rattle.qmp_codec.specs.declared.fields.Amount.{Amount}
 use Rattle.qmp_codec.specs.declared.nodes.AddRaw.{AddRaw}
 use Rattle.qmp_codec.specs.declared.nodes.AddQcow2.{AddQcow2}
 use Rattle.qmp_codec.specs.declared.nodes.Added.{Added}
@@ -31,21 +33,21 @@ use Rattle.qmp_rules.specs.declared.told.Told.{Told}
 use Rattle.qmp_rules.specs.Table.{RunTable, node_named}
 use Rattle.qmp_rules.specs.Refusals.{refused}
 use Rattle.qmp_rules.specs.Asks.{if_there}
-use Rattle.qmp_rules.specs.Looks.{ImageSight, file_stop, first_stop, unfit_image, is_unopened, raw_stop, stop_at, told_record, too_long}
+use Rattle.qmp_rules.specs.Looks.{FileSight, ImageSight, add_told, file_stop, file_told, first_stop, look_for, part_look, qcow2_told, raw_told, told_if_there, told_of_file, unfit_image, is_unopened, raw_stop, stop_at, told_record, too_long}
 use Rattle.qmp_asks.specs.NodeAsks.{add_asks, backing_name}
 use Rattle.qmp_asks.specs.Values.{begins_within, ends_within, part_fits}
 use Rattle.qmp_rules.specs.Answers as rules
 use Rattle.flat_machine.specs.State.{State, Bytes, content_in}
 use Rattle.flat_machine.specs.Agreement.{Agrees, Contents}
 use Rattle.flat_machine.specs.Final.{bytes_named}
-use Rattle.flat_machine.specs.Sights.{IsFailure, IsReached, calls_at, image_sight, is_opened, order_of, stop_for}
+use Rattle.flat_machine.specs.Sights.{IsFailure, IsReached, adds_at, calls_at, image_sight, is_opened, opens_file, order_of, stop_for}
 use Rattle.flat_machine.specs.Standing.{Stands}
 use Rattle.world_parts.specs.Adding.{Adding, HasOpeningFailed, IsAbsent, IsTakenOut, Looks, LooksInVain, Opens, Taken, TellsAddition, TellsAddedImage, TellsInside, TellsLength, TellsLong, TellsRefusal, look_in_vain, opened_sight, probe, unopened}
 use Rattle.world_parts.specs.Stores.{StoreInRun}
 use Rattle.world_additions.proofs.AddSights.{IsSeenAs, expects, fails, known-absent, known-there, seen-stopped, seen-unreached, seen-whole}
 use Rattle.world_additions.proofs.AddSeen.{AsFile, AsImage, AsPart, OpensAs, expects-absent, expects-closed, expects-file, expects-image, expects-part, has-at, looks-as}
-use Rattle.world_additions.proofs.AddRefused.{has-opened}
-use Rattle.world_additions.proofs.AddTold.{has_look}
+use Rattle.world_additions.proofs.AddRefused.{IsPartLook, has-opened, part-looks}
+use Rattle.world_additions.proofs.AddTold.{IsFrom, has_look}
 
 -- ---- refusals of files that were opened
 
@@ -86,10 +88,6 @@ there-part name raw n =
     (nat_lt 549755813888 n || not (part_fits raw.offset raw.size n))
 
 -- a stop of the image says nothing of the kind, and stands at the image or behind it
-abbrev pub IsFrom : ℕ → Option Stopped → Type 0
-IsFrom n None = Unit {0}
-IsFrom n (Some stopped) = n ≤ order_of stopped.look
-
 abbrev pub IsBehind : Option Stopped → Type 0
 IsBehind stopped = IsFrom 3 stopped
 
@@ -140,6 +138,48 @@ from-first (Some stopped) b here rest = here
 from-none : (stopped : Option Stopped) → IsFrom 0 stopped
 from-none None = tt
 from-none (Some stopped) = omega arith
+
+begins-anywhere : (n : ℕ) → begins_within None n ≡ true
+begins-anywhere n = le-leb 0 n (omega arith)
+
+-- what a part's file tells stands at the look that opens it or behind it
+from-said : (name : List ℕ) (offset size : Option Amount) (n : ℕ) (long : Bool)
+    → IsFrom (order_of (look_for offset size)) (stop_at look.Begin (refused (not (begins_within offset n)) (refusal.BadValue (codes "offset")))
+    (stop_at look.End (refused (not (ends_within offset size n)) (refusal.BadValue (codes "size"))) (stop_at look.File (too_long name long) None)))
+from-said name (Some offset) size n long = from-none _
+from-said name None (Some size) n long = rw (begins-anywhere n) (by_tests (ends_within None (Some size) n) long)
+  where
+    by_tests : (ends long : Bool)
+        → IsFrom 1 (stop_at look.End (refused (not ends) (refusal.BadValue (codes "size"))) (stop_at look.File (too_long name long) None))
+    by_tests false long = omega arith
+    by_tests true true = omega arith
+    by_tests true false = tt
+from-said name None None n true = rw (begins-anywhere n) (omega arith)
+from-said name None None n false = rw (begins-anywhere n) tt
+
+from-part : (name : List ℕ) (raw : AddRaw (List ℕ)) (n : ℕ) → IsFrom (order_of (part_look raw)) (raw_stop name raw n)
+from-part name raw n = from-said name raw.offset raw.size n (nat_lt 549755813888 n || not (part_fits raw.offset raw.size n))
+
+file-or-before : (raw : AddRaw (List ℕ)) → order_of (part_look raw) ≤ 2
+file-or-before raw = by_said raw.offset raw.size
+  where
+    by_said : (offset size : Option Amount) → order_of (look_for offset size) ≤ 2
+    by_said (Some offset) size = omega arith
+    by_said None (Some size) = omega arith
+    by_said None None = omega arith
+
+-- so does what any file tells, or that it is absent
+from-sight : (k : ℕ) (t : RunTable) (name : List ℕ) (tell : ℕ → ImageSight → Told) (sight : Option FileSight) → k ≤ 2
+    → ((n : ℕ) (image : ImageSight) → IsFrom k (tell n image).stopped) → IsFrom k (told_of_file t name tell sight).stopped
+from-sight k t name tell sight low tells = by_closed (is_unopened t name)
+  where
+    by_sight : (found : Option FileSight) → IsFrom k (told_if_there name tell found).stopped
+    by_sight None = low
+    by_sight (Some file) = tells file.length file.image
+
+    by_closed : (b : Bool) → IsFrom k (if b then told_record None None None else told_if_there name tell sight).stopped
+    by_closed true = tt
+    by_closed false = by_sight sight
 
 -- ---- a file that is too long stops at the look at files
 
@@ -240,12 +280,28 @@ module _ (opening : List ℕ → Option (List ℕ)) (s : State) (held : Contents
     (own : is_unopened s.table at.filename ≡ false → held.held at.filename ≡ bytes_named files at.filename) where
   calls-file : OpensAs c at → is_unopened s.table at.filename ≡ false → calls_at s.table at.what (command.BlockdevAdd c) ≡ true
   calls-file (AsFile e what) free = rw (what, e, free) refl
-  calls-file (AsPart raw file e f name what) free = rw (what, e, f, name, free) refl
+  calls-file (AsPart raw file e f name what) free = rw (what, e) (by_look (part_look raw) (part-looks raw) refl)
+    where
+      opens-it : opens_file s.table raw.file ≡ true
+      opens-it = rw (f, name, free) refl
+
+      by_look : (l : Look) → IsPartLook l → part_look raw ≡ l → adds_at s.table l (added.Raw raw) ≡ true
+      by_look look.Begin is same = rw (same, opens-it) refl
+      by_look look.End is same = rw (same, opens-it) refl
+      by_look look.File is same = rw (same, opens-it) refl
+      by_look _ is same = absurd is
   calls-file (AsImage image file e f name what) free = rw (what, e, f, name, free) refl
 
   failed-file : (count : ℕ) → OpensAs c at → IsFailure at.what (refusal.Io Store count)
   failed-file count (AsFile e what) = subst (λ (l : Look). IsFailure l (refusal.Io Store count)) (sym what) tt
-  failed-file count (AsPart raw file e f name what) = subst (λ (l : Look). IsFailure l (refusal.Io Store count)) (sym what) tt
+  failed-file count (AsPart raw file e f name what) =
+      subst (λ (l : Look). IsFailure l (refusal.Io Store count)) (sym what) (by_look (part_look raw) (part-looks raw))
+    where
+      by_look : (l : Look) → IsPartLook l → IsFailure l (refusal.Io Store count)
+      by_look look.Begin is = tt
+      by_look look.End is = tt
+      by_look look.File is = tt
+      by_look _ is = absurd is
   failed-file count (AsImage image file e f name what) = subst (λ (l : Look). IsFailure l (refusal.Io Store count)) (sym what) tt
 
   -- what is expected of a file that is there
@@ -261,19 +317,20 @@ module _ (opening : List ℕ → Option (List ℕ)) (s : State) (held : Contents
       (there-first (file_stop at.filename (length bytes)) (unfit_image s.table c.node_name image (image_sight (Bytes bytes)))
       (there-file at.filename (length bytes)) (there-inside s.table c.node_name image (image_sight (Bytes bytes))))
 
-  -- which stands at that look or behind it
-  expects-from : (bytes : List ℕ) → content_in s.files at.filename ≡ Some (Bytes bytes) → is_unopened s.table at.filename ≡ false → OpensAs c at
-      → IsFrom (order_of at.what) (expects s c).stopped
-  expects-from bytes known free (AsFile e what) =
-      subst (λ (l : Look). IsFrom (order_of l) (expects s c).stopped) (sym what)
-      (subst (λ (t : Told). IsFrom 2 t.stopped) (sym (expects-file s c at.filename bytes free known e)) (from-file at.filename (length bytes)))
-  expects-from bytes known free (AsPart raw file e f name what) =
-      subst (λ (l : Look). IsFrom (order_of l) (expects s c).stopped) (sym what) (from-none (expects s c).stopped)
-  expects-from bytes known free (AsImage image file e f name what) =
-      subst (λ (l : Look). IsFrom (order_of l) (expects s c).stopped) (sym what)
-      (subst (λ (t : Told). IsFrom 2 t.stopped) (sym (expects-image s c at.filename bytes free known image file e f name))
-      (from-first (file_stop at.filename (length bytes)) (unfit_image s.table c.node_name image (image_sight (Bytes bytes)))
-      (from-file at.filename (length bytes)) (behind-inside s.table c.node_name image (image_sight (Bytes bytes)))))
+  -- what is expected of any file stands at that look or behind it
+  expects-from : OpensAs c at → IsFrom (order_of at.what) (expects s c).stopped
+  unfolding add_told
+  expects-from (AsFile e what) =
+      rw (what, e) (from-sight 2 s.table at.filename (file_told at.filename) _ (omega arith) (λ n image. from-file at.filename n))
+  expects-from (AsPart raw file e f name what) =
+      rw (what, e, f)
+      (from-sight (order_of (part_look raw)) s.table file.filename (raw_told file.filename raw) _ (file-or-before raw)
+      (λ n image. from-part file.filename raw n))
+  expects-from (AsImage q file e f name what) =
+      rw (what, e, f)
+      (from-sight 2 s.table file.filename (qcow2_told s.table c.node_name file.filename q) _ (omega arith)
+      (λ n image. from-first (file_stop file.filename n) (unfit_image s.table c.node_name q image) (from-file file.filename n)
+      (behind-inside s.table c.node_name q image)))
 
   in-vain : (told : Told) → is_unopened s.table at.filename ≡ false → LooksInVain at old new told → IsSeenAs s c told
   in-vain told free looks = by_cause looks.cause
@@ -298,8 +355,7 @@ module _ (opening : List ℕ → Option (List ℕ)) (s : State) (held : Contents
           (fails s c told at.what (refusal.Io Store new.faults) stops (record {
             call = calls-file opener free;
             failure = failed-file new.faults opener;
-            reached = reach-from c at.what (expects s c).stopped (expects-there there.0.bytes known free opener)
-                (expects-from there.0.bytes known free opener);
+            reached = reach-from c at.what (expects s c).stopped (expects-there there.0.bytes known free opener) (expects-from opener);
           }))
 
   -- the image in a file that is known
@@ -393,7 +449,9 @@ module _ (opening : List ℕ → Option (List ℕ)) (s : State) (held : Contents
   seen-looks out image told (inl looks) = by_away looks.0.away
     where
       by_away : (rules.refusal_to s.table (probe at.what) (command.BlockdevAdd c) ≢ Some refusal.Aborted) ⊎ (is_unopened s.table at.filename ≡ true) → IsSeenAs s c told
-      by_away (inl not) = seen-unreached s c told at.what (looks-as c at opener) (has-at c at opener) not
+      by_away (inl not) =
+          seen-unreached s c told at.what (looks-as c at opener) (has-at c at opener) not
+          (subst (λ (a : Told). IsFrom (order_of at.what) a.stopped) (sym looks.0.is) tt) (expects-from opener)
       by_away (inr closed) = seen-whole s c told (expects-closed s c at opener closed ∙ sym looks.0.is)
   seen-looks None image told (inr looks) = in-vain told looks.1 looks.0
   seen-looks (Some now) image told (inr looks) =

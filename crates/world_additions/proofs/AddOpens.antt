@@ -10,6 +10,7 @@ use Rattle.qmp_codec.specs.declared.nodes.Added.{Added}
 use Rattle.qmp_codec.specs.declared.nodes.Added.TheVariants as added
 use Rattle.qmp_codec.specs.declared.nodes.FileRef.{FileRef}
 use Rattle.qmp_codec.specs.declared.nodes.FileRef.TheVariants as file_ref
+use Rattle.qmp_rules.specs.Looks.{part_look}
 use Rattle.qmp_rules.specs.Table.{RunTable}
 use Rattle.qmp_asks.specs.declared.look.Look.TheVariants as look
 use Rattle.qmp_rules.specs.declared.told.Told.{Told}
@@ -30,10 +31,10 @@ module _ (t : RunTable) (c : Adding) (old now : Site) (out : Option Taken) (imag
   none-is : out ≡ None → ⊥
   none-is none = let bad : Some device ≡ None = sym is ∙ none in cc bad
 
-  opens-part : (raw : AddRaw (List ℕ)) (file : FileRef (List ℕ)) → raw.file ≡ file → LooksAtPart t c file old now out image told → Opening (added.Raw raw)
+  opens-part : (raw : AddRaw (List ℕ)) (file : FileRef (List ℕ)) → raw.file ≡ file → LooksAtPart t c (part_look raw) file old now out image told → Opening (added.Raw raw)
   opens-part raw (file_ref.Name name) f looks = absurd (none-is looks.none)
   opens-part raw (file_ref.Inline file) f looks =
-      (record { filename = file.filename; what = look.Begin }, ap (λ (r : FileRef (List ℕ)). opens_by r look.Begin) f)
+      (record { filename = file.filename; what = part_look raw }, ap (λ (r : FileRef (List ℕ)). opens_by r (part_look raw)) f)
 
   opens-image : (q : AddQcow2 (List ℕ)) (file : FileRef (List ℕ)) → q.file ≡ file → LooksAtImage t c q file old now out image told → Opening (added.Qcow2 q)
   opens-image q (file_ref.Name name) f looks = absurd (none-is looks.none)

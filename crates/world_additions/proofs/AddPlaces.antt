@@ -28,6 +28,7 @@ use Rattle.flat_machine.proofs.Fresh.{lowest_free-free}
 use Rattle.world_parts.specs.Coherent.{AreAlike, AreNodesOf, IsRowOf, node_row}
 use Rattle.world_additions.proofs.AddAlike.{apart-of, id_of, ids-alike}
 use Rattle.world_parts.proofs.TableKinds.{kinds_alike}
+use Rattle.world_parts.proofs.JobFilters.{no_file}
 
 -- ---- names
 
@@ -137,6 +138,7 @@ is-file-driver drivers.File is = refl
 is-file-driver (drivers.Raw part) is = absurd (cc is)
 is-file-driver (drivers.Qcow2 image) is = absurd (cc is)
 is-file-driver drivers.CopyOnRead is = absurd (cc is)
+is-file-driver (drivers.Filter kind) is = absurd (no_file kind is)
 
 pub file-of : (t : RunTable) (nodes : Nodes) (id : ℕ) (row : NodeRecord) → AreNodesOf t nodes → node_by_id t id ≡ Some row → row.kind ≡ Protocol
     → IsFile nodes id

@@ -8,7 +8,7 @@ use Rattle.qmp_codec.specs.declared.nodes.FileRef.TheVariants as file_ref
 use Rattle.qmp_codec.specs.declared.nodes.InlineFile.{InlineFile}
 use Rattle.qmp_asks.specs.declared.look.Look.{Look}
 use Rattle.qmp_asks.specs.declared.look.Look.TheVariants as look
-use Rattle.qmp_rules.specs.Looks.{add_told, absent_file, file_stop, first_stop, unfit_image, is_unopened, raw_stop, told_record}
+use Rattle.qmp_rules.specs.Looks.{add_told, absent_file, file_stop, first_stop, unfit_image, is_unopened, part_look, raw_stop, told_record}
 use Rattle.qmp_rules.specs.declared.refusal.Refusal.{Refusal}
 use Rattle.qmp_rules.specs.declared.refusal.Refusal.TheVariants as refusal
 use Rattle.qmp_asks.specs.NodeAsks.{add_asks}
@@ -17,7 +17,7 @@ use Rattle.flat_machine.specs.State.{State, Bytes, content_in}
 use Rattle.flat_machine.specs.Sights.{image_sight}
 use Rattle.world_parts.specs.Adding.{Adding, Opens, look_in_vain}
 use Rattle.world_additions.proofs.AddTold.{looks_at, has_look}
-use Rattle.world_additions.proofs.AddRefused.{looks-file, looks-part, looks-image, has-file, has-begin, has-part, has-opened}
+use Rattle.world_additions.proofs.AddRefused.{looks-file, looks-part, looks-image, has-file, has-part, has-part-look, has-opened}
 use Rattle.world_additions.proofs.AddSights.{expects}
 
 -- ---- which looks a command has, by the file that it opens
@@ -26,7 +26,7 @@ use Rattle.world_additions.proofs.AddSights.{expects}
 pub data OpensAs (c : Adding) (at : Opens) : Type 0 where
   AsFile : c.driver ≡ added.File at.filename → at.what ≡ look.File → OpensAs c at
   AsPart : (raw : AddRaw (List ℕ)) (file : InlineFile (List ℕ)) → c.driver ≡ added.Raw raw → raw.file ≡ file_ref.Inline file
-      → file.filename ≡ at.filename → at.what ≡ look.Begin → OpensAs c at
+      → file.filename ≡ at.filename → at.what ≡ part_look raw → OpensAs c at
   AsImage : (image : AddQcow2 (List ℕ)) (file : InlineFile (List ℕ)) → c.driver ≡ added.Qcow2 image → image.file ≡ file_ref.Inline file
       → file.filename ≡ at.filename → at.what ≡ look.File → OpensAs c at
 
@@ -42,7 +42,7 @@ has-as c at (AsImage image file e f name what) = (has-opened c image file e f).0
 
 pub has-at : (c : Adding) (at : Opens) → OpensAs c at → has_look at.what (add_asks c) ≡ true
 has-at c at (AsFile e what) = subst (λ (w : Look). has_look w (add_asks c) ≡ true) (sym what) (has-file c at.filename e)
-has-at c at (AsPart raw file e f name what) = subst (λ (w : Look). has_look w (add_asks c) ≡ true) (sym what) (has-begin c raw file e f)
+has-at c at (AsPart raw file e f name what) = subst (λ (w : Look). has_look w (add_asks c) ≡ true) (sym what) (has-part-look c raw file e f)
 has-at c at (AsImage image file e f name what) = subst (λ (w : Look). has_look w (add_asks c) ≡ true) (sym what) (has-opened c image file e f).0
 
 -- a file that isn't opened is refused at a look that is asked for

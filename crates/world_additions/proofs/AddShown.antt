@@ -22,6 +22,7 @@ use Rattle.qmp_rules.specs.Answers.{refusal_to}
 use Rattle.qmp_rules.specs.Changes.{all_changed, changed}
 use Rattle.qmp_rules.specs.Edits.{file_row, format_row, free_id, image_row, inline_row, length_told, next_free_id, qcow2_edits, raw_edits, raw_record}
 use Rattle.qmp_asks.specs.NodeAsks.{backing_name, is_read_only}
+use Rattle.qmp_rules.specs.Looks.{part_look}
 use Rattle.qmp_rules.specs.Table.{RunTable, id_named, node_named}
 use Rattle.qmp_asks.specs.Values.{part_size}
 use Rattle.qmp_asks.specs.declared.ask.Drivers.TheVariants as drivers
@@ -111,7 +112,7 @@ module _ (w v : WorldSeen) (told : Told) (c : Adding) (none : refusal_to w.table
   shown-part raw (file_ref.Inline file) e f (Some device) fresh holds has table =
       let rest = rw (e, f) at (rest-asked t told c none) in
       let room : length t.nodes + 2 ≤ 64 = room-left t told 2 rest.1.1.1.0 in
-      let closed = unopened-not t told c none (record { filename = file.filename; what = look.Begin }) (AsPart raw file e f refl refl) in
+      let closed = unopened-not t told c none (record { filename = file.filename; what = part_look raw }) (AsPart raw file e f refl refl) in
       let row1 : NodeRecord = inline_row t told c.node_name file in
       let m : WorldSeen = middle (changed t (AddFile row1)) has.between in
       let size : length_told told ≡ device.size = ap (λ (n : Option ℕ). unwrap_or n 0) fresh.length_is in

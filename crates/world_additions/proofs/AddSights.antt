@@ -1,7 +1,6 @@
 -- What was seen for an addition is what the flat machine says of the files.
 use Rattle.std.proofs.Common.{◌≡◌, ◌≢◌, ◌⊎◌, ℕ, true, false, List, map, inl, inr, refl, sym, ◌∙◌, ap, subst, Option, Some, None}
 use Rattle.std.specs.List.{list_any}
-use Rattle.std.proofs.lemmas.Bool.{or_parts}
 use Rattle.blk_graph.proofs.Members.{Contains-nil}
 use Rattle.qmp_codec.specs.declared.command.Command.TheVariants as command
 use Rattle.qmp_rules.specs.declared.refusal.Refusal.{Refusal}
@@ -19,12 +18,12 @@ use Rattle.qmp_rules.specs.Answers.{answer, refusal_to}
 use Rattle.blk_history.specs.Fold.{With}
 use Rattle.flat_machine.specs.State.{State, Content, Bytes, Blank, Unknown, content_in}
 use Rattle.flat_machine.specs.Marking.{dirty_bytes}
-use Rattle.flat_machine.specs.Sights.{IsTold, MayStop, Fails, told_for}
+use Rattle.flat_machine.specs.Sights.{IsTold, MayStop, Fails, order_of, told_for}
 use Rattle.flat_machine.specs.Agreement.{Agrees, Contents}
 use Rattle.flat_machine.specs.Standing.{Stands, IsOfState, IsKnownWhole}
-use Rattle.flat_machine.proofs.Accepted.{none-over}
+use Rattle.flat_machine.proofs.Accepted.{none-over, opened_parts}
 use Rattle.world_parts.specs.Adding.{Adding, probe}
-use Rattle.world_additions.proofs.AddTold.{looks_at, has_look}
+use Rattle.world_additions.proofs.AddTold.{IsFrom, looks_at, has_look, silent-from}
 use Rattle.world_additions.proofs.AddRefused.{answer-dirty, answer-refused, refusal-told, stop-refused, unreached-refused}
 
 -- ---- what is known of a file that may be opened
@@ -32,7 +31,7 @@ use Rattle.world_additions.proofs.AddRefused.{answer-dirty, answer-refused, refu
 module _ (opening : List ℕ → Option (List ℕ)) (s : State) (held : Contents) (agrees : Agrees opening s held) (stands : Stands s)
     (name : List ℕ) (closed : is_unopened s.table name ≡ false) where
   parts : (list_any (stands_for name) s.table.nodes ≡ false) × (is_lost false (file_state s.table name) ≡ false)
-  parts = or_parts (list_any (stands_for name) s.table.nodes) (is_lost false (file_state s.table name)) closed
+  parts = let all = opened_parts s.table name closed in (all.1, all.2)
 
   whole : (content : Content) → content_in s.files name ≡ Some content → IsKnownWhole content
   whole content is =
@@ -135,16 +134,20 @@ module _ (s : State) (c : Adding) where
 
   -- the files weren't looked at, since a refusal stands before
   pub seen-unreached : (told : Told) (what : Look) → looks_at what (add_asks c) ≡ true → has_look what (add_asks c) ≡ true
-      → refusal_to s.table (probe what) (command.BlockdevAdd c) ≢ Some refusal.Aborted → IsSeenAs s c told
-  seen-unreached told what at has not =
-      let all = unreached-refused s.table what c at not in
+      → refusal_to s.table (probe what) (command.BlockdevAdd c) ≢ Some refusal.Aborted
+      → IsFrom (order_of what) told.stopped → IsFrom (order_of what) (expects s c).stopped → IsSeenAs s c told
+  seen-unreached told what at has not from expected =
       let mine : Told = record told { stopped = (expects s c).stopped } in
+      let here : refusal_to s.table told (command.BlockdevAdd c) ≡ refusal_to s.table (probe what) (command.BlockdevAdd c) =
+      unreached-refused s.table what c at not told (silent-from what told from (add_asks c)) in
+      let there : refusal_to s.table (complete mine) (command.BlockdevAdd c) ≡ refusal_to s.table (probe what) (command.BlockdevAdd c) =
+      unreached-refused s.table what c at not (complete mine) (silent-from what (complete mine) expected (add_asks c)) in
       record {
         seen = complete mine;
         is_told = completed mine (inl refl);
         exact = inl refl;
-        same = answer-refused s.table (complete mine) told c (all (complete mine) ∙ sym (all told))
-            (λ none. stop-refused s.table (probe what) what refusal.Aborted c refl has (sym (all told) ∙ none));
+        same = answer-refused s.table (complete mine) told c (there ∙ sym here)
+            (λ none. stop-refused s.table (probe what) what refusal.Aborted c refl has (sym here ∙ none));
       }
 
   -- ---- a call that failed

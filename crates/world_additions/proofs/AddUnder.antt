@@ -62,9 +62,9 @@ use Rattle.world_additions.proofs.AddBlank.{header-is, image-large}
 use Rattle.world_additions.proofs.AddDid.{over-one}
 use Rattle.world_additions.proofs.AddExact.{IsSeenHeld, held-none}
 use Rattle.world_additions.proofs.AddLooks.{AreThere, IsBehind, behind-inside, is-io, named-stop, not-io, reach-image, sight-open, there-inside}
-use Rattle.world_additions.proofs.AddRefused.{answer-dirty, answer-refused, broken, has-named, looks-named, refusal-is, refusal-told, stop-refused, unreached-refused}
+use Rattle.world_additions.proofs.AddRefused.{answer-dirty, answer-refused, broken, has-named, looks-named, refusal-is, refusal-told, silent-named, stop-refused, unreached-refused}
 use Rattle.world_additions.proofs.AddSights.{expects}
-use Rattle.world_additions.proofs.AddTold.{has_look, quiet_part, reached, stop-refuses}
+use Rattle.world_additions.proofs.AddTold.{has_look, passed_part, reached, stop-refuses}
 
 -- ---- what may be told, by what stops it
 
@@ -283,7 +283,8 @@ module _ (o : Opening) (s : State) (w : WorldSeen) (shows : ShowsState o s w) (c
   -- a refusal stands before the look
   past-look : (told : Told) → told.mapped ≡ [] → refusal_to s.table (probe look.Image) (command.BlockdevAdd c) ≢ Some refusal.Aborted → MayBeTold s w c (whole s w c).stopped → IsSeenHeld s w c told
   past-look told mapped not may =
-      seen-past s w c told look.Image mapped (unreached-refused s.table look.Image c (looks-named c q name e f) not)
+      seen-past s w c told look.Image mapped
+      (λ any. unreached-refused s.table look.Image c (looks-named c q name e f) not any (silent-named c q name e f any))
       (stop-refused s.table (probe look.Image) look.Image refusal.Aborted c refl has) may
 
   module _ (node : ℕ) (under : IsFree s.table name node) where
@@ -391,7 +392,7 @@ module _ (o : Opening) (s : State) (w : WorldSeen) (shows : ShowsState o s w) (c
             })
 
     -- a used file refuses before the look
-    lost-so : file_state s.table under.file ≡ Some Used → NoneHolds s.table told_none (quiet_part (add_asks c)) → ⊥
+    lost-so : file_state s.table under.file ≡ Some Used → NoneHolds s.table told_none (passed_part look.Image (add_asks c)) → ⊥
     unfolding holds
     lost-so used none =
         let front : List Asking =
@@ -399,7 +400,7 @@ module _ (o : Opening) (s : State) (w : WorldSeen) (shows : ShowsState o s w) (c
         let rest : List Asking =
         ask.Found (Some name) ∷ ask.Found (backing_name q.backing) ∷ ask.FreshNode (Some c.node_name) ∷ ask.RoomForNodes 1 ∷ ask.Drives (Some name) drivers.File
         ∷ ask.Drives (backing_name q.backing) drivers.FileRawOrQcow2 ∷ ask.KnownUnder name false ∷ [] in
-        let cut : quiet_part (add_asks c) ≡ front ++ rest = rw (e, f) refl in
+        let cut : passed_part look.Image (add_asks c) ≡ front ++ rest = rw (e, f) refl in
         let all : NoneHolds s.table told_none rest = none-behind s.table told_none front rest (subst (NoneHolds s.table told_none) cut none) in
         let here : if_there (λ row. lost s.table false (name_of_file row)) (file_node s.table name) ≡ None = all.1.1.1.1.1.1.0 in
         let refuses : Some (refusal.FileUsed under.file) ≡ None =
@@ -414,7 +415,7 @@ module _ (o : Opening) (s : State) (w : WorldSeen) (shows : ShowsState o s w) (c
         by_first : (found : Option Refusal) → first_unmet_ask s.table (probe look.Image) (add_asks c) ≡ found → or_else found (broken s.table c) ≡ Some refusal.Aborted → ⊥
         by_first None at bad = stop-refuses s.table (probe look.Image) look.Image refusal.Aborted (add_asks c) refl has at
         by_first (Some cause) at same =
-            lost-so is.used (reached s.table look.Image (add_asks c) (looks-named c q name e f) (at ∙ same) told_none)
+            lost-so is.used (reached s.table look.Image (add_asks c) (looks-named c q name e f) (at ∙ same) told_none (silent-named c q name e f told_none))
 
         by_turn : (turn : Option Refusal) → out_of_turn false s.table.negotiated ≡ turn → or_else turn (or_else (first_unmet_ask s.table (probe look.Image) (add_asks c)) (broken s.table c)) ≡ Some refusal.Aborted → ⊥
         by_turn None at rest = by_first (first_unmet_ask s.table (probe look.Image) (add_asks c)) refl rest

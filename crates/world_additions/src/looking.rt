@@ -5,10 +5,10 @@ ghost use Rattle.blk_nodes.specs.Joined.{IsFile};
 ghost use Rattle.blk_nodes.specs.Nodes.{Nodes as SeenNodes};
 ghost use Rattle.blk_nodes.specs.Overlays.{IsOpened};
 ghost use Rattle.qmp_codec.specs.Commands.{seen_command};
-ghost use Rattle.qmp_codec.specs.Nodes.{seen_add_qcow2, seen_blockdev_add, seen_file_ref};
+ghost use Rattle.qmp_codec.specs.Nodes.{seen_add_qcow2, seen_add_raw, seen_blockdev_add};
 ghost use Rattle.qmp_codec.specs.declared.command.Command.TheVariants.{BlockdevAdd as AddCommand};
 ghost use Rattle.qmp_rules.specs.Answers.{told_none};
-ghost use Rattle.qmp_rules.specs.Looks.{unfit_image, is_free_file, is_unopened, told_record};
+ghost use Rattle.qmp_rules.specs.Looks.{unfit_image, is_free_file, is_unopened, part_look, told_record};
 ghost use Rattle.world_parts.specs.Adding.{IsBackIfOut, IsFreeFile, IsLookReached, IsNotOpenOn, IsOpenOn, Looks, LooksAtFile, LooksUnder, TellsAddition, TellsInside, look_in_vain, opened_sight, opens_by};
 ghost use Rattle.world_additions.specs.Additions.{AreIn, HaveFileNodes, IsUnopenedFor, MayOpen};
 ghost use Rattle.world_parts.specs.Looking.{HasCalled, HasLooked, IsLookedBack, LooksAtImage, LooksAtPart, StoreIsBack, site};
@@ -19,8 +19,8 @@ use blk_base::{DevNo, Device, NoMemory, Store};
 use blk_graph::{Kind, NodeId};
 use blk_nodes::Nodes;
 use q2_image::{Image, ImageStop, open_image};
-use qmp_asks::Look;
-use qmp_codec::{AddQcow2, Added, BlockdevAdd, Command, FileRef};
+use qmp_asks::{Look, is_file_name};
+use qmp_codec::{AddQcow2, AddRaw, Added, BlockdevAdd, Command, FileRef};
 use qmp_rules::{FileState, Names, Refusal, Stopped, Told};
 use std::alloc::Global;
 use world_parts::RunStore;
@@ -250,11 +250,11 @@ fn is_reached(alloc: Global, names: &Names, command: &Command, what: Look) -> Re
     Ok(is_aborted(&found))
 }
 
-/// Whether a node stands for a file, or it was used.
+/// Whether a file's name is none, a node stands for it, or it was used.
 fn is_unopened(names: &Names, filename: &str) -> bool
     ensures { result ≡ is_unopened names.now.table filename.now }
 {
-    if names.is_open(filename) {
+    if !is_file_name(filename) || names.is_open(filename) {
         return true;
     }
     matches!(names.file_state(filename), Some(FileState::Used))
@@ -382,6 +382,17 @@ fn look_under<D: Device>(
 
 // ---- all looks of an addition
 
+/// The look that opens the file of a part.
+fn part_look(raw: &AddRaw) -> Look
+    ensures { result ≡ part_look (seen_add_raw raw.now) }
+{
+    match (raw.offset, raw.size) {
+        (Some(_), _) => Look::Begin,
+        (None, Some(_)) => Look::End,
+        (None, None) => Look::File,
+    }
+}
+
 /// Looks at the file of a part, where it is opened for it.
 fn look_at_part<S: Store>(
     alloc: Global,
@@ -389,18 +400,19 @@ fn look_at_part<S: Store>(
     names: &Names,
     command: &Command,
     c: &BlockdevAdd,
-    file: &FileRef,
+    raw: &AddRaw,
 ) -> Result<Looked<S::Dev>, NoMemory>
     requires command { seen_command command.now ≡ AddCommand (seen_blockdev_add c.now) }
     requires closed { AreIn names.now.table store.old.opened }
     ensures looked { (nodes : SeenNodes) → IfOk result (λ looked. LooksAtPart names.now.table
-        (seen_blockdev_add c.now)
-        (seen_file_ref file.now) (site store.old nodes) (site store.new nodes)
+        (seen_blockdev_add c.now) (part_look (seen_add_raw raw.now)) (seen_add_raw raw.now).file
+        (site store.old nodes) (site store.new nodes)
         looked.out looked.seen.image looked.seen.told) }
-    ensures back { OnErr result (StoreIsBack (opens_by (seen_file_ref file.now) Look.Begin)
+    ensures back { OnErr result (StoreIsBack
+        (opens_by (seen_add_raw raw.now).file (part_look (seen_add_raw raw.now)))
         store.old store.new) }
 {
-    match file {
+    match &raw.file {
         FileRef::Inline(file) => {
             look_out(
                 alloc,
@@ -409,7 +421,7 @@ fn look_at_part<S: Store>(
                 command,
                 c,
                 file.filename.as_str(),
-                Look::Begin,
+                part_look(raw),
             )
         }
         FileRef::Name(_) => Ok(Looked {
@@ -491,7 +503,7 @@ pub(crate) fn look<S: Store>(
                 Look::File,
             )
         }
-        Added::Raw(raw) => look_at_part(alloc, store, names, command, c, &raw.file),
+        Added::Raw(raw) => look_at_part(alloc, store, names, command, c, raw),
         Added::Qcow2(added) => look_at_image(alloc, store, nodes, names, command, c, added),
         Added::CopyOnRead(_) | Added::Unknown => Ok(Looked {
             out: None,

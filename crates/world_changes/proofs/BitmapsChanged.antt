@@ -10,6 +10,7 @@ use Rattle.blk_graph.proofs.Members.{Contains-here, Contains-there}
 use Rattle.std.proofs.lemmas.List.{length-map, map_push, take_more}
 use Rattle.qmp_codec.specs.Commands.{Cmd, SeenSources}
 use Rattle.qmp_codec.specs.declared.bitmaps.BitmapAdd.{BitmapAdd}
+use Rattle.qmp_codec.specs.declared.bitmaps.BitmapName.{BitmapName}
 use Rattle.qmp_codec.specs.declared.bitmaps.MergeSource.{MergeSource}
 use Rattle.qmp_codec.specs.declared.command.Command.TheVariants as command
 use Rattle.qmp_codec.specs.declared.fields.Amount.{Amount}
@@ -18,20 +19,21 @@ use Rattle.qmp_rules.specs.declared.change.Change.TheVariants as change
 use Rattle.qmp_rules.specs.declared.rows.BitmapRow.{BitmapRow}
 use Rattle.qmp_rules.specs.declared.rows.NodeRecord.{NodeRecord}
 use Rattle.qmp_rules.specs.Answers.{command_edits, refusal_to, told_none}
-use Rattle.qmp_rules.specs.Asks.{holds, id_or}
-use Rattle.qmp_asks.specs.BitmapAsks.{bitmap_add_names, bitmap_add_rest, bitmap_add_values, source_name, source_node}
+use Rattle.qmp_rules.specs.Asks.{busy, holds, id_or, if_there}
+use Rattle.qmp_asks.specs.BitmapAsks.{bitmap_add_names, bitmap_add_rest, bitmap_add_values, bitmap_names, bitmap_rest, source_name, source_node}
 use Rattle.qmp_rules.specs.Changes.{changed}
 use Rattle.qmp_asks.specs.CommandAsks.{asks_of}
 use Rattle.qmp_rules.specs.Edits.{edits_of, merges}
-use Rattle.qmp_rules.specs.Table.{RunTable, bitmap_at, bitmap_named, id_named}
+use Rattle.qmp_rules.specs.declared.refusal.Refusal.TheVariants as refusal
+use Rattle.qmp_rules.specs.Table.{RunTable, bitmap_at, bitmap_named, id_named, job_id}
 use Rattle.qmp_asks.specs.Values.{amount_or, is_granularity}
-use Rattle.flat_machine.specs.Bitmaps.{AreBitmapsOf, FollowChanges, IsFreeBitmap, bitmap_of, dirty_in}
+use Rattle.flat_machine.specs.Bitmaps.{AreBitmapsOf, FollowChanges, IsSoundBitmap, bitmap_of, dirty_in}
 use Rattle.flat_machine.specs.Marking.{dirty_bytes}
 use Rattle.flat_machine.proofs.Asked.{NoneHolds, found-named, good-value, not-refused}
-use Rattle.flat_machine.proofs.BitmapRows.{follow-added, follow-cleared, follow-merged, follow-none, follow-removed, follow-turned, found-bitmap, free-count, merged-bitmaps}
+use Rattle.flat_machine.proofs.BitmapRows.{follow-added, follow-cleared, follow-merged, follow-none, follow-removed, follow-turned, found-bitmap, merged-bitmaps, sound-count}
 use Rattle.world_parts.proofs.Accepted.{asked}
 use Rattle.world_parts.specs.Carrying.{is_of_bitmaps}
-use Rattle.world_parts.specs.Recorded.{AreAfter, AreFree, IsNewFor, bitmaps_after, bitmaps_merged}
+use Rattle.world_parts.specs.Recorded.{AreAfter, AreSound, IsIdleAt, IsNewFor, bitmaps_after, bitmaps_merged}
 
 -- ---- a command that adds one
 
@@ -141,26 +143,21 @@ absent-without test (row ∷ rows) none = at (test row) none (λ h. absent-witho
     at true h rest = absurd cc
     at false h rest = ap (λ rs. row ∷ rs) (rest h)
 
--- what is found is a row
-found-there : (test : Bitmap → Bool) (rows : List Bitmap) (row : Bitmap) → first_row test rows ≡ Some row → Contains rows row
-found-there test [] row found = absurd cc
-found-there test (x ∷ rows) row found = at (test x) found (λ h. found-there test rows row h)
-  where
-    at : (b : Bool) → cond b (Some x) (first_row test rows) ≡ Some row → (first_row test rows ≡ Some row → Contains rows row) → Contains (x ∷ rows) row
-    at true h rest = let is : x ≡ row = cc in subst (λ r. Contains (x ∷ rows) r) is (Contains-here x rows)
-    at false h rest = Contains-there x rows row (rest h)
+-- no job uses the first row that passes a test
+abbrev pub IsIdle : List Bitmap → (Bitmap → Bool) → Type 0
+IsIdle rows test = (row : Bitmap) → first_row test rows ≡ Some row → row.busy ≡ None
 
--- where no job uses a row, it is refused where there is none alone
-refused-absent : (rows : List Bitmap) (test : Bitmap → Bool) (stop : BitmapStop) → AreFree rows → use_refusal (first_row test rows) ≡ Some stop → first_row test rows ≡ None
+-- then it is refused where there is none alone
+refused-absent : (rows : List Bitmap) (test : Bitmap → Bool) (stop : BitmapStop) → IsIdle rows test → use_refusal (first_row test rows) ≡ Some stop → first_row test rows ≡ None
 refused-absent rows test stop free refused = at (first_row test rows) refl refused
   where
     at : (found : Option Bitmap) → first_row test rows ≡ found → use_refusal found ≡ Some stop → found ≡ None
     at None is h = refl
     at (Some row) is h =
-        let none : row.busy ≡ None = (free row (found-there test rows row is)).free in
+        let none : row.busy ≡ None = free row is in
         absurd (let bad : None ≡ Some stop = sym (ap busy_refusal none) ∙ h in cc bad)
 
-module _ {A : Type 0} (rows now : List Bitmap) (test : Bitmap → Bool) (free : AreFree rows) (r : Result A BitmapStop)
+module _ {A : Type 0} (rows now : List Bitmap) (test : Bitmap → Bool) (free : IsIdle rows test) (r : Result A BitmapStop)
     (answer : MatchOption (use_refusal (first_row test rows)) (IsOk r) (λ stop. r ≡ Err stop)) (refused : OnErr r (now ≡ rows)) where
   absent-where : (found : Option BitmapStop) → use_refusal (first_row test rows) ≡ found → MatchOption found (IsOk r) (λ stop. r ≡ Err stop) → (IsOk r) ⊎ (first_row test rows ≡ None)
   absent-where None is ok = inl ok
@@ -183,6 +180,51 @@ module _ {A : Type 0} (rows now : List Bitmap) (test : Bitmap → Bool) (free : 
       at (Err e) (inl ok) done refused = absurd cc
       at (Err e) (inr none) done refused = refused ∙ sym (absent-without test rows none)
 
+-- so it is with the row that a command names
+pub idle-named : (t : RunTable) (rows : List Bitmap) (id : ℕ) (node said-node name said-name : List ℕ) → id ≡ id_or 0 t (Some node) → node ≡ said-node → name ≡ said-name
+    → IsIdleAt rows (id_or 0 t (Some said-node)) said-name → IsIdle rows (is_named id name)
+idle-named t rows id node said-node name said-name is first second idle =
+    subst (λ (n : ℕ). IsIdle rows (is_named n name)) (sym (is ∙ ap (λ (m : List ℕ). id_or 0 t (Some m)) first))
+    (subst (λ (m : List ℕ). IsIdle rows (is_named (id_or 0 t (Some said-node)) m)) (sym second) idle)
+
+-- the names table refuses a command of one that a job uses
+asked-idle : (t : RunTable) (rows : List Bitmap) (c : BitmapName (List ℕ)) → AreBitmapsOf t.bitmaps rows
+    → NoneHolds t told_none (bitmap_names c ++ bitmap_rest c) → IsIdleAt rows (id_or 0 t (Some c.node)) c.name
+unfolding holds
+asked-idle t rows c was asks row found =
+    let named = found-named t told_none c.node asks.1.1.0 in
+    let id : id_named t c.node ≡ Some named.0.id = ap (option_map (λ (r : NodeRecord). r.id)) named.1 in
+    let at : id_or 0 t (Some c.node) ≡ named.0.id = ap (λ (o : Option ℕ). unwrap_or o 0) id in
+    let here : bitmap_at t named.0.id c.name ≡ Some (bitmap_of row) =
+    found-bitmap named.0.id c.name t.bitmaps rows was ∙ ap (option_map bitmap_of) (ap (λ n. find_row rows n c.name) (sym at) ∙ found) in
+    let one : bitmap_named t c.node c.name ≡ Some (bitmap_of row) = ap (option_and_then (λ i. bitmap_at t i c.name)) id ∙ here in
+    unmapped (λ job. refusal.BitmapBusy row.name.bytes (job_id t job)) row.busy (sym (ap (if_there (busy t)) one) ∙ asks.1.1.1.1.0)
+  where
+    unmapped : {A B : Type 0} (f : A → B) (o : Option A) → option_map f o ≡ None → o ≡ None
+    unmapped f None none = refl
+    unmapped f (Some a) none = absurd cc
+
+-- so it is with what each accepted command names
+pub remove-idle : (t : RunTable) (rows : List Bitmap) (c : BitmapName (List ℕ)) → AreBitmapsOf t.bitmaps rows → refusal_to t told_none (command.BitmapRemove c) ≡ None
+    → IsIdleAt rows (id_or 0 t (Some c.node)) c.name
+unfolding asks_of
+remove-idle t rows c was none = asked-idle t rows c was (asked t told_none (command.BitmapRemove c) none)
+
+pub clear-idle : (t : RunTable) (rows : List Bitmap) (c : BitmapName (List ℕ)) → AreBitmapsOf t.bitmaps rows → refusal_to t told_none (command.BitmapClear c) ≡ None
+    → IsIdleAt rows (id_or 0 t (Some c.node)) c.name
+unfolding asks_of
+clear-idle t rows c was none = asked-idle t rows c was (asked t told_none (command.BitmapClear c) none)
+
+pub enable-idle : (t : RunTable) (rows : List Bitmap) (c : BitmapName (List ℕ)) → AreBitmapsOf t.bitmaps rows → refusal_to t told_none (command.BitmapEnable c) ≡ None
+    → IsIdleAt rows (id_or 0 t (Some c.node)) c.name
+unfolding asks_of
+enable-idle t rows c was none = asked-idle t rows c was (asked t told_none (command.BitmapEnable c) none)
+
+pub disable-idle : (t : RunTable) (rows : List Bitmap) (c : BitmapName (List ℕ)) → AreBitmapsOf t.bitmaps rows → refusal_to t told_none (command.BitmapDisable c) ≡ None
+    → IsIdleAt rows (id_or 0 t (Some c.node)) c.name
+unfolding asks_of
+disable-idle t rows c was none = asked-idle t rows c was (asked t told_none (command.BitmapDisable c) none)
+
 -- the rows that a command names
 pub same-named : (t : RunTable) (P : (Bitmap → Bool) → List Bitmap) (id : ℕ) (node said-node name said-name : List ℕ)
     → id ≡ id_or 0 t (Some node) → node ≡ said-node → name ≡ said-name → P (is_named id name) ≡ P (is_named (id_or 0 t (Some said-node)) said-name)
@@ -197,14 +239,14 @@ when-none (Some a) N P none is = absurd (let bad : ⊥ = cc none in bad)
 
 -- ---- counts, one after another
 
-counted-bytes : (row : Bitmap) → IsFreeBitmap row → min (dirty_below row (length row.dirty) * row.granularity) (2 ^ 64 - 1) ≡ dirty_bytes (dirty_in row)
+counted-bytes : (row : Bitmap) → IsSoundBitmap row → min (dirty_below row (length row.dirty) * row.granularity) (2 ^ 64 - 1) ≡ dirty_bytes (dirty_in row)
 counted-bytes row free =
-    let count = free-count row free in
+    let count = sound-count row free in
     let few : dirty_below row (length row.dirty) * row.granularity < 2 ^ 64 = count.few in
     let same : min (dirty_below row (length row.dirty) * row.granularity) (2 ^ 64 - 1) ≡ dirty_below row (length row.dirty) * row.granularity = omega (arith, few) in
     same ∙ count.same
 
-pub counts-more : (rows : List Bitmap) (i : ℕ) (row : Bitmap) (items : List ℕ) (count : ℕ) → i < length rows → row ≡ get_or rows i row → AreFree rows
+pub counts-more : (rows : List Bitmap) (i : ℕ) (row : Bitmap) (items : List ℕ) (count : ℕ) → i < length rows → row ≡ get_or rows i row → AreSound rows
     → count ≡ min (dirty_below row (length row.dirty) * row.granularity) (2 ^ 64 - 1)
     → items ≡ map dirty_bytes (map dirty_in (take i rows)) → items ++ count ∷ [] ≡ map dirty_bytes (map dirty_in (take (i + 1) rows))
 counts-more rows i row items count less at free is was =

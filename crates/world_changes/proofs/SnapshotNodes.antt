@@ -24,7 +24,8 @@ use Rattle.blk_nodes.specs.Nodes.{Nodes, row_at, file_of, driver_kind}
 use Rattle.blk_nodes.specs.declared.row.Driver.{Driver}
 use Rattle.blk_nodes.specs.declared.row.Driver.TheVariants as drivers
 use Rattle.blk_nodes.specs.declared.row.Row.{Row}
-use Rattle.world_parts.specs.Coherent.{AreAlike, AreNodesOf, IsRowOf}
+use Rattle.world_parts.specs.Coherent.{AreAlike, AreNodesOf, IsRowOf, IsOfNoJob}
+use Rattle.world_parts.proofs.JobFilters.{no_image, of_no_job}
 
 -- ---- a table with an overlay that has no parent and no backing node
 
@@ -53,6 +54,7 @@ module _ (t : RunTable) (node overlay : NodeRecord) (over : LiesOver t node over
     image_of (drivers.Raw part) is = absurd (let bad : ⊥ = cc is in bad)
     image_of (drivers.Qcow2 image) is = (image, refl)
     image_of drivers.CopyOnRead is = absurd (let bad : ⊥ = cc is in bad)
+    image_of (drivers.Filter kind) is = absurd (no_image kind is)
 
     abbrev own : (r : Row) × (row_at nodes overlay.id ≡ Some r) × IsRowOf overlay r
     own = row_of overlay overlay_found
@@ -76,11 +78,12 @@ module _ (t : RunTable) (node overlay : NodeRecord) (over : LiesOver t node over
         child_is : child t parent File ≡ Some node.id
         child_is = ap (child_of (Node parent) File) (sym alike.edges) ∙ file
 
-        by_driver : (r : NodeRecord) (driver : Driver) → r.kind ≡ driver_kind driver → IsSome (filter_role r.kind) → driver ≡ drivers.CopyOnRead
-        by_driver r drivers.CopyOnRead is filter = refl
-        by_driver r drivers.File is filter = let none = subst (λ (k : Kind). IsSome (filter_role k)) is filter in absurd (let bad : ⊥ = cc none in bad)
-        by_driver r (drivers.Raw part) is filter = let none = subst (λ (k : Kind). IsSome (filter_role k)) is filter in absurd (let bad : ⊥ = cc none in bad)
-        by_driver r (drivers.Qcow2 x) is filter = let none = subst (λ (k : Kind). IsSome (filter_role k)) is filter in absurd (let bad : ⊥ = cc none in bad)
+        by_driver : (r : NodeRecord) (driver : Driver) → r.kind ≡ driver_kind driver → IsOfNoJob r.kind → IsSome (filter_role r.kind) → driver ≡ drivers.CopyOnRead
+        by_driver r drivers.CopyOnRead is plain filter = refl
+        by_driver r (drivers.Filter kind) is plain filter = absurd (of_no_job kind (subst IsOfNoJob is plain))
+        by_driver r drivers.File is plain filter = let none = subst (λ (k : Kind). IsSome (filter_role k)) is filter in absurd (let bad : ⊥ = cc none in bad)
+        by_driver r (drivers.Raw part) is plain filter = let none = subst (λ (k : Kind). IsSome (filter_role k)) is filter in absurd (let bad : ⊥ = cc none in bad)
+        by_driver r (drivers.Qcow2 x) is plain filter = let none = subst (λ (k : Kind). IsSome (filter_role k)) is filter in absurd (let bad : ⊥ = cc none in bad)
 
         filtered : (r : NodeRecord) → Contains t.nodes r → r.id ≡ parent → IsSome (filter_role r.kind)
         filtered r r_there id = by_name node.filename refl
@@ -113,7 +116,7 @@ module _ (t : RunTable) (node overlay : NodeRecord) (over : LiesOver t node over
         by_row (Some r) is same =
             let here = find-Some (λ (x : NodeRecord). x.id == parent) t.nodes r is in
             let of : IsRowOf r row = subst (AreAlike (Some r)) there same in
-            by_driver r row.driver of.kind (filtered r here.0 (eqb-true r.id parent here.1))
+            by_driver r row.driver of.kind of.plain (filtered r here.0 (eqb-true r.id parent here.1))
 
     pub cover_of : IsCover nodes node.id overlay.id
     cover_of = record {

@@ -12,7 +12,7 @@ ghost use Rattle.blk_bitmaps.specs.Rows.{emptied, is_named, switched};
 ghost use Rattle.flat_machine.specs.Bitmaps.{AreBitmapsOf};
 ghost use Rattle.world_parts.specs.Carrying.{is_of_bitmaps};
 ghost use Rattle.qmp_asks.specs.Values.{amount_or, flag_or_false};
-ghost use Rattle.world_parts.specs.Recorded.{AreFree, IsNewBitmap, IsNewFor, bitmaps_after, bitmaps_merged};
+ghost use Rattle.world_parts.specs.Recorded.{IsIdleAt, IsNewBitmap, IsNewFor, bitmaps_after, bitmaps_merged};
 
 use blk_base::{NoMemory, Text};
 use blk_bitmaps::{Bitmap, BitmapStop, Bitmaps};
@@ -156,17 +156,19 @@ fn merge(bitmaps: &mut Bitmaps, names: &Names, c: &BitmapMerge)
 }
 
 fn remove(bitmaps: &mut Bitmaps, names: &Names, c: &BitmapName)
-    requires { AreFree bitmaps.old }
+    requires { IsIdleAt bitmaps.old (id_or 0 names.now.table (Some (seen_bitmap_name c.now).node))
+        (seen_bitmap_name c.now).name }
     ensures { bitmaps.new ≡ without_first
         (is_named (id_or 0 names.now.table (Some (seen_bitmap_name c.now).node))
         (seen_bitmap_name c.now).name) bitmaps.old }
 {
-    // no job uses it, and one that isn't there needs no removal
+    // no job uses this one, and one that isn't there needs no removal
     let _ = bitmaps.remove(id_of(names, c.node.as_str()), c.name.as_str());
 }
 
 fn clear(bitmaps: &mut Bitmaps, names: &Names, c: &BitmapName)
-    requires { AreFree bitmaps.old }
+    requires { IsIdleAt bitmaps.old (id_or 0 names.now.table (Some (seen_bitmap_name c.now).node))
+        (seen_bitmap_name c.now).name }
     ensures { bitmaps.new ≡ with_first
         (is_named (id_or 0 names.now.table (Some (seen_bitmap_name c.now).node))
         (seen_bitmap_name c.now).name) emptied bitmaps.old }
@@ -175,7 +177,8 @@ fn clear(bitmaps: &mut Bitmaps, names: &Names, c: &BitmapName)
 }
 
 fn turn(bitmaps: &mut Bitmaps, names: &Names, on: bool, c: &BitmapName)
-    requires { AreFree bitmaps.old }
+    requires { IsIdleAt bitmaps.old (id_or 0 names.now.table (Some (seen_bitmap_name c.now).node))
+        (seen_bitmap_name c.now).name }
     ensures { bitmaps.new ≡ with_first
         (is_named (id_or 0 names.now.table (Some (seen_bitmap_name c.now).node))
         (seen_bitmap_name c.now).name) (switched on) bitmaps.old }
@@ -190,7 +193,9 @@ fn turn(bitmaps: &mut Bitmaps, names: &Names, on: bool, c: &BitmapName)
 
 /// Makes of the bitmaps what an accepted command does, the new one among them. Takes no memory.
 pub(crate) fn change(bitmaps: &mut Bitmaps, names: &Names, command: &Command, new: Option<Bitmap>)
-    requires free { AreFree bitmaps.old }
+    requires alike { AreBitmapsOf names.now.table.bitmaps bitmaps.old }
+    requires accepted { is_of_bitmaps (seen_command command.now) ≡ true
+        → refusal_to names.now.table told_none (seen_command command.now) ≡ None }
     requires room { IsSome new → length bitmaps.old < 64 }
     ensures { bitmaps.new
         ≡ bitmaps_after names.now.table (seen_command command.now) new bitmaps.old }

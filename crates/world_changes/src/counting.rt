@@ -9,7 +9,7 @@ ghost use Rattle.qmp_rules.specs.Room.{HasRoomForChanges};
 ghost use Rattle.flat_machine.specs.Bitmaps.{dirty_in};
 ghost use Rattle.flat_machine.specs.Marking.{dirty_bytes};
 ghost use Rattle.world_parts.specs.Carrying.{prints_counts, with_counts};
-ghost use Rattle.world_parts.specs.Recorded.{AreFree};
+ghost use Rattle.world_parts.specs.Recorded.{AreSound};
 ghost use Rattle.world_parts.specs.Saying.{IsSaid};
 
 use blk_base::NoMemory;
@@ -21,7 +21,7 @@ use world_parts::{accepted_text, refused};
 
 /// For each bitmap how many bytes its dirty granules have.
 fn counts(alloc: Global, bitmaps: &Bitmaps) -> Result<Vec<u64>, NoMemory>
-    requires { AreFree bitmaps.now }
+    requires { AreSound bitmaps.now }
     ensures { IfOk result (λ counts. counts.items ≡ map dirty_bytes (map dirty_in bitmaps.now)) }
 {
     let rows = bitmaps.rows();
@@ -33,7 +33,7 @@ fn counts(alloc: Global, bitmaps: &Bitmaps) -> Result<Vec<u64>, NoMemory>
 }
 
 fn told_counts(alloc: Global, bitmaps: &Bitmaps) -> Result<Told, NoMemory>
-    requires { AreFree bitmaps.now }
+    requires { AreSound bitmaps.now }
     ensures { IfOk result
         (λ told. told ≡ with_counts told_none (map dirty_bytes (map dirty_in bitmaps.now))) }
 {
@@ -52,7 +52,7 @@ fn accept_counts(
     command: &Command,
     edits: Edits,
 ) -> Result<String, NoMemory>
-    requires free { AreFree bitmaps.now }
+    requires free { AreSound bitmaps.now }
     requires room { HasRoomForChanges (length edits) names.old }
     requires fit { AllChangesFit names.old.table edits }
     ensures said { IfOk result (λ text. IsSaid given.now (Ok (returned names.old.table
@@ -92,7 +92,7 @@ pub fn answer_counts(
     command: &Command,
 ) -> Result<String, NoMemory>
     requires prints { prints_counts (seen_command command.now) ≡ true }
-    requires free { AreFree bitmaps.now }
+    requires free { AreSound bitmaps.now }
     ensures said { IfOk result (λ text. IsSaid given.now (answer names.old.table
         (with_counts told_none (map dirty_bytes (map dirty_in bitmaps.now)))
         (seen_command command.now)).reply

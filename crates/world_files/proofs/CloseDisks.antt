@@ -35,6 +35,7 @@ use Rattle.flat_machine.specs.Wiring.{IsDiskOf}
 use Rattle.world_parts.specs.Coherent.{IsCoherent, AreAlike, IsRowOf, offset_by_driver}
 use Rattle.world_parts.specs.Face.{WorldSeen, held, held_in_file, told_bytes, contents_of}
 use Rattle.world_files.proofs.CloseHeld.{none-passes}
+use Rattle.world_parts.proofs.JobFilters.{none_yet}
 
 -- the node stands for the file of its name, and for no other
 over-own : (row : NodeRecord) (name : List ℕ) → row.filename ≡ Some name → stands_for name row ≡ true
@@ -164,6 +165,7 @@ module _ (w : WorldSeen) (files : List File) (joined : IsJoined w.nodes) (unfold
           let kind : r.kind ≡ driver_kind drivers.CopyOnRead = is.kind ∙ ap driver_kind driver in
           let its : node_by_id w.table r.id ≡ Some r = ap (node_by_id w.table) id ∙ found in
           rw (its, kind, id, whole.alike.edges) refl
+  by-driver n turns r row found id there is next (drivers.Filter kind) driver = absurd (none_yet r row kind is driver)
 
   by-rows : (n turns : ℕ) (found : Option NodeRecord) (its : Option Row) → node_by_id w.table n ≡ found → row_at w.nodes n ≡ its → AreAlike found its
       → ((c : ℕ) → HasEdge w.nodes.graph.edges (Node n) c → node_bytes_in turns files w.table c ≡ disk_of w.nodes c)
@@ -219,6 +221,7 @@ module _ (w : WorldSeen) (files : List File) (joined : IsJoined w.nodes) (unfold
           ∙ ap (λ (k : Kind). option_and_then (child w.table n) (filter_role k)) (alike.kind ∙ ap driver_kind driver)
           ∙ ap (child_of (Node n) FileRole) (sym whole.alike.edges) in
           sym (unfolds n row there ∙ ap (disk_by w.nodes (disk_of w.nodes) n) driver ∙ ap (disk_under (disk_of w.nodes)) (sym file ∙ is))
+      by_driver r row found there alike (drivers.Filter kind) driver is = absurd (none_yet r row kind alike driver)
 
       by_row : (found : Option NodeRecord) → node_by_id w.table n ≡ found → (its : Option Row) → row_at w.nodes n ≡ its → AreAlike (node_by_id w.table n) (row_at w.nodes n)
           → disk_of w.nodes below' ≡ disk_of w.nodes n

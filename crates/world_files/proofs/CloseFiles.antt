@@ -21,12 +21,14 @@ use Rattle.world_parts.specs.Face.{WorldSeen, held, told_bytes}
 use Rattle.world_parts.specs.Steps.{StoreSeen}
 use Rattle.world_files.proofs.CloseLemmas.{back-files}
 use Rattle.world_files.proofs.CloseHeld.{held-is}
+use Rattle.world_parts.proofs.JobFilters.{no_file}
 
 is-file : (driver : Driver) → driver_kind driver ≡ Protocol → driver ≡ drivers.File
 is-file drivers.File is = refl
 is-file (drivers.Raw part) is = absurd (let bad : ⊥ = cc is in bad)
 is-file (drivers.Qcow2 image) is = absurd (let bad : ⊥ = cc is in bad)
 is-file drivers.CopyOnRead is = absurd (let bad : ⊥ = cc is in bad)
+is-file (drivers.Filter kind) is = absurd (no_file kind is)
 
 -- a `file` node of the table has its device
 has-device : (t : RunTable) (nodes : Nodes) → AreNodesOf t nodes → IsJoined nodes → (row : NodeRecord) → node_by_id t row.id ≡ Some row → row.kind ≡ Protocol

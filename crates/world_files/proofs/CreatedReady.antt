@@ -30,7 +30,7 @@ use Rattle.flat_machine.proofs.Finds.{same-bytes_eq}
 use Rattle.blk_nodes.specs.Joined.{IsFile}
 use Rattle.blk_nodes.specs.Nodes.{Nodes, DeviceSeen, row_at, driver_kind}
 use Rattle.blk_nodes.specs.declared.row.Driver.{Driver}
-use Rattle.blk_nodes.specs.declared.row.Driver.TheVariants.{File, Raw, Qcow2, CopyOnRead}
+use Rattle.blk_nodes.specs.declared.row.Driver.TheVariants.{File, Raw, Qcow2, CopyOnRead, Filter}
 use Rattle.blk_nodes.specs.declared.row.Row.{Row}
 use Rattle.world_parts.specs.Coherent.{AreAlike, AreNodesOf, AreOut}
 use Rattle.world_files.specs.Creations.{CanCreate}
@@ -39,6 +39,7 @@ use Rattle.world_files.specs.Deletions.{Belong}
 use Rattle.world_parts.specs.Face.{device_numbered}
 use Rattle.world_files.proofs.CreatedAsked.{file_asked, format_asked, unknown_refused}
 use Rattle.world_parts.proofs.OverFiles.{named-stands}
+use Rattle.world_parts.proofs.JobFilters.{no_file}
 
 -- ---- openings
 
@@ -110,6 +111,7 @@ file_kind File is = refl
 file_kind (Raw part) is = absurd (let bad : ⊥ = cc is in bad)
 file_kind (Qcow2 image) is = absurd (let bad : ⊥ = cc is in bad)
 file_kind CopyOnRead is = absurd (let bad : ⊥ = cc is in bad)
+file_kind (Filter kind) is = absurd (no_file kind is)
 
 -- a `file` node of the table is one of the nodes
 pub file_of_table : (t : RunTable) (nodes : Nodes) → AreNodesOf t nodes → (row : NodeRecord) → node_by_id t row.id ≡ Some row → row.kind ≡ kinds.Protocol → IsFile nodes row.id

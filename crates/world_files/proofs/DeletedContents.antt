@@ -32,7 +32,7 @@ use Rattle.blk_nodes.specs.Dropping.{nodes_without}
 use Rattle.blk_nodes.specs.Joined.{IsJoined, IsPartOfFile, IsOverlay}
 use Rattle.blk_nodes.specs.Nodes.{Nodes, DeviceSeen, AreTold, is_device_of, row_at, device_in, driver_kind, size_by, node_size, backing_of}
 use Rattle.blk_nodes.specs.declared.row.Driver.{Driver}
-use Rattle.blk_nodes.specs.declared.row.Driver.TheVariants.{File, Raw, Qcow2, CopyOnRead}
+use Rattle.blk_nodes.specs.declared.row.Driver.TheVariants.{File, Raw, Qcow2, CopyOnRead, Filter}
 use Rattle.blk_nodes.specs.declared.row.Row.{Row}
 use Rattle.blk_nodes.proofs.Dropped.{other_device}
 use Rattle.world_parts.specs.Coherent.{AreAlike, AreNodesOf, IsRowOf, AreOut, offset_by_driver}
@@ -42,6 +42,7 @@ use Rattle.world_parts.specs.Face.{WorldSeen, node_over, told_bytes, held_in_fil
 use Rattle.world_parts.proofs.DeletedLists.{find_none}
 use Rattle.world_files.proofs.DeletedParts.{nodes_left}
 use Rattle.world_parts.proofs.OverFiles.{over, over-row, over_by, stands-named}
+use Rattle.world_parts.proofs.JobFilters.{no_file, none_yet}
 
 -- ---- lists
 
@@ -125,6 +126,7 @@ module _ (w : WorldSeen) (node : ℕ) (joined : IsJoined w.nodes) (unfolds : Unf
   file_kind (Raw part) is = absurd (let bad : ⊥ = cc is in bad)
   file_kind (Qcow2 image) is = absurd (let bad : ⊥ = cc is in bad)
   file_kind CopyOnRead is = absurd (let bad : ⊥ = cc is in bad)
+  file_kind (Filter kind) is = absurd (no_file kind is)
 
   file_device : (name : List ℕ) (n : ℕ) → filename_of t n ≡ Some name → IsSome (device_in nodes.devices n)
   file_device name n is = by_row (node_by_id t n) refl is
@@ -314,6 +316,7 @@ module _ (w : WorldSeen) (node : ℕ) (joined : IsJoined w.nodes) (unfolds : Unf
       let kind : row.kind ≡ kinds.CopyOnRead = same.kind ∙ ap driver_kind is in
       let bad : None ≡ Some name = ap (own_filename t row) (sym kind) ∙ under in
       absurd (let e : ⊥ = cc bad in e)
+  alone_by row own (Filter kind) at there is same none name under = absurd (none_yet row own kind same is)
 
   -- ---- the removal, as the flat machine makes it
 

@@ -8,17 +8,17 @@ use Rattle.blk_graph.specs.Refreshed.{kind_at}
 use Rattle.blk_graph.specs.declared.edge.Edge.{Edge}
 use Rattle.blk_graph.specs.declared.edge.Parent.TheVariants.{Node}
 use Rattle.blk_graph.specs.declared.edge.Role.{Role}
-use Rattle.blk_graph.specs.declared.edge.Role.TheVariants.{File as FileRole, Backing}
+use Rattle.blk_graph.specs.declared.edge.Role.TheVariants.{File as FileRole, Backing, Filtered}
 use Rattle.q2_format.specs.Contents.{file_disk, raw_disk, image_disk}
 use Rattle.q2_image.specs.Image.{Known}
 use Rattle.qmp_rules.specs.Table.{RunTable, kinds_of}
-use Rattle.blk_nodes.specs.Contents.{bytes_of, file_node_disk, disk_by, disk_down, disk_of, disk_under}
+use Rattle.blk_nodes.specs.Contents.{bytes_of, file_node_disk, disk_by, disk_down, disk_of, disk_through, disk_under}
 use Rattle.blk_nodes.specs.Jobs.{with_read_only}
 use Rattle.blk_nodes.specs.Joined.{IsJoined}
 use Rattle.blk_nodes.specs.Nodes.{Nodes, AreTold, row_at, node_size}
 use Rattle.blk_nodes.specs.Rewiring.{rewired, AreChildrenKept, AreReadings}
 use Rattle.blk_nodes.specs.declared.row.Driver.{Driver}
-use Rattle.blk_nodes.specs.declared.row.Driver.TheVariants.{File, Raw, Qcow2, CopyOnRead}
+use Rattle.blk_nodes.specs.declared.row.Driver.TheVariants.{File, Raw, Qcow2, CopyOnRead, Filter}
 use Rattle.blk_nodes.specs.declared.row.Row.{Row}
 use Rattle.blk_nodes.proofs.CoveredDisks.{length_disk}
 use Rattle.blk_nodes.proofs.Disks.{by_driver as driver_same}
@@ -74,7 +74,7 @@ module _ (nodes : Nodes) (joined : IsJoined nodes) where
     each = λ n row there.
         unfolds nodes joined n row there
         ∙ sym (driver_same nodes (as_in t nodes) (sizes_same nodes (kinds_of t.nodes) t.edges joined) (λ m. refl)
-        (λ m. ap (child_of (Node m) FileRole) (sym edges)) (λ m. ap (child_of (Node m) Backing) (sym edges)) (disk_of nodes) (disk_of nodes) (λ m. refl) n row.driver);
+        (λ m. ap (child_of (Node m) FileRole) (sym edges)) (λ m. ap (child_of (Node m) Backing) (sym edges)) (λ m. ap (child_of (Node m) Filtered) (sym edges)) (disk_of nodes) (disk_of nodes) (λ m. refl) n row.driver);
     none = λ n is. no_disk nodes n is;
     long = λ n row there. length_disk nodes joined told n row there;
   }
@@ -91,7 +91,7 @@ module _ (nodes : Nodes) (joined : IsJoined nodes) where
   go_kept t u reads same go = record {
     each = λ n row there.
         go.each n row there
-        ∙ sym (driver_same (as_in t nodes) (as_in u nodes) (sizes t u) (λ m. refl) (λ m. same m FileRole) (λ m. same m Backing) reads reads (λ m. refl) n row.driver);
+        ∙ sym (driver_same (as_in t nodes) (as_in u nodes) (sizes t u) (λ m. refl) (λ m. same m FileRole) (λ m. same m Backing) (λ m. same m Filtered) reads reads (λ m. refl) n row.driver);
     none = go.none;
     long = go.long;
   }
@@ -140,6 +140,11 @@ module _ (nodes : Nodes) (joined : IsJoined nodes) where
     under_then n role None at = refl
     under_then n role (Some child) at = then_other child (λ same. is.alone n role (at ∙ ap (λ (m : ℕ). Some m) same))
 
+    through_then : (n : ℕ) (found : Option ℕ) → child_of (Node n) Filtered t.edges ≡ found
+        → disk_through (node_size (as_in t nodes) n) then found ≡ disk_through (node_size (as_in t nodes) n) reads found
+    through_then n None at = refl
+    through_then n (Some child) at = under_then n Filtered (Some child) at
+
     other_then : (n : ℕ) (d : Driver) → n ≢ overlay → disk_by (as_in u nodes) then n d ≡ disk_by (as_in t nodes) reads n d
     other_then n File apart = files t u n
     other_then n (Raw part) apart = part_same t u (child_of (Node n) FileRole t.edges) (child_of (Node n) FileRole u.edges) (is.others n FileRole apart) part.offset part.size
@@ -148,6 +153,10 @@ module _ (nodes : Nodes) (joined : IsJoined nodes) where
         ∙ ap (λ (over : Option ℕ). image_disk (disk_under (bytes_of nodes) (child_of (Node n) FileRole t.edges)) (disk_under then over)) (is.others n Backing apart)
         ∙ ap (image_disk (disk_under (bytes_of nodes) (child_of (Node n) FileRole t.edges))) (under_then n Backing (child_of (Node n) Backing t.edges) refl)
     other_then n CopyOnRead apart = ap (disk_under then) (is.others n FileRole apart) ∙ under_then n FileRole (child_of (Node n) FileRole t.edges) refl
+    other_then n (Filter kind) apart =
+        ap (disk_through (node_size (as_in u nodes) n) then) (is.others n Filtered apart)
+        ∙ ap (λ (size : ℕ). disk_through size then (child_of (Node n) Filtered t.edges)) (sizes t u n)
+        ∙ through_then n (child_of (Node n) Filtered t.edges) refl
 
     own_then : disk_by (as_in u nodes) then overlay is.row.driver ≡ reads node
     own_then =
@@ -220,6 +229,15 @@ module _ (nodes : Nodes) (joined : IsJoined nodes) where
         (file_led n row there (λ copies. let bad = sym is ∙ copies in cc bad))
         ∙ ap (image_disk (disk_under (bytes_of nodes) (child_of (Node n) FileRole t.edges))) (under_led n Backing)
     by_driver n row CopyOnRead there is = under_led n FileRole
+    by_driver n row (Filter kind) there is =
+        ap (λ (size : ℕ). disk_through size reads (child_of (Node n) Filtered u.edges)) (sizes t u n)
+        ∙ ap (disk_through (node_size (as_in t nodes) n) reads) (led.children n Filtered)
+        ∙ by_child (child_of (Node n) Filtered t.edges)
+      where
+        by_child : (found : Option ℕ) → disk_through (node_size (as_in t nodes) n) reads (option_map (child_after from to (Some (Node but)) (Node n)) found)
+            ≡ disk_through (node_size (as_in t nodes) n) reads found
+        by_child None = refl
+        by_child (Some child) = one_led n child
 
     pub go_led : GoWith u nodes reads
     go_led = record {

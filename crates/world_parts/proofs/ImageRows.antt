@@ -32,6 +32,7 @@ use Rattle.flat_machine.proofs.ImagesKept.{image_in_file, qcow2_row}
 use Rattle.world_parts.specs.Coherent.{AreNodesOf, AreAlike, IsRowOf}
 use Rattle.world_parts.specs.Face.{node_over}
 use Rattle.world_parts.proofs.OverFiles.{over}
+use Rattle.world_parts.proofs.JobFilters.{no_image}
 
 -- ---- an image and its file
 
@@ -106,6 +107,7 @@ module _ (t : RunTable) (nodes : Nodes) (alike : AreNodesOf t nodes) (joined : I
   qcow2-driver (drivers.Raw part) is = absurd (let bad : ⊥ = cc is in bad)
   qcow2-driver (drivers.Qcow2 image) is = (image, refl)
   qcow2-driver drivers.CopyOnRead is = absurd (let bad : ⊥ = cc is in bad)
+  qcow2-driver (drivers.Filter kind) is = absurd (no_image kind is)
 
   -- its row, and the image in it
   row_of : (node : ℕ) → is_qcow2_at t node ≡ true

@@ -17,6 +17,7 @@ pub mod Uncalled
 pub mod Placed
 pub mod Handled
 pub mod OverFiles
+pub mod JobFilters
 pub mod ImageRows
 pub mod NodesAfter
 pub mod ImageTold

@@ -64,6 +64,7 @@ driver_after drivers.File e is = (ap driver_kind is, ap offset_by_driver is)
 driver_after (drivers.Raw part) e is = (ap driver_kind is, ap offset_by_driver is)
 driver_after (drivers.Qcow2 image) e is = (ap driver_kind is.1, ap offset_by_driver is.1)
 driver_after drivers.CopyOnRead e is = (ap driver_kind is, ap offset_by_driver is)
+driver_after (drivers.Filter kind) e is = (ap driver_kind is, ap offset_by_driver is)
 
 alike_row : (record' : Option NodeRecord) (old new : Option Row) → AreRowsAfter old new → AreAlike record' old → AreAlike record' new
 alike_row record' None new is alike = subst (AreAlike record') (sym is) alike
@@ -76,6 +77,7 @@ alike_row (Some row) (Some old) new is alike =
       access = alike.access ∙ sym is.2.is_read_only;
       place = alike.place ∙ sym driver.1;
       small = alike.small;
+      plain = alike.plain;
     } in
     subst (AreAlike (Some row)) (sym is.1) now
 

@@ -8,7 +8,7 @@ use Rattle.blk_graph.specs.declared.edge.Edge.{Edge}
 use Rattle.blk_graph.specs.declared.edge.Parent.{Parent}
 use Rattle.blk_graph.specs.declared.edge.Parent.TheVariants.{Node}
 use Rattle.blk_graph.specs.declared.edge.Role.{Role}
-use Rattle.blk_graph.specs.declared.edge.Role.TheVariants.{File as FileRole, Backing, Between}
+use Rattle.blk_graph.specs.declared.edge.Role.TheVariants.{File as FileRole, Backing, Filtered, Between}
 use Rattle.blk_graph.specs.declared.kind.Kind.{Kind}
 use Rattle.blk_graph.specs.declared.kind.Kind.TheVariants as kinds
 use Rattle.blk_graph.specs.declared.kind.NodeKind.{NodeKind}
@@ -44,12 +44,13 @@ use Rattle.blk_nodes.specs.Joined.{HasBelow, HasSize, IsJoined, IsSized}
 use Rattle.blk_nodes.specs.Nodes.{Nodes, row_at, driver_kind}
 use Rattle.blk_nodes.specs.Rewiring.{rewired, IsWiring}
 use Rattle.blk_nodes.specs.declared.row.Driver.{Driver}
-use Rattle.blk_nodes.specs.declared.row.Driver.TheVariants.{File, Raw, Qcow2, CopyOnRead}
+use Rattle.blk_nodes.specs.declared.row.Driver.TheVariants.{File, Raw, Qcow2, CopyOnRead, Filter}
 use Rattle.blk_nodes.specs.declared.row.Row.{Row}
 use Rattle.blk_nodes.proofs.Rewired.{file_then, size_then, sizes_same}
 use Rattle.world_parts.specs.Coherent.{AreAlike, AreNodesOf, IsRowOf}
 use Rattle.world_parts.proofs.DeletedLists.{pairs}
 use Rattle.world_parts.proofs.TableKinds.{kinds_alike}
+use Rattle.world_parts.proofs.JobFilters.{filtered_role, filter_keeps}
 
 -- ---- table and nodes
 
@@ -179,6 +180,8 @@ module _ (t : RunTable) (nodes : Nodes) (stands : TableStands t) (alike : AreNod
           let at : below.child ≡ under.id = cc in
           sized below.child a.row.size at below.same refl
       by_driver CopyOnRead below own role is may must = absurd cc
+      by_driver (Filter kind) below own role is may must =
+          sized under.id a.row.size refl (below under.id (leads Filtered (is ∙ filtered_role kind role may) (λ same. cc))) refl
 
   -- ---- behind them
 
@@ -347,6 +350,8 @@ module _ (t : RunTable) (nodes : Nodes) (stands : TableStands t) (alike : AreNod
                 edge = below.1;
                 same = below_sized FileRole below.0 below.1 (ap (λ (d : Driver). keeps_size (driver_kind d) FileRole) is);
               }
+          by_driver (Filter kind) is has own = λ child edge.
+              below_sized Filtered child edge (ap (λ (d : Driver). keeps_size (driver_kind d) Filtered) is ∙ filter_keeps kind)
 
     pub changes_wiring : IsWiring nodes (kinds_of u.nodes) u.edges
     changes_wiring = record { sound = sound; alike = kind_is; below = has_below }

@@ -27,7 +27,7 @@ use Rattle.qmp_codec.specs.declared.nodes.BlockdevAdd.{BlockdevAdd}
 use Rattle.qmp_codec.specs.declared.nodes.FileRef.{FileRef}
 use Rattle.qmp_codec.specs.declared.nodes.FileRef.TheVariants as file_ref
 use Rattle.qmp_rules.specs.Answers.{refusal_to, told_none}
-use Rattle.qmp_rules.specs.Looks.{ImageSight, file_stop, unfit_image, is_free_file, is_unopened, raw_stop, told_record}
+use Rattle.qmp_rules.specs.Looks.{ImageSight, file_stop, unfit_image, is_free_file, is_unopened, part_look, raw_stop, told_record}
 use Rattle.qmp_rules.specs.Asks.{file_node}
 use Rattle.qmp_rules.specs.Table.{RunTable}
 use Rattle.qmp_rules.specs.declared.rows.NodeRecord.{NodeRecord}
@@ -217,7 +217,7 @@ opens_by (file_ref.Inline file) what = Some (record { filename = file.filename; 
 
 abbrev pub opens : Added (List ℕ) → Option Opens
 opens (added.File filename) = Some (record { filename = filename; what = look.File })
-opens (added.Raw raw) = opens_by raw.file look.Begin
+opens (added.Raw raw) = opens_by raw.file (part_look raw)
 opens (added.Qcow2 c) = opens_by c.file look.File
 opens driver = None
 

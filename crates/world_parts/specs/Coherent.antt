@@ -10,7 +10,7 @@ use Rattle.blk_graph.specs.Graph.{NodeRow}
 use Rattle.blk_graph.specs.declared.edge.Edge.{Edge}
 use Rattle.blk_graph.specs.declared.edge.Parent.TheVariants.{Guest as GuestOf}
 use Rattle.blk_graph.specs.declared.kind.Kind.{Kind}
-use Rattle.blk_graph.specs.declared.kind.Kind.TheVariants.{Protocol}
+use Rattle.blk_graph.specs.declared.kind.Kind.TheVariants.{Protocol, BeforeWrite, Mirror, Commit}
 use Rattle.blk_nodes.specs.Nodes.{Nodes, DeviceSeen, AreTold, row_at, driver_kind}
 use Rattle.blk_nodes.specs.declared.row.Driver.{Driver}
 use Rattle.blk_nodes.specs.declared.row.Driver.TheVariants.{Raw}
@@ -52,6 +52,13 @@ abbrev pub IsOfFileLength : Kind → ℕ → Type 0
 IsOfFileLength Protocol size = size ≤ most_length
 IsOfFileLength kind size = Unit {0}
 
+-- no job has put its filter yet
+abbrev pub IsOfNoJob : Kind → Type 0
+IsOfNoJob BeforeWrite = ⊥
+IsOfNoJob Mirror = ⊥
+IsOfNoJob Commit = ⊥
+IsOfNoJob kind = Unit {0}
+
 -- a node's row says what the node is
 pub record IsRowOf (record' : NodeRecord) (row : Row) : Type 0 where
   pub kind : record'.kind ≡ driver_kind row.driver
@@ -59,6 +66,7 @@ pub record IsRowOf (record' : NodeRecord) (row : Row) : Type 0 where
   pub access : record'.read_only ≡ row.is_read_only
   pub place : record'.offset ≡ offset_by_driver row.driver
   pub small : IsOfFileLength record'.kind record'.size
+  pub plain : IsOfNoJob record'.kind
 
 abbrev pub AreAlike : Option NodeRecord → Option Row → Type 0
 AreAlike None None = Unit {0}

@@ -10,7 +10,9 @@ use Rattle.qmp_codec.specs.declared.nodes.Added.TheVariants as added
 use Rattle.qmp_codec.specs.declared.nodes.FileRef.{FileRef}
 use Rattle.qmp_codec.specs.declared.nodes.FileRef.TheVariants as file_ref
 use Rattle.qmp_rules.specs.Answers.{told_none}
+use Rattle.qmp_rules.specs.Looks.{part_look}
 use Rattle.qmp_rules.specs.Table.{RunTable}
+use Rattle.qmp_asks.specs.declared.look.Look.{Look}
 use Rattle.qmp_asks.specs.declared.look.Look.TheVariants as look
 use Rattle.qmp_rules.specs.declared.told.Told.{Told}
 use Rattle.world_parts.specs.Adding.{Adding, IsBackIfOut, Looks, LooksUnder, Opens, Taken, opens}
@@ -56,11 +58,13 @@ pub record LooksIn (t : RunTable) (c : Adding) (added : AddQcow2 (List ℕ)) (fi
   pub kept : new.store ≡ old.store
   pub called : HasCalled old.nodes new.nodes
 
-abbrev pub LooksAtPart : RunTable → Adding → FileRef (List ℕ) → Site → Site → Option Taken
+-- the file of a part, at the look that opens it
+abbrev pub LooksAtPart : RunTable → Adding → Look → FileRef (List ℕ) → Site → Site → Option Taken
     → Option Known → Told → Type 0
-LooksAtPart t c (file_ref.Name name) old new out image told = LooksNowhere old new out image told
-LooksAtPart t c (file_ref.Inline file) old new out image told =
-    LooksOut t c (record { filename = file.filename; what = look.Begin }) old new out image told
+LooksAtPart t c what (file_ref.Name name) old new out image told =
+    LooksNowhere old new out image told
+LooksAtPart t c what (file_ref.Inline file) old new out image told =
+    LooksOut t c (record { filename = file.filename; what = what }) old new out image told
 
 abbrev pub LooksAtImage : RunTable → Adding → AddQcow2 (List ℕ) → FileRef (List ℕ) → Site → Site
     → Option Taken → Option Known → Told → Type 0
@@ -75,7 +79,7 @@ abbrev pub LooksBy : RunTable → Adding → Added (List ℕ) → Site → Site 
 LooksBy t c (added.File filename) old new out image told =
     LooksOut t c (record { filename = filename; what = look.File }) old new out image told
 LooksBy t c (added.Raw raw) old new out image told =
-    LooksAtPart t c raw.file old new out image told
+    LooksAtPart t c (part_look raw) raw.file old new out image told
 LooksBy t c (added.Qcow2 qcow2) old new out image told =
     LooksAtImage t c qcow2 qcow2.file old new out image told
 LooksBy t c driver old new out image told = LooksNowhere old new out image told

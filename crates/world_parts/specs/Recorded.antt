@@ -12,12 +12,17 @@ use Rattle.qmp_asks.specs.BitmapAsks.{source_node, source_name}
 use Rattle.qmp_rules.specs.Edits.{bitmap_row}
 use Rattle.qmp_rules.specs.Table.{RunTable}
 use Rattle.qmp_rules.specs.Queries.{bytes_of_node}
-use Rattle.flat_machine.specs.Bitmaps.{bitmap_of, dirty_in, IsFreeBitmap}
+use Rattle.flat_machine.specs.Bitmaps.{bitmap_of, dirty_in, IsFreeBitmap, IsSoundBitmap}
 use Rattle.flat_machine.specs.Marking.{clean}
 
--- no job uses one
-abbrev pub AreFree : List Bitmap → Type 0
-AreFree rows = (row : Bitmap) → Contains rows row → IsFreeBitmap row
+-- a job uses one exactly where a set of it stands aside
+abbrev pub AreSound : List Bitmap → Type 0
+AreSound rows = (row : Bitmap) → Contains rows row → IsSoundBitmap row
+
+-- no job uses the one of that node and name
+abbrev pub IsIdleAt : List Bitmap → ℕ → List ℕ → Type 0
+IsIdleAt rows node name =
+    (row : Bitmap) → find rows node name ≡ Some row → row.busy ≡ None
 
 -- ---- commands
 

@@ -74,6 +74,7 @@ module _ (old new : Nodes) (node n : ℕ) where
   write_content part bytes outcome row there (drivers.Raw p) driver wrote apart = file_content part.start bytes outcome wrote apart
   write_content part bytes outcome row there (drivers.Qcow2 image) driver wrote apart = image_content _ _ _ _ outcome row (drivers.Qcow2 image) there driver wrote wrote.edge apart
   write_content part bytes outcome row there drivers.CopyOnRead driver wrote apart = file_content part.start bytes outcome wrote apart
+  write_content part bytes outcome row there (drivers.Filter kind) driver wrote apart = file_content part.start bytes outcome wrote apart
 
   zero_content : (part : Extent) (outcome : Outcome) (row : Row) → row_at old node ≡ Some row → (d : Driver) → row.driver ≡ d → ZerosBy d old new node part outcome
       → NotItsFile → device_content_in new.devices n ≡ device_content_in old.devices n
@@ -81,9 +82,11 @@ module _ (old new : Nodes) (node n : ℕ) where
   zero_content part outcome row there (drivers.Raw p) driver wrote apart = file_content part.start (replicate part.len 0) outcome wrote apart
   zero_content part outcome row there (drivers.Qcow2 image) driver wrote apart = image_content _ _ _ _ outcome row (drivers.Qcow2 image) there driver wrote wrote.edge apart
   zero_content part outcome row there drivers.CopyOnRead driver wrote apart = file_content part.start (replicate part.len 0) outcome wrote apart
+  zero_content part outcome row there (drivers.Filter kind) driver wrote apart = file_content part.start (replicate part.len 0) outcome wrote apart
 
   flush_content : (file : ℕ) (outcome : Outcome) → IsFlushAt file old.devices new.devices outcome → device_content_in new.devices n ≡ device_content_in old.devices n
-  flush_content file outcome flushed = by_node (cases_eq n file)
+  flush_content file outcome (inr none) = ap (λ (ds : List DeviceSeen). device_content_in ds n) none.1
+  flush_content file outcome (inl flushed) = by_node (cases_eq n file)
     where
       by_node : (n ≡ file) ⊎ (n ≢ file) → device_content_in new.devices n ≡ device_content_in old.devices n
       by_node (inl same) =
@@ -126,6 +129,7 @@ module _ (t : RunTable) (nodes : Nodes) (are : AreNodesOf t nodes) (node : ℕ) 
       by_driver (drivers.Raw part) edge = ap (option_and_then (filename_of t)) (child_is edge)
       by_driver (drivers.Qcow2 image) edge = ap (option_and_then (filename_of t)) (child_is edge)
       by_driver drivers.CopyOnRead bad = absurd (let e : ⊥ = cc bad in e)
+      by_driver (drivers.Filter kind) bad = absurd (let e : ⊥ = cc bad in e)
 
   -- a node over another file
   pub else_by : (writes : Bool) (n : ℕ) (name : List ℕ) → filename_of t n ≡ Some name → (written_file t node ≡ Some name → ⊥) → IsElse writes nodes node n

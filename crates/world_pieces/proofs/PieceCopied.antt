@@ -10,7 +10,7 @@ use Rattle.trace_codec.specs.declared.op.Op.TheVariants.{Read, Write, Zero, Flus
 use Rattle.blk_graph.specs.Edits.{child_of}
 use Rattle.blk_graph.specs.declared.edge.Parent.TheVariants.{Node}
 use Rattle.blk_graph.specs.declared.edge.Role.{Role}
-use Rattle.blk_graph.specs.declared.edge.Role.TheVariants.{File as FileRole, Backing}
+use Rattle.blk_graph.specs.declared.edge.Role.TheVariants.{File as FileRole, Backing, Filtered}
 use Rattle.blk_graph.specs.declared.kind.Kind.{Kind}
 use Rattle.blk_history.specs.Disk.{is_write}
 use Rattle.q2_format.specs.declared.entries.L2Entry.{L2Entry}
@@ -25,12 +25,13 @@ use Rattle.flat_machine.proofs.Kept.{own_disk}
 use Rattle.flat_machine.proofs.WritingKept.{role_edge}
 use Rattle.blk_nodes.specs.Copying.{MapsOne, StopsUnread, is_copy_on_read, shows_below_at, puts_below, images_met, images_met_in}
 use Rattle.blk_nodes.specs.Joined.{IsJoined}
-use Rattle.blk_nodes.specs.Nodes.{Nodes, row_at, file_of, backing_of, driver_kind}
+use Rattle.blk_nodes.specs.Nodes.{Nodes, row_at, file_of, backing_of, filtered_of, driver_kind}
 use Rattle.blk_nodes.specs.Reading.{HaveRisen, IsReadBelow}
 use Rattle.blk_nodes.specs.Sources.{in_file, in_image, in_below, step_by_entry, step_by, step_of}
 use Rattle.blk_nodes.specs.Writing.{WritesBy}
 use Rattle.blk_nodes.specs.declared.row.Driver.{Driver}
-use Rattle.blk_nodes.specs.declared.row.Driver.TheVariants.{File, Raw, Qcow2, CopyOnRead}
+use Rattle.blk_nodes.specs.declared.row.Driver.TheVariants.{File, Raw, Qcow2, CopyOnRead, Filter}
+use Rattle.blk_nodes.specs.declared.row.FilterKind.{FilterKind}
 use Rattle.blk_nodes.specs.declared.row.Row.{Row}
 use Rattle.world_parts.specs.Coherent.{AreNodesOf, AreAlike, IsRowOf}
 use Rattle.blk_pieces.specs.Pieces.{ReadsPart, Transfers}
@@ -52,6 +53,7 @@ puts_none nodes n child place none = by_row (row_at nodes n) child refl
     by_driver row under (Raw part) there is = refl
     by_driver row under (Qcow2 image) there is = refl
     by_driver row under CopyOnRead there is = absurd (none row there is)
+    by_driver row under (Filter kind) there is = refl
 
     by_row : (found under : Option Row) → row_at nodes n ≡ found → puts_below found under place ≡ false
     by_row None under there = refl
@@ -60,7 +62,7 @@ puts_none nodes n child place none = by_row (row_at nodes n) child refl
 
 module _ (nodes : Nodes) (node place : ℕ) where
   step_is : (row : Row) (driver : Driver) → row_at nodes node ≡ Some row → row.driver ≡ driver
-      → step_of nodes node place ≡ step_by node (file_of nodes node) (backing_of nodes node) place driver
+      → step_of nodes node place ≡ step_by node (file_of nodes node) (backing_of nodes node) (filtered_of nodes node) place driver
   step_is row driver there is = rw (there, is, step_of) refl
 
   met_nothing : (turns : ℕ) → step_of nodes node place ≡ in_below None → images_met_in (suc turns) nodes node place ≡ []
@@ -71,10 +73,10 @@ module _ (nodes : Nodes) (node place : ℕ) where
       ≡ cond (puts_below (row_at nodes node) (row_at nodes next) place) (next ∷ images_met_in turns nodes next place) (images_met_in turns nodes next place)
   met_below turns next is = rw (is, images_met_in) refl
 
-  -- a node reads on in its backing node, or ends there
+  -- a node reads on in a node below, as its backing node, or ends there
   abbrev EndsOrGoes : ℕ → Type 0
   EndsOrGoes turns = (images_met_in (suc turns) nodes node place ≡ [])
-      ⊎ ((next : ℕ) × (backing_of nodes node ≡ Some next) × (step_of nodes node place ≡ in_below (Some next)))
+      ⊎ ((next : ℕ) × (role : Role) × (child_of (Node node) role nodes.graph.edges ≡ Some next) × (step_of nodes node place ≡ in_below (Some next)))
 
   module _ (turns : ℕ) (row : Row) (there : row_at nodes node ≡ Some row) where
     by_file : (start : ℕ) → step_of nodes node place ≡ in_file (file_of nodes node) start → (found : Option ℕ) → file_of nodes node ≡ found → EndsOrGoes turns
@@ -91,7 +93,7 @@ module _ (nodes : Nodes) (node place : ℕ) where
 
     by_backing : (image : Known) → row.driver ≡ Qcow2 image → entry_in image (place / cluster_size_in image) ≡ entries.Unallocated → (found : Option ℕ) → backing_of nodes node ≡ found → EndsOrGoes turns
     by_backing image is entry None under = inl (met_nothing turns (step_by_image image entries.Unallocated is entry ∙ ap in_below under))
-    by_backing image is entry (Some next) under = inr (next, under, step_by_image image entries.Unallocated is entry ∙ ap in_below under)
+    by_backing image is entry (Some next) under = inr (next, Backing, under, step_by_image image entries.Unallocated is entry ∙ ap in_below under)
 
     by_entry : (image : Known) → row.driver ≡ Qcow2 image → (entry : L2Entry) → entry_in image (place / cluster_size_in image) ≡ entry → EndsOrGoes turns
     by_entry image is entries.Unallocated entry = by_backing image is entry (backing_of nodes node) refl
@@ -100,11 +102,16 @@ module _ (nodes : Nodes) (node place : ℕ) where
     by_entry image is entries.Compressed entry = inl (rw (step_by_image image entries.Compressed is entry, images_met_in) refl)
     by_entry image is entries.Reserved entry = inl (rw (step_by_image image entries.Reserved is entry, images_met_in) refl)
 
+    by_filtered : (kind : FilterKind) → row.driver ≡ Filter kind → (found : Option ℕ) → filtered_of nodes node ≡ found → EndsOrGoes turns
+    by_filtered kind is None under = inl (met_nothing turns (step_is row (Filter kind) there is ∙ ap in_below under))
+    by_filtered kind is (Some next) under = inr (next, Filtered, under, step_is row (Filter kind) there is ∙ ap in_below under)
+
     by_driver : CopiesNone nodes node → (driver : Driver) → row.driver ≡ driver → EndsOrGoes turns
     by_driver none File is = inl (rw (step_is row File there is, images_met_in) refl)
     by_driver none (Raw part) is = by_file (part.offset + place) (step_is row (Raw part) there is) (file_of nodes node) refl
     by_driver none (Qcow2 image) is = by_entry image is (entry_in image (place / cluster_size_in image)) refl
     by_driver none CopyOnRead is = absurd (none row there is)
+    by_driver none (Filter kind) is = by_filtered kind is (filtered_of nodes node) refl
 
   ends_or_goes : (turns : ℕ) → CopiesNone nodes node → EndsOrGoes turns
   ends_or_goes turns none = by_row (row_at nodes node) refl
@@ -129,9 +136,9 @@ module _ (t : RunTable) (nodes : Nodes) (joined : IsJoined nodes) (are : AreNode
   none_in (suc turns) a place none = elim (ends_or_goes nodes a place turns none) [
     | inl ends ↦ ends
     | inr goes ↦
-        met_below nodes a place turns goes.0 goes.2
+        met_below nodes a place turns goes.0 goes.3
         ∙ ap (λ (b : Bool). cond b (goes.0 ∷ images_met_in turns nodes goes.0 place) (images_met_in turns nodes goes.0 place)) (puts_none nodes a (row_at nodes goes.0) place none)
-        ∙ none_in turns goes.0 place (below_none a goes.0 Backing goes.1)
+        ∙ none_in turns goes.0 place (below_none a goes.0 goes.1 goes.2)
   ]
 
   -- ---- the drive of a guest
@@ -174,6 +181,7 @@ bare_below nodes row next place puts = by_row (row_at nodes next) refl puts
     by_driver under (Raw part) there is shows = absurd (false≢true shows)
     by_driver under (Qcow2 image) there is shows = record { row = under; image = image; there = there; driver = is }
     by_driver under CopyOnRead there is shows = absurd (false≢true shows)
+    by_driver under (Filter kind) there is shows = absurd (false≢true shows)
 
     by_row : (found : Option Row) → row_at nodes next ≡ found → puts_below (Some row) found place ≡ true → IsBare nodes next
     by_row None there is = absurd (false≢true is)
@@ -254,6 +262,7 @@ module _ (t : RunTable) (nodes : Nodes) (joined : IsJoined nodes) (are : AreNode
       by_driver row (Raw part) there is = other row there (λ bad. let no : ⊥ = cc (sym is ∙ bad) in no)
       by_driver row (Qcow2 image) there is = other row there (λ bad. let no : ⊥ = cc (sym is ∙ bad) in no)
       by_driver row CopyOnRead there is = below_it row there is (file_of nodes drive) refl
+      by_driver row (Filter kind) there is = other row there (λ bad. let no : ⊥ = cc (sym is ∙ bad) in no)
 
       by_row : (found : Option Row) → row_at nodes drive ≡ found → MeetsOwnImage t nodes drive place
       by_row None there = none (λ row at bad. let no : ⊥ = cc (sym there ∙ at) in no)

@@ -73,6 +73,7 @@ module _ (old new : Nodes) (joined : IsJoined old) where
   write-counted node part bytes outcome (drivers.Raw p) wrote = file-counted wrote.file wrote.start bytes outcome wrote.at
   write-counted node part bytes outcome (drivers.Qcow2 image) wrote = image-counted _ _ _ node _ outcome wrote
   write-counted node part bytes outcome drivers.CopyOnRead wrote = file-counted wrote.file wrote.start bytes outcome wrote.at
+  write-counted node part bytes outcome (drivers.Filter kind) wrote = file-counted wrote.file wrote.start bytes outcome wrote.at
 
   zero-counted : (node : ℕ) (part : Extent) (outcome : Outcome) (d : Driver) → ZerosBy d old new node part outcome
       → AreCounted outcome old.devices new.devices
@@ -80,9 +81,11 @@ module _ (old new : Nodes) (joined : IsJoined old) where
   zero-counted node part outcome (drivers.Raw p) wrote = file-counted wrote.file wrote.start (replicate part.len 0) outcome wrote.at
   zero-counted node part outcome (drivers.Qcow2 image) wrote = image-counted _ _ _ node _ outcome wrote
   zero-counted node part outcome drivers.CopyOnRead wrote = file-counted wrote.file wrote.start (replicate part.len 0) outcome wrote.at
+  zero-counted node part outcome (drivers.Filter kind) wrote = file-counted wrote.file wrote.start (replicate part.len 0) outcome wrote.at
 
   flush-counted : (file : ℕ) (outcome : Outcome) → IsFlushAt file old.devices new.devices outcome → AreCounted outcome old.devices new.devices
-  flush-counted file outcome at = by_cause outcome at.flush.cause
+  flush-counted file outcome (inr none) = subst (λ (o : Outcome). AreCounted o old.devices new.devices) (sym none.2) (same-of old.devices new.devices none.1)
+  flush-counted file outcome (inl at) = by_cause outcome at.flush.cause
     where
       by_cause : (o : Outcome) → HasFlushCause at.before at.after o → AreCounted o old.devices new.devices
       by_cause Good cause =

@@ -8,19 +8,20 @@ use Rattle.blk_base.specs.declared.fault.Outcome.TheVariants.{Good, Torn, Io, No
 use Rattle.trace_codec.specs.declared.op.Op.{Op}
 use Rattle.trace_codec.specs.declared.op.Payload.{Payload}
 use Rattle.trace_codec.specs.declared.op.Op.TheVariants.{Read, Write, Zero, Flush, Discard}
-use Rattle.blk_graph.specs.declared.edge.Role.TheVariants.{File as FileRole}
+use Rattle.blk_graph.specs.declared.edge.Role.TheVariants.{File as FileRole, Filtered}
 use Rattle.blk_history.specs.Disk.{payload_in, is_write}
 use Rattle.blk_history.specs.Fold.{With}
 use Rattle.qmp_rules.specs.Table.{RunTable}
 use Rattle.flat_machine.specs.EventLicence.{faulty_device}
 use Rattle.blk_nodes.specs.Copying.{LowestLacks}
-use Rattle.blk_nodes.specs.Flushing.{base_in, base_of, HasFlushCause, IsFlushAt}
+use Rattle.blk_nodes.specs.Flushing.{under_of, base_in, base_of, HasFlushCause, IsFlushAt}
 use Rattle.blk_nodes.specs.Joined.{IsJoined}
-use Rattle.blk_nodes.specs.Nodes.{Nodes, DeviceSeen, row_at, device_in, file_of}
+use Rattle.blk_nodes.specs.Nodes.{Nodes, DeviceSeen, row_at, device_in, file_of, filtered_of}
 use Rattle.blk_nodes.specs.Reading.{IsReadBelow, LeadsTo, StoppedBy, StoppedBelow}
 use Rattle.blk_nodes.specs.Writing.{WritesFile, WritesImage, WritesBy, ZerosBy, HasCauseOf, HasPieceCause, MayWriteThrough, CanBeWritten, own_file, own_start}
 use Rattle.blk_nodes.specs.declared.row.Driver.{Driver}
 use Rattle.blk_nodes.specs.declared.row.Driver.TheVariants as drivers
+use Rattle.blk_nodes.specs.declared.row.FilterKind.{FilterKind}
 use Rattle.blk_nodes.specs.declared.row.Row.{Row}
 use Rattle.blk_pieces.proofs.Kept.{LacksItsRoom}
 use Rattle.blk_pieces.proofs.Rows.{rows_after}
@@ -55,15 +56,18 @@ module _ (old new : Nodes) (joined : IsJoined old) where
   write_devices node part bytes outcome (drivers.Raw p) wrote = file_devices node part.start bytes outcome wrote
   write_devices node part bytes outcome (drivers.Qcow2 image) wrote = image_devices _ _ _ node _ outcome wrote
   write_devices node part bytes outcome drivers.CopyOnRead wrote = file_devices node part.start bytes outcome wrote
+  write_devices node part bytes outcome (drivers.Filter kind) wrote = file_devices node part.start bytes outcome wrote
 
   zero_devices : (node : ℕ) (part : Extent) (outcome : Outcome) (d : Driver) → ZerosBy d old new node part outcome → AreSameDevices old.devices new.devices
   zero_devices node part outcome drivers.File wrote = file_devices node part.start (replicate part.len 0) outcome wrote
   zero_devices node part outcome (drivers.Raw p) wrote = file_devices node part.start (replicate part.len 0) outcome wrote
   zero_devices node part outcome (drivers.Qcow2 image) wrote = image_devices _ _ _ node _ outcome wrote
   zero_devices node part outcome drivers.CopyOnRead wrote = file_devices node part.start (replicate part.len 0) outcome wrote
+  zero_devices node part outcome (drivers.Filter kind) wrote = file_devices node part.start (replicate part.len 0) outcome wrote
 
   flush_devices : (file : ℕ) (outcome : Outcome) → IsFlushAt file old.devices new.devices outcome → AreSameDevices old.devices new.devices
-  flush_devices file outcome flushed =
+  flush_devices file outcome (inr none) = subst (AreSameDevices old.devices) (sym none.1) (same-devices old.devices)
+  flush_devices file outcome (inl flushed) =
       same-only file old.devices new.devices flushed.before flushed.after joined.once flushed.only flushed.held flushed.left
       (record {
         node = ap (λ (d : DeviceSeen). d.node) flushed.flush.is;
@@ -98,6 +102,7 @@ IsWrittenInPlace drivers.File = Unit {0}
 IsWrittenInPlace (drivers.Raw part) = Unit {0}
 IsWrittenInPlace (drivers.Qcow2 image) = ⊥
 IsWrittenInPlace drivers.CopyOnRead = ⊥
+IsWrittenInPlace (drivers.Filter kind) = ⊥
 
 -- a device that the node leads to; where a count is told, it rose to that
 abbrev pub IsStop : DeviceSeen → DeviceSeen → Outcome → DevNo → Type 0
@@ -196,20 +201,29 @@ plain_leads nodes node file drivers.File plain is = inl (cc is)
 plain_leads nodes node file (drivers.Raw part) plain is = child_leads nodes.graph.edges node file FileRole is
 plain_leads nodes node file (drivers.Qcow2 image) plain is = absurd plain
 plain_leads nodes node file drivers.CopyOnRead plain is = absurd plain
+plain_leads nodes node file (drivers.Filter kind) plain is = absurd plain
+
+under_leads : (nodes : Nodes) (node next : ℕ) → under_of nodes node ≡ Some next → LeadsTo nodes.graph.edges node next
+under_leads nodes node next is = by_file (file_of nodes node) refl is
+  where
+    by_file : (found : Option ℕ) → file_of nodes node ≡ found → elim found as (λ _. Option ℕ) [ None ↦ filtered_of nodes node | Some file ↦ Some file ] ≡ Some next
+        → LeadsTo nodes.graph.edges node next
+    by_file None at is = child_leads nodes.graph.edges node next Filtered is
+    by_file (Some file) at is = child_leads nodes.graph.edges node next FileRole (at ∙ is)
 
 base_leads : (nodes : Nodes) (turns node : ℕ) → LeadsTo nodes.graph.edges node (base_in turns nodes node)
 base_leads nodes zero node = inl refl
-base_leads nodes (suc turns) node = by_file (file_of nodes node) refl (base_leads nodes turns)
+base_leads nodes (suc turns) node = by_under (under_of nodes node) (under_leads nodes node) (base_leads nodes turns)
   where
-    by_file : (found : Option ℕ) → file_of nodes node ≡ found → ((n : ℕ) → LeadsTo nodes.graph.edges n (base_in turns nodes n))
+    by_under : (found : Option ℕ) → ((next : ℕ) → found ≡ Some next → LeadsTo nodes.graph.edges node next) → ((n : ℕ) → LeadsTo nodes.graph.edges n (base_in turns nodes n))
         → LeadsTo nodes.graph.edges node (elim found as (λ _. ℕ) [ None ↦ node | Some next ↦ base_in turns nodes next ])
-    by_file None is rest = inl refl
-    by_file (Some next) is rest = leads_on nodes.graph.edges node next (base_in turns nodes next) (child_leads nodes.graph.edges node next FileRole is) (rest next)
+    by_under None leads rest = inl refl
+    by_under (Some next) leads rest = leads_on nodes.graph.edges node next (base_in turns nodes next) (leads next refl) (rest next)
 
 flush_stop : (old new : Nodes) (node : ℕ) (outcome : Outcome) (dev : DevNo) → faulty_device outcome ≡ Some dev → IsFlushAt (base_of old node) old.devices new.devices outcome
     → StoppedOn old new node outcome dev
 unfolding base_of
-flush_stop old new node outcome dev named flushed = record {
+flush_stop old new node outcome dev named (inl flushed) = record {
   file = base_in 64 old node;
   leads = base_leads old 64 node;
   before = flushed.before;
@@ -218,6 +232,7 @@ flush_stop old new node outcome dev named flushed = record {
   left = flushed.left;
   stop = flush_stop_by old new node flushed.before flushed.after outcome dev named flushed.flush.cause;
 }
+flush_stop old new node outcome dev named (inr none) = absurd (let bad : ⊥ = cc (sym named ∙ ap faulty_device none.2) in bad)
 
 module _ (old new : Nodes) (node : ℕ) where
   own_of : (place : ℕ) (bytes : List ℕ) (outcome : Outcome) (row : Row) (d : Driver) → row_at old node ≡ Some row → row.driver ≡ d → (wrote : WritesFile old new node place bytes outcome)
@@ -238,12 +253,19 @@ module _ (old new : Nodes) (node : ℕ) where
       let same : may.row ≡ row = cc (sym may.there ∙ there) in
       subst (CanBeWritten old node) (ap (λ (r : Row). r.driver) same ∙ driver) may.can
 
+  -- nor is it the filter of a job
+  not_filter : (row : Row) (kind : FilterKind) → row_at old node ≡ Some row → row.driver ≡ drivers.Filter kind → MayWriteThrough old node → ⊥
+  not_filter row kind there driver may =
+      let same : may.row ≡ row = cc (sym may.there ∙ there) in
+      subst (CanBeWritten old node) (ap (λ (r : Row). r.driver) same ∙ driver) may.can
+
   written_stop : (part : Extent) (bytes : List ℕ) (outcome : Outcome) (dev : DevNo) (row : Row) → faulty_device outcome ≡ Some dev → row_at old node ≡ Some row → MayWriteThrough old node
       → (d : Driver) → row.driver ≡ d → WritesBy d old new node part bytes outcome → StoppedOn old new node outcome dev
   written_stop part bytes outcome dev row named there may drivers.File driver wrote = plain_stop part.start bytes outcome dev row drivers.File named there driver tt wrote
   written_stop part bytes outcome dev row named there may (drivers.Raw p) driver wrote = plain_stop part.start bytes outcome dev row (drivers.Raw p) named there driver tt wrote
   written_stop part bytes outcome dev row named there may (drivers.Qcow2 image) driver wrote = image_stop old new node _ _ _ _ outcome dev named wrote
   written_stop part bytes outcome dev row named there may drivers.CopyOnRead driver wrote = absurd (not_copying row there driver may)
+  written_stop part bytes outcome dev row named there may (drivers.Filter kind) driver wrote = absurd (not_filter row kind there driver may)
 
   zeroed_stop : (part : Extent) (outcome : Outcome) (dev : DevNo) (row : Row) → faulty_device outcome ≡ Some dev → row_at old node ≡ Some row → MayWriteThrough old node
       → (d : Driver) → row.driver ≡ d → ZerosBy d old new node part outcome → StoppedOn old new node outcome dev
@@ -251,6 +273,7 @@ module _ (old new : Nodes) (node : ℕ) where
   zeroed_stop part outcome dev row named there may (drivers.Raw p) driver wrote = plain_stop part.start (replicate part.len 0) outcome dev row (drivers.Raw p) named there driver tt wrote
   zeroed_stop part outcome dev row named there may (drivers.Qcow2 image) driver wrote = image_stop old new node _ _ _ _ outcome dev named wrote
   zeroed_stop part outcome dev row named there may drivers.CopyOnRead driver wrote = absurd (not_copying row there driver may)
+  zeroed_stop part outcome dev row named there may (drivers.Filter kind) driver wrote = absurd (not_filter row kind there driver may)
 
 -- a node above leads there too
 stop_above : (old new : Nodes) (above node : ℕ) (outcome : Outcome) (dev : DevNo) → LeadsTo old.graph.edges above node → StoppedOn old new node outcome dev → StoppedOn old new above outcome dev
@@ -348,12 +371,14 @@ module _ (old new : Nodes) (node : ℕ) (part : Extent) (dev : DevNo) (row : Row
   write_full span payload bytes len may (drivers.Raw p) driver wrote = plain_full (Write span payload) bytes (drivers.Raw p) driver len wrote (λ past. past)
   write_full span payload bytes len may (drivers.Qcow2 image) driver wrote = image_full (Write span payload) _ _ _ _ (drivers.Qcow2 image) driver refl wrote wrote.cause.0
   write_full span payload bytes len may drivers.CopyOnRead driver wrote = absurd (not_copying old new node row there driver may)
+  write_full span payload bytes len may (drivers.Filter kind) driver wrote = absurd (not_filter old new node row kind there driver may)
 
   zero_full : (span : Extent) → MayWriteThrough old node → (d : Driver) → row.driver ≡ d → ZerosBy d old new node part (NoSpace dev) → IsFull old node (Zero span) part dev
   zero_full span may drivers.File driver wrote = plain_full (Zero span) (replicate part.len 0) drivers.File driver (length-replicate part.len 0) wrote (λ past. past)
   zero_full span may (drivers.Raw p) driver wrote = plain_full (Zero span) (replicate part.len 0) (drivers.Raw p) driver (length-replicate part.len 0) wrote (λ past. past)
   zero_full span may (drivers.Qcow2 image) driver wrote = image_full (Zero span) _ _ _ _ (drivers.Qcow2 image) driver refl wrote wrote.cause.0
   zero_full span may drivers.CopyOnRead driver wrote = absurd (not_copying old new node row there driver may)
+  zero_full span may (drivers.Filter kind) driver wrote = absurd (not_filter old new node row kind there driver may)
 
 module _ (t : RunTable) (old new : Nodes) (drive node : ℕ) (part : Extent) (buffer : List ℕ) (dev : DevNo) where
   full_passes : (op : Op) → IsFull old node op part dev → write_passes old node op part dev.0
@@ -385,5 +410,9 @@ module _ (t : RunTable) (old new : Nodes) (drive node : ℕ) (part : Extent) (bu
       (write_full old new node part dev went.0.row went.0.there span payload (payload_in (Write span payload) part) (len refl) (may refl) went.0.row.driver refl went.0.wrote)
   passes_of (Zero span) len may went =
       full_passes (Zero span) (zero_full old new node part dev went.0.row went.0.there span (may refl) went.0.row.driver refl went.0.wrote)
-  passes_of Flush len may went = absurd went.flushed.flush.cause
+  passes_of Flush len may went = absurd (no_room went.flushed)
+    where
+      no_room : IsFlushAt (base_of old node) old.devices new.devices (NoSpace dev) → ⊥
+      no_room (inl at) = at.flush.cause
+      no_room (inr none) = let bad : ⊥ = cc none.2 in bad
   passes_of (Discard span) len may went = absurd went

@@ -48,6 +48,7 @@ use Rattle.world_parts.proofs.InStep.{with-at}
 use Rattle.world_pieces.proofs.PiecePaths.{row_there, acyclic, or-left, or-right, OnlyFilters, leads_reads}
 use Rattle.world_pieces.proofs.PieceWriters.{own_row, filter_edge, down_disk}
 use Rattle.world_pieces.proofs.PieceCopied.{MeetsOwnImage, images_of}
+use Rattle.world_parts.proofs.JobFilters.{none_yet}
 
 -- ---- the last edge of a path
 
@@ -178,6 +179,7 @@ module _ (t : RunTable) (nodes : Nodes) (joined : IsJoined nodes) (are : AreNode
         let kind = alike.kind ∙ ap driver_kind is in
         let bad : Some File ≡ None = sym (ap filter_role kind) ∙ has.own in
         cc bad
+    can_write (drivers.Filter kind) is = none_yet row own kind alike is
 
     image_under : (file : ℕ) → child t node File ≡ Some file → OwnsFile nodes node file
     image_under file is other has_image =
@@ -210,6 +212,7 @@ module _ (t : RunTable) (nodes : Nodes) (joined : IsJoined nodes) (are : AreNode
     owns_by (drivers.Raw part) file is = image_under file (sym (in_table node) ∙ is)
     owns_by (drivers.Qcow2 image) file is = image_under file (sym (in_table node) ∙ is)
     owns_by drivers.CopyOnRead file is = absurd (let bad : ⊥ = cc is in bad)
+    owns_by (drivers.Filter kind) file is = absurd (let bad : ⊥ = cc is in bad)
 
     pub may_write : row.read_only ≡ false → MayWriteThrough nodes node
     may_write writable = record {
@@ -240,6 +243,7 @@ module _ (t : RunTable) (nodes : Nodes) (joined : IsJoined nodes) (are : AreNode
         by_driver (drivers.Raw part) here = by_file (sym (in_table node) ∙ here) leads
         by_driver (drivers.Qcow2 image) here = by_file (sym (in_table node) ∙ here) leads
         by_driver drivers.CopyOnRead here = let bad : ⊥ = cc here in bad
+        by_driver (drivers.Filter kind) here = let bad : ⊥ = cc here in bad
 
     pub is_apart : (other : ℕ) → (ReadsWritten t node other → ⊥) → IsApartFrom nodes other node
     is_apart other none found file there is leads =

@@ -40,15 +40,18 @@ module _ (old new : Nodes) (n : ℕ) where
   write_told node part bytes outcome (drivers.Raw p) wrote = file_told node part.start bytes outcome wrote
   write_told node part bytes outcome (drivers.Qcow2 image) wrote = image_told _ _ _ node _ outcome wrote
   write_told node part bytes outcome drivers.CopyOnRead wrote = file_told node part.start bytes outcome wrote
+  write_told node part bytes outcome (drivers.Filter kind) wrote = file_told node part.start bytes outcome wrote
 
   zero_told : (node : ℕ) (part : Extent) (outcome : Outcome) (d : Driver) → ZerosBy d old new node part outcome → is_told new.devices n ≡ is_told old.devices n
   zero_told node part outcome drivers.File wrote = file_told node part.start (replicate part.len 0) outcome wrote
   zero_told node part outcome (drivers.Raw p) wrote = file_told node part.start (replicate part.len 0) outcome wrote
   zero_told node part outcome (drivers.Qcow2 image) wrote = image_told _ _ _ node _ outcome wrote
   zero_told node part outcome drivers.CopyOnRead wrote = file_told node part.start (replicate part.len 0) outcome wrote
+  zero_told node part outcome (drivers.Filter kind) wrote = file_told node part.start (replicate part.len 0) outcome wrote
 
   flush_told : (file : ℕ) (outcome : Outcome) → IsFlushAt file old.devices new.devices outcome → is_told new.devices n ≡ is_told old.devices n
-  flush_told file outcome flushed =
+  flush_told file outcome (inr none) = ap (λ (ds : List DeviceSeen). is_told ds n) none.1
+  flush_told file outcome (inl flushed) =
       only_told file old.devices new.devices flushed.before flushed.after flushed.only flushed.held flushed.left
       (ap (λ (d : DeviceSeen). is_some d.content) flushed.flush.is) n
 

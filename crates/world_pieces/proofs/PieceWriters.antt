@@ -10,7 +10,7 @@ use Rattle.blk_graph.specs.declared.edge.Parent.{Parent}
 use Rattle.blk_graph.specs.declared.edge.Parent.TheVariants.{Node, Guest as GuestOf}
 use Rattle.blk_graph.specs.declared.edge.Perm.TheVariants.{Write}
 use Rattle.blk_graph.specs.declared.edge.Role.{Role}
-use Rattle.blk_graph.specs.declared.edge.Role.TheVariants.{Drive, File, Backing}
+use Rattle.blk_graph.specs.declared.edge.Role.TheVariants.{Drive, File, Backing, Filtered}
 use Rattle.blk_graph.specs.declared.edge.Uses.{Uses}
 use Rattle.blk_graph.specs.declared.kind.Kind.{Kind}
 use Rattle.blk_graph.specs.declared.kind.Kind.TheVariants.{Qcow2, CopyOnRead}
@@ -28,9 +28,10 @@ use Rattle.blk_nodes.specs.Nodes.{Nodes, row_at, driver_kind}
 use Rattle.blk_nodes.specs.declared.row.Driver.{Driver}
 use Rattle.blk_nodes.specs.declared.row.Driver.TheVariants as drivers
 use Rattle.blk_nodes.specs.declared.row.Row.{Row}
-use Rattle.world_parts.specs.Coherent.{AreNodesOf, AreAlike, IsRowOf, AskToWrite}
+use Rattle.world_parts.specs.Coherent.{AreNodesOf, AreAlike, IsRowOf, AskToWrite, IsOfNoJob}
 use Rattle.flat_machine.proofs.WritingKept.{role_edge}
 use Rattle.world_pieces.proofs.PiecePaths.{row_there}
+use Rattle.world_parts.proofs.JobFilters.{filtered_role, no_copies, of_no_job}
 
 -- ---- what the edges into a node ask and share together
 
@@ -102,18 +103,21 @@ only_qcow2 drivers.File h = absurd (false≢true h)
 only_qcow2 (drivers.Raw part) h = absurd (false≢true h)
 only_qcow2 (drivers.Qcow2 image) h = refl
 only_qcow2 drivers.CopyOnRead h = absurd (false≢true h)
+only_qcow2 (drivers.Filter kind) h = absurd (let role : Backing ≡ Filtered = filtered_role kind Backing h in let bad : ⊥ = cc role in bad)
 
-only_copying : (d : Driver) (role : Role) → filter_role (driver_kind d) ≡ Some role → (driver_kind d ≡ CopyOnRead) × (role ≡ File)
-only_copying drivers.File role h = absurd (let bad : ⊥ = cc h in bad)
-only_copying (drivers.Raw part) role h = absurd (let bad : ⊥ = cc h in bad)
-only_copying (drivers.Qcow2 image) role h = absurd (let bad : ⊥ = cc h in bad)
-only_copying drivers.CopyOnRead role h = (refl, cc h)
+only_copying : (d : Driver) (role : Role) → IsOfNoJob (driver_kind d) → filter_role (driver_kind d) ≡ Some role → (driver_kind d ≡ CopyOnRead) × (role ≡ File)
+only_copying drivers.File role plain h = absurd (let bad : ⊥ = cc h in bad)
+only_copying (drivers.Raw part) role plain h = absurd (let bad : ⊥ = cc h in bad)
+only_copying (drivers.Qcow2 image) role plain h = absurd (let bad : ⊥ = cc h in bad)
+only_copying drivers.CopyOnRead role plain h = (refl, cc h)
+only_copying (drivers.Filter kind) role plain h = absurd (of_no_job kind plain)
 
 copying_driver : (d : Driver) → driver_kind d ≡ CopyOnRead → d ≡ drivers.CopyOnRead
 copying_driver drivers.File bad = absurd (let e : ⊥ = cc bad in e)
 copying_driver (drivers.Raw part) bad = absurd (let e : ⊥ = cc bad in e)
 copying_driver (drivers.Qcow2 image) bad = absurd (let e : ⊥ = cc bad in e)
 copying_driver drivers.CopyOnRead is = refl
+copying_driver (drivers.Filter kind) bad = absurd (no_copies kind bad)
 
 module _ (t : RunTable) (nodes : Nodes) (joined : IsJoined nodes) (are : AreNodesOf t nodes) (stands : TableStands t) where
   pub own_row : (a : ℕ) (row : NodeRecord) → node_by_id t a ≡ Some row → (own : Row) × (row_at nodes a ≡ Some own) × IsRowOf row own
@@ -151,7 +155,7 @@ module _ (t : RunTable) (nodes : Nodes) (joined : IsJoined nodes) (are : AreNode
       by_kind : (row : NodeRecord) (own : Row) (role : Role) → row_at nodes a ≡ Some own → IsRowOf row own → filter_role row.kind ≡ Some role
           → child t a role ≡ Some c → IsFilterEdge a c
       by_kind row own role at alike is_filter under =
-          let is = only_copying own.driver role (ap filter_role (sym alike.kind) ∙ is_filter) in
+          let is = only_copying own.driver role (subst IsOfNoJob alike.kind alike.plain) (ap filter_role (sym alike.kind) ∙ is_filter) in
           let e = role_edge (Node a) role t.edges c under in
           let role_is : e.edge.role ≡ File = e.role_is ∙ is.1 in
           let rule = ruled_here a e.edge own e.there e.from at in

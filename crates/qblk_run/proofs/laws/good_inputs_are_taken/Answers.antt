@@ -4,7 +4,7 @@ use Rattle.blk_base.specs.declared.file.File.{File}
 use Rattle.blk_history.specs.Fold.{With}
 use Rattle.qblk_core.specs.declared.status.InputWhy.{InputWhy}
 use Rattle.qblk_inputs.specs.Inputs.{HasWork, IsRefusedInput, Work}
-use Rattle.qblk_inputs.specs.Words.{Cast}
+use Rattle.qblk_words.specs.Words.{Cast}
 use Rattle.qblk_inputs.specs.declared.stop.InputFlaw.{InputFlaw}
 use Rattle.qblk_run.specs.Run.{IsInputRefused, Setting}
 use Rattle.qblk_run.proofs.GoodInputs.{inputs-taken}
