@@ -2,51 +2,51 @@
 
 use blk_base::Text;
 use blk_runs::{RunsStop, is_zero, push_runs, read_runs};
-use row_devices::bytes_text;
-use row_text::{Row, RowStop};
+use row_text::{Row, RowStop, Words};
 use std::alloc::Global;
+use std::str;
 
 /// `is-zero BYTES`.
-pub(crate) fn zero(alloc: Global, row: &Row) -> Result<String, RowStop> {
+pub(crate) fn zero(alloc: Global, row: &Row, out: &mut Words) -> Result<(), RowStop> {
     let bytes = row.bytes(alloc, 0)?;
-    let answer = if is_zero(bytes.as_slice()) {
-        "yes"
-    } else {
-        "no"
-    };
-    Ok(String::from_str(alloc, answer)?)
+    out.yes_or_no(is_zero(bytes.as_slice()));
+    Ok(())
 }
 
-/// Puts the runs of the bytes from a place on behind a text.
-fn put(mut text: Text, alloc: Global, row: &Row, place: usize) -> Result<String, RowStop> {
+/// Puts the runs of the bytes from a place on behind a word.
+fn put(alloc: Global, word: &str, row: &Row, place: usize, out: &mut Words) -> Result<(), RowStop> {
     let bytes = row.bytes(alloc, place)?;
+    let mut text = Text::copied(alloc, word)?;
     push_runs(&mut text, bytes.as_slice())?;
-    Ok(text.into_string())
+    out.put(text.as_str());
+    Ok(())
 }
 
 /// `runs BYTES`.
-pub(crate) fn runs(alloc: Global, row: &Row) -> Result<String, RowStop> {
-    put(Text::new(alloc), alloc, row, 0)
+pub(crate) fn runs(alloc: Global, row: &Row, out: &mut Words) -> Result<(), RowStop> {
+    put(alloc, "", row, 0, out)
 }
 
 /// `runs-behind WORD BYTES`: behind the word.
-pub(crate) fn behind(alloc: Global, row: &Row) -> Result<String, RowStop> {
-    put(Text::copied(alloc, row.word(0)?)?, alloc, row, 1)
+pub(crate) fn behind(alloc: Global, row: &Row, out: &mut Words) -> Result<(), RowStop> {
+    put(alloc, row.word(0)?, row, 1, out)
 }
 
 /// What is read of a text.
-fn read(alloc: Global, text: &str) -> Result<String, RowStop> {
+fn read(alloc: Global, text: &str, out: &mut Words) -> Result<(), RowStop> {
     match read_runs(alloc, text) {
-        Ok(bytes) => Ok(bytes_text(alloc, bytes.as_slice())?),
-        Err(RunsStop::BadRun) => Ok(String::from_str(alloc, "BadRun")?),
-        Err(RunsStop::NoMemory) => Err(RowStop::NoMemory),
+        Ok(bytes) => out.bytes(bytes.as_slice()),
+        Err(RunsStop::BadRun) => out.put("BadRun"),
+        Err(RunsStop::NoMemory) => return Err(RowStop::NoMemory),
     }
+    Ok(())
 }
 
 /// `read-runs TEXT`: the bytes that a text in quotation marks says.
-pub(crate) fn read_back(alloc: Global, row: &Row) -> Result<String, RowStop> {
-    match String::from_utf8(row.bytes(alloc, 0)?) {
-        Ok(text) => read(alloc, text.as_str()),
+pub(crate) fn read_back(alloc: Global, row: &Row, out: &mut Words) -> Result<(), RowStop> {
+    let bytes = row.bytes(alloc, 0)?;
+    match str::from_utf8(bytes.as_slice()) {
+        Ok(text) => read(alloc, text, out),
         Err(_) => Err(RowStop::Bytes),
     }
 }

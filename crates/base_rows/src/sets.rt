@@ -2,9 +2,8 @@
 
 use blk_base::NoMemory;
 use blk_bits::{DirtySet, Ratio};
-use row_text::{Row, RowStop};
-use std::alloc::{AllocError, Global};
-use std::fmt::Write;
+use row_text::{Row, RowStop, Words};
+use std::alloc::Global;
 
 #[derive(Drop)]
 pub(crate) struct Sets {
@@ -20,13 +19,6 @@ enum Slot {
 
 const SLOTS: [(&str, Slot); 2] = [("a", Slot::A), ("b", Slot::B)];
 
-fn text_of(alloc: Global, number: Option<u64>) -> Result<String, AllocError> {
-    match number {
-        Some(number) => format!(in alloc; "{number}"),
-        None => String::from_str(alloc, "none"),
-    }
-}
-
 /// Adds granules to a set or takes them out.
 fn mark(set: &mut DirtySet, from: u64, to: u64, is_dirty: bool) -> Result<(), RowStop> {
     if from > to || to > set.granules() {
@@ -40,27 +32,25 @@ fn mark(set: &mut DirtySet, from: u64, to: u64, is_dirty: bool) -> Result<(), Ro
     Ok(())
 }
 
-/// How many members a set has, and which.
-fn members(alloc: Global, set: &DirtySet) -> Result<String, AllocError> {
-    let count = set.count();
-    let mut out = format!(in alloc; "{count}:")?;
+/// Puts how many members a set has, and which.
+fn put_members(set: &DirtySet, out: &mut Words) {
+    out.fill("%:", &[set.count()]);
     let mut from = 0;
     for _ in 0..set.granules() {
         let Some(member) = set.next_dirty(from) else {
-            break;
+            return;
         };
-        write!(out, " {member}")?;
+        out.fill(" %", &[member]);
         from = member.saturating_add(1);
     }
-    Ok(out)
 }
 
 /// Whether a granule is dirty.
-fn is_dirty(set: &DirtySet, granule: u64) -> Result<&'static str, RowStop> {
+fn is_dirty(set: &DirtySet, granule: u64) -> Result<bool, RowStop> {
     if granule >= set.granules() {
         return Err(RowStop::Call);
     }
-    Ok(if set.test(granule) { "yes" } else { "no" })
+    Ok(set.test(granule))
 }
 
 /// A word of a level.
@@ -86,17 +76,15 @@ pub(crate) const ASKS: [(&str, Ask); 5] = [
 ];
 
 /// `members SET`, `count SET`, `test SET GRANULE`, `next SET FROM`, `word SET LEVEL PLACE`.
-fn asked(alloc: Global, set: &DirtySet, ask: Ask, row: &Row) -> Result<String, RowStop> {
-    match ask {
-        Ask::Members => Ok(members(alloc, set)?),
-        Ask::Count => Ok(text_of(alloc, Some(set.count()))?),
-        Ask::Test => Ok(String::from_str(alloc, is_dirty(set, row.number(1)?)?)?),
-        Ask::Next => Ok(text_of(alloc, set.next_dirty(row.number(1)?))?),
-        Ask::Word => {
-            let (level, place) = (row.short(1)?, row.short(2)?);
-            Ok(text_of(alloc, word(set, level, place as usize))?)
-        }
+fn put_asked(set: &DirtySet, what: Ask, row: &Row, out: &mut Words) -> Result<(), RowStop> {
+    match what {
+        Ask::Members => put_members(set, out),
+        Ask::Count => out.number(set.count()),
+        Ask::Test => out.yes_or_no(is_dirty(set, row.number(1)?)?),
+        Ask::Next => out.maybe(set.next_dirty(row.number(1)?)),
+        Ask::Word => out.maybe(word(set, row.short(1)?, row.short(2)? as usize)),
     }
+    Ok(())
 }
 
 impl Sets {
@@ -142,10 +130,10 @@ impl Sets {
         Ok(())
     }
 
-    pub fn answer_to(&self, alloc: Global, ask: Ask, row: &Row) -> Result<String, RowStop> {
+    pub fn answer_to(&self, what: Ask, row: &Row, out: &mut Words) -> Result<(), RowStop> {
         match row.named(0, &SLOTS)? {
-            Slot::A => asked(alloc, &self.a, ask, row),
-            Slot::B => asked(alloc, &self.b, ask, row),
+            Slot::A => put_asked(&self.a, what, row, out),
+            Slot::B => put_asked(&self.b, what, row, out),
         }
     }
 }

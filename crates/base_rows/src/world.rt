@@ -3,7 +3,7 @@
 use crate::sets::Sets;
 use crate::{pieces, runs, sets};
 use blk_base::NoMemory;
-use row_text::{Player, Row, RowStop, named};
+use row_text::{Player, Row, RowStop, Words, named};
 use std::alloc::Global;
 
 #[derive(Drop)]
@@ -45,30 +45,31 @@ impl World {
         })
     }
 
-    fn act(&mut self, act: Act, row: &Row) -> Result<String, RowStop> {
+    fn act(&mut self, act: Act, row: &Row, out: &mut Words) -> Result<(), RowStop> {
         let alloc = self.alloc;
         match act {
-            Act::Pieces => return pieces::pieces(alloc, row),
-            Act::IsZero => return runs::zero(alloc, row),
-            Act::Runs => return runs::runs(alloc, row),
-            Act::RunsBehind => return runs::behind(alloc, row),
-            Act::ReadRuns => return runs::read_back(alloc, row),
+            Act::Pieces => return pieces::pieces(row, out),
+            Act::IsZero => return runs::zero(alloc, row, out),
+            Act::Runs => return runs::runs(alloc, row, out),
+            Act::RunsBehind => return runs::behind(alloc, row, out),
+            Act::ReadRuns => return runs::read_back(alloc, row, out),
             Act::Set => self.sets.begin(alloc, row)?,
             Act::Add => self.sets.mark(row, true)?,
             Act::Take => self.sets.mark(row, false)?,
             Act::Merge => self.sets.merge(row)?,
         }
-        Ok(String::from_str(alloc, "ok")?)
+        out.put("ok");
+        Ok(())
     }
 }
 
 impl Player for World {
-    fn answer_to(&mut self, row: &Row) -> Result<String, RowStop> {
+    fn answer_to(&mut self, row: &Row, out: &mut Words) -> Result<(), RowStop> {
         if let Some(act) = named(&ACTS, row.key) {
-            return self.act(act, row);
+            return self.act(act, row, out);
         }
         match named(&sets::ASKS, row.key) {
-            Some(ask) => self.sets.answer_to(self.alloc, ask, row),
+            Some(ask) => self.sets.answer_to(ask, row, out),
             None => Err(RowStop::Word),
         }
     }

@@ -1,8 +1,8 @@
 //! Lines of the machine protocol, and what they are read as.
 
-use crate::shown::shown;
+use crate::shown::put_command;
 use qmp_codec::{read_command, read_id};
-use row_text::{Row, RowStop};
+use row_text::{Row, RowStop, Words, cut, same};
 use std::alloc::Global;
 use std::str;
 
@@ -21,96 +21,106 @@ pub(crate) const ASKS: [(&str, Ask); 4] = [
     ("long", Ask::Long),
 ];
 
-/// What a line is read as, in words.
-fn answer(alloc: Global, line: &str) -> Result<String, RowStop> {
+/// Puts what a line is read as, in words.
+fn put_read(alloc: Global, line: &str, out: &mut Words) {
     match read_command(alloc, line) {
-        Ok(command) => shown(alloc, &command),
-        Err(stop) => Ok(format!(in alloc; "{stop}")?),
+        Ok(command) => put_command(out, &command),
+        Err(stop) => out.show(&stop),
     }
 }
 
-/// The id that the answer to a line repeats.
-fn id_text(alloc: Global, line: &str) -> Result<String, RowStop> {
+/// Puts the id that the answer to a line repeats.
+fn put_id(alloc: Global, line: &str, out: &mut Words) -> Result<(), RowStop> {
     match read_id(alloc, line)? {
-        Some(id) => Ok(id.to_string(alloc)?),
-        None => Ok(String::from_str(alloc, "none")?),
+        Some(id) => out.put(id.to_string(alloc)?.as_str()),
+        None => out.put("none"),
     }
+    Ok(())
 }
 
 /// A command and its arguments: what they are read as.
-pub(crate) fn command(alloc: Global, row: &Row) -> Result<String, RowStop> {
-    let (command, arguments) = (row.key, row.words.trim_ascii());
-    let line = format!(in alloc; "{{\"execute\":\"{command}\",\"arguments\":{arguments}}}")?;
-    answer(alloc, line.as_str())
+pub(crate) fn command(alloc: Global, row: &Row, out: &mut Words) {
+    let mut line = Words::new(alloc);
+    line.command(row.key, row.text());
+    put_read(alloc, line.as_str(), out);
 }
 
-/// A text in one line: `\n` stands for an end of a line.
-fn on_one_line(alloc: Global, text: &str) -> Result<String, RowStop> {
-    let mut out = String::new(alloc);
-    for (place, part) in text.split('\n').enumerate() {
-        if place != 0 {
-            out.push_str("\\n")?;
+/// Puts a text in one line: `\n` stands for an end of a line.
+fn put_on_one_line(text: &str, out: &mut Words) {
+    for letter in text.chars() {
+        if letter == '\n' {
+            out.put("\\n");
+        } else {
+            out.letter(letter);
         }
-        out.push_str(part)?;
     }
-    Ok(out)
 }
 
-/// What a line is read as, and the id that is repeated.
-fn read_line(alloc: Global, line: &str) -> Result<String, RowStop> {
-    let words = answer(alloc, line)?;
-    let words = on_one_line(alloc, words.as_str())?;
-    let id = id_text(alloc, line)?;
-    let (words, id) = (words.as_str(), id.as_str());
-    Ok(format!(in alloc; "{words} id {id}")?)
+/// Puts what a line is read as, and the id that is repeated.
+fn put_line(alloc: Global, line: &str, out: &mut Words) -> Result<(), RowStop> {
+    let mut words = Words::new(alloc);
+    put_read(alloc, line, &mut words);
+    put_on_one_line(words.as_str(), out);
+    out.put(" id ");
+    put_id(alloc, line, out)
 }
 
 /// `text BYTES`: a line by its bytes.
-fn text(alloc: Global, row: &Row) -> Result<String, RowStop> {
+fn text(alloc: Global, row: &Row, out: &mut Words) -> Result<(), RowStop> {
     let bytes = row.bytes(alloc, 0)?;
     match str::from_utf8(bytes.as_slice()) {
-        Ok(line) => read_line(alloc, line),
+        Ok(line) => put_line(alloc, line, out),
         Err(_) => Err(RowStop::Bytes),
     }
 }
 
-/// A text so many times over.
-fn repeated(alloc: Global, text: &str, times: u64) -> Result<String, RowStop> {
-    let mut all = String::new(alloc);
+/// Puts a text so many times over.
+fn put_times(text: &str, times: u64, out: &mut Words) {
     for _ in 0..times {
-        all.push_str(text)?;
+        out.put(text);
     }
-    Ok(all)
 }
 
 /// `nested COUNT`: a line whose id is so many lists, one in the other.
-fn nested(alloc: Global, row: &Row) -> Result<String, RowStop> {
-    let open = repeated(alloc, "[", row.number(0)?)?;
-    let close = repeated(alloc, "]", row.number(0)?)?;
-    let (open, close) = (open.as_str(), close.as_str());
-    let line = format!(in alloc; "{{\"execute\":\"query-block-jobs\",\"id\":{open}{close}}}")?;
-    answer(alloc, line.as_str())
+fn nested(alloc: Global, row: &Row, out: &mut Words) -> Result<(), RowStop> {
+    let count = row.number(0)?;
+    let mut line = Words::new(alloc);
+    line.put("{\"execute\":\"query-block-jobs\",\"id\":");
+    put_times("[", count, &mut line);
+    put_times("]", count, &mut line);
+    line.put("}");
+    put_read(alloc, line.as_str(), out);
+    Ok(())
 }
 
 /// `long COUNT`: a line that names a node of so many letters, and whether the name is read whole.
-fn long(alloc: Global, row: &Row) -> Result<String, RowStop> {
-    let name = repeated(alloc, "a", row.number(0)?)?;
-    let name = name.as_str();
-    let line = format!(in alloc;
-        "{{\"execute\":\"blockdev-del\",\"arguments\":{{\"node-name\":\"{name}\"}}}}"
-    )?;
-    let answer = answer(alloc, line.as_str())?;
-    let is_whole = answer.as_str().strip_prefix("blockdev-del node-name=") == Some(name);
-    Ok(String::from_str(alloc, if is_whole { "whole" } else { "not whole" })?)
+fn long(alloc: Global, row: &Row, out: &mut Words) -> Result<(), RowStop> {
+    let mut name = Words::new(alloc);
+    put_times("a", row.number(0)?, &mut name);
+    let mut line = Words::new(alloc);
+    line.put("{\"execute\":\"blockdev-del\",\"arguments\":{\"node-name\":\"");
+    line.put(name.as_str());
+    line.put("\"}}");
+    let mut came = Words::new(alloc);
+    put_read(alloc, line.as_str(), &mut came);
+    let (command, came) = cut(came.as_str(), "=");
+    let is_whole = same(command, "blockdev-del node-name") && same(came, name.as_str());
+    out.put(if is_whole { "whole" } else { "not whole" });
+    Ok(())
 }
 
-/// What is answered to a row on a line.
-pub(crate) fn answer_to(alloc: Global, ask: Ask, row: &Row) -> Result<String, RowStop> {
+/// Puts what is answered to a row on a line.
+pub(crate) fn answer_to(
+    alloc: Global,
+    ask: Ask,
+    row: &Row,
+    out: &mut Words,
+) -> Result<(), RowStop> {
     match ask {
         // `line TEXT`: a line as it stands
-        Ask::Line => read_line(alloc, row.words.trim_ascii()),
-        Ask::Text => text(alloc, row),
-        Ask::Nested => nested(alloc, row),
-        Ask::Long => long(alloc, row),
+        Ask::Line => put_line(alloc, row.text(), out),
+        Ask::Text => text(alloc, row, out),
+        Ask::Nested => nested(alloc, row, out),
+        Ask::Long => long(alloc, row, out),
     }
 }

@@ -2,7 +2,7 @@
 
 use crate::traces::TraceText;
 use crate::{commands, printed, traces};
-use row_text::{Player, Row, RowStop, named};
+use row_text::{Player, Row, RowStop, Words, named};
 use std::alloc::Global;
 
 /// The text of a trace that rows make, and what traces ask so far.
@@ -22,19 +22,20 @@ impl Codec {
 }
 
 impl Player for Codec {
-    fn answer_to(&mut self, row: &Row) -> Result<String, RowStop> {
+    fn answer_to(&mut self, row: &Row, out: &mut Words) -> Result<(), RowStop> {
         if let Some(part) = named(&traces::PARTS, row.key) {
-            return self.text.answer_to(self.alloc, part, row);
+            return self.text.answer_to(self.alloc, part, row, out);
         }
         if let Some(ask) = named(&traces::ASKS, row.key) {
-            return traces::answer_to(self.alloc, ask, row);
+            return traces::answer_to(self.alloc, ask, row, out);
         }
         if let Some(print) = named(&printed::PRINTS, row.key) {
-            return printed::answer_to(self.alloc, print, row);
+            return printed::answer_to(self.alloc, print, row, out);
         }
         if let Some(ask) = named(&commands::ASKS, row.key) {
-            return commands::answer_to(self.alloc, ask, row);
+            return commands::answer_to(self.alloc, ask, row, out);
         }
-        commands::command(self.alloc, row)
+        commands::command(self.alloc, row, out);
+        Ok(())
     }
 }

@@ -2,7 +2,7 @@
 
 use blk_base::Text;
 use qmp_codec::{Class, EventName, JobEvent, JobKind, Reply, print_event, print_reply};
-use row_text::{Row, RowStop};
+use row_text::{Row, RowStop, Words, first_word};
 use serde_json::Value;
 use std::alloc::Global;
 
@@ -50,64 +50,68 @@ fn value(alloc: Global, text: &str) -> Result<Option<Value>, RowStop> {
     }
 }
 
-/// The text of a line.
-fn line_of(alloc: Global, line: &Text) -> Result<String, RowStop> {
-    Ok(String::from_str(alloc, line.as_str())?)
-}
-
 /// `done ID`: the answer to an accepted line with that id, or with none.
-fn done(alloc: Global, row: &Row) -> Result<String, RowStop> {
-    let id = value(alloc, row.words.trim_ascii())?;
+fn done(alloc: Global, row: &Row, out: &mut Words) -> Result<(), RowStop> {
+    let id = value(alloc, row.text())?;
     let Some(nothing) = value(alloc, "{}")? else {
         return Err(RowStop::Word);
     };
     let line = print_reply(alloc, id.as_ref(), &Reply::Return(nothing))?;
-    line_of(alloc, &line)
+    out.put(line.as_str());
+    Ok(())
 }
 
 /// What stands behind the first word of a text.
 fn behind(text: &str) -> &str {
-    match text.split_once(' ') {
-        Some((_, rest)) => rest,
-        None => "",
-    }
+    let (_, rest) = first_word(text);
+    rest
 }
 
 /// `refused CLASS TEXT`: the answer to a refused line with the id 5.
-fn refused(alloc: Global, row: &Row) -> Result<String, RowStop> {
+fn refused(alloc: Global, row: &Row, out: &mut Words) -> Result<(), RowStop> {
     let id = Value::from(5u64);
     let reply = Reply::Error {
         class: row.named(0, &CLASSES)?,
         desc: Text::copied(alloc, behind(row.words).trim_ascii())?,
     };
     let line = print_reply(alloc, Some(&id), &reply)?;
-    line_of(alloc, &line)
+    out.put(line.as_str());
+    Ok(())
+}
+
+/// Why a job failed, or none where the words are empty.
+fn error_of(alloc: Global, words: &str) -> Result<Option<Text>, RowStop> {
+    if words.is_empty() {
+        return Ok(None);
+    }
+    Ok(Some(Text::copied(alloc, words)?))
 }
 
 /// `event NAME KIND TEXT`: the event of a job `m0` that has done 512 bytes, and why it failed.
-fn event(alloc: Global, row: &Row) -> Result<String, RowStop> {
-    let error = behind(behind(row.words)).trim_ascii();
+fn event(alloc: Global, row: &Row, out: &mut Words) -> Result<(), RowStop> {
     let event = JobEvent {
         name: row.named(0, &EVENTS)?,
         device: Text::copied(alloc, "m0")?,
-        error: if error.is_empty() {
-            None
-        } else {
-            Some(Text::copied(alloc, error)?)
-        },
+        error: error_of(alloc, behind(behind(row.words)).trim_ascii())?,
         len: 65_536,
         offset: 512,
         kind: row.named(1, &KINDS)?,
     };
     let line = print_event(alloc, &event)?;
-    line_of(alloc, &line)
+    out.put(line.as_str());
+    Ok(())
 }
 
-/// What is printed.
-pub(crate) fn answer_to(alloc: Global, print: Print, row: &Row) -> Result<String, RowStop> {
+/// Puts what is printed.
+pub(crate) fn answer_to(
+    alloc: Global,
+    print: Print,
+    row: &Row,
+    out: &mut Words,
+) -> Result<(), RowStop> {
     match print {
-        Print::Done => done(alloc, row),
-        Print::Refused => refused(alloc, row),
-        Print::Event => event(alloc, row),
+        Print::Done => done(alloc, row, out),
+        Print::Refused => refused(alloc, row, out),
+        Print::Event => event(alloc, row, out),
     }
 }

@@ -7,15 +7,7 @@ use qmp_codec::{
     InlineFile, JobOptions, MergeSource, Mirror, NodeOptions, OnError, Sharing, Snapshot, Stream,
     Sync, Transaction, Version,
 };
-use row_text::RowStop;
-use std::alloc::Global;
-
-/// What is written so far, and whether there was memory for all of it.
-#[derive(Drop)]
-struct Words {
-    out: String,
-    is_whole: bool,
-}
+use row_text::Words;
 
 fn on_error(policy: Option<OnError>) -> Option<&'static str> {
     match policy? {
@@ -150,336 +142,315 @@ fn command_name(command: &Command) -> &'static str {
     }
 }
 
-impl Words {
-    fn push(&mut self, text: &str) {
-        if self.out.push_str(text).is_err() {
-            self.is_whole = false;
+fn member(out: &mut Words, name: &str, value: &str) {
+    out.put(" ");
+    out.put(name);
+    out.put("=");
+    out.put(value);
+}
+
+fn maybe_word(out: &mut Words, name: &str, value: Option<&str>) {
+    match value {
+        Some(word) => member(out, name, word),
+        None => {}
+    }
+}
+
+fn maybe_text(out: &mut Words, name: &str, value: &Option<String>) {
+    match value {
+        Some(text) => member(out, name, text.as_str()),
+        None => {}
+    }
+}
+
+fn maybe_flag(out: &mut Words, name: &str, value: Option<bool>) {
+    match value {
+        Some(true) => member(out, name, "true"),
+        Some(false) => member(out, name, "false"),
+        None => {}
+    }
+}
+
+fn maybe_amount(out: &mut Words, name: &str, value: Option<Amount>) {
+    match value {
+        Some(Amount::Number(n)) => {
+            member(out, name, "");
+            out.number(n);
         }
+        Some(Amount::Negative) => member(out, name, "negative"),
+        None => {}
     }
+}
 
-    fn number(&mut self, number: u64) {
-        let mut digits = itoa::Buffer::new();
-        self.push(digits.format(number));
+fn put_texts(out: &mut Words, name: &str, texts: &Vec<String>) {
+    member(out, name, "[");
+    for text in texts {
+        out.put(text.as_str());
+        out.put(";");
     }
+    out.put("]");
+}
 
-    fn put(&mut self, name: &str, value: &str) {
-        self.push(" ");
-        self.push(name);
-        self.push("=");
-        self.push(value);
-    }
+fn put_job_options(out: &mut Words, c: &JobOptions) {
+    maybe_amount(out, "speed", c.speed);
+    maybe_flag(out, "auto-finalize", c.auto_finalize);
+    maybe_flag(out, "auto-dismiss", c.auto_dismiss);
+}
 
-    fn word(&mut self, name: &str, value: Option<&str>) {
-        match value {
-            Some(word) => self.put(name, word),
-            None => {}
-        }
-    }
+fn put_stream(out: &mut Words, c: &Stream) {
+    member(out, "job-id", c.job_id.as_str());
+    member(out, "device", c.device.as_str());
+    maybe_text(out, "base-node", &c.base_node);
+    maybe_text(out, "backing-file", &c.backing_file);
+    maybe_word(out, "on-error", on_error(c.on_error));
+    put_job_options(out, &c.options);
+}
 
-    fn text(&mut self, name: &str, value: &Option<String>) {
-        match value {
-            Some(text) => self.put(name, text.as_str()),
-            None => {}
-        }
-    }
+fn put_commit(out: &mut Words, c: &Commit) {
+    member(out, "job-id", c.job_id.as_str());
+    member(out, "device", c.device.as_str());
+    maybe_text(out, "base-node", &c.base_node);
+    maybe_text(out, "top-node", &c.top_node);
+    maybe_text(out, "backing-file", &c.backing_file);
+    maybe_word(out, "on-error", on_error(c.on_error));
+    put_job_options(out, &c.options);
+}
 
-    fn flag(&mut self, name: &str, value: Option<bool>) {
-        match value {
-            Some(true) => self.put(name, "true"),
-            Some(false) => self.put(name, "false"),
-            None => {}
-        }
-    }
+fn put_mirror(out: &mut Words, c: &Mirror) {
+    member(out, "job-id", c.job_id.as_str());
+    member(out, "device", c.device.as_str());
+    member(out, "target", c.target.as_str());
+    member(out, "sync", sync(c.sync));
+    maybe_word(out, "copy-mode", copy_mode(c.copy_mode));
+    maybe_word(out, "on-source-error", on_error(c.on_source_error));
+    maybe_word(out, "on-target-error", on_error(c.on_target_error));
+    put_job_options(out, &c.options);
+}
 
-    fn amount(&mut self, name: &str, value: Option<Amount>) {
-        match value {
-            Some(Amount::Number(n)) => {
-                self.put(name, "");
-                self.number(n);
-            }
-            Some(Amount::Negative) => self.put(name, "negative"),
-            None => {}
-        }
-    }
+fn put_backup(out: &mut Words, c: &Backup) {
+    member(out, "job-id", c.job_id.as_str());
+    member(out, "device", c.device.as_str());
+    member(out, "target", c.target.as_str());
+    member(out, "sync", sync(c.sync));
+    maybe_text(out, "bitmap", &c.bitmap);
+    maybe_word(out, "bitmap-mode", bitmap_mode(c.bitmap_mode));
+    maybe_word(out, "on-source-error", on_error(c.on_source_error));
+    maybe_word(out, "on-target-error", on_error(c.on_target_error));
+    put_job_options(out, &c.options);
+}
 
-    fn texts(&mut self, name: &str, texts: &Vec<String>) {
-        self.put(name, "[");
-        for text in texts {
-            self.push(text.as_str());
-            self.push(";");
-        }
-        self.push("]");
-    }
+fn put_cache(out: &mut Words, cache: Option<Cache>) {
+    let Some(cache) = cache else {
+        return;
+    };
+    member(out, "cache", "{");
+    maybe_flag(out, "direct", cache.direct);
+    maybe_flag(out, "no-flush", cache.no_flush);
+    out.put("}");
+}
 
-    fn job_options(&mut self, c: &JobOptions) {
-        self.amount("speed", c.speed);
-        self.flag("auto-finalize", c.auto_finalize);
-        self.flag("auto-dismiss", c.auto_dismiss);
-    }
+fn put_node_options(out: &mut Words, c: &NodeOptions) {
+    maybe_flag(out, "read-only", c.read_only);
+    maybe_flag(out, "auto-read-only", c.auto_read_only);
+    maybe_word(out, "discard", discard(c.discard));
+    put_cache(out, c.cache);
+}
 
-    fn stream(&mut self, c: &Stream) {
-        self.put("job-id", c.job_id.as_str());
-        self.put("device", c.device.as_str());
-        self.text("base-node", &c.base_node);
-        self.text("backing-file", &c.backing_file);
-        self.word("on-error", on_error(c.on_error));
-        self.job_options(&c.options);
-    }
+fn put_inline_file(out: &mut Words, c: &InlineFile) {
+    member(out, "driver", driver(c.driver));
+    member(out, "filename", c.filename.as_str());
+    maybe_text(out, "node-name", &c.node_name);
+    put_node_options(out, &c.options);
+}
 
-    fn commit(&mut self, c: &Commit) {
-        self.put("job-id", c.job_id.as_str());
-        self.put("device", c.device.as_str());
-        self.text("base-node", &c.base_node);
-        self.text("top-node", &c.top_node);
-        self.text("backing-file", &c.backing_file);
-        self.word("on-error", on_error(c.on_error));
-        self.job_options(&c.options);
-    }
-
-    fn mirror(&mut self, c: &Mirror) {
-        self.put("job-id", c.job_id.as_str());
-        self.put("device", c.device.as_str());
-        self.put("target", c.target.as_str());
-        self.put("sync", sync(c.sync));
-        self.word("copy-mode", copy_mode(c.copy_mode));
-        self.word("on-source-error", on_error(c.on_source_error));
-        self.word("on-target-error", on_error(c.on_target_error));
-        self.job_options(&c.options);
-    }
-
-    fn backup(&mut self, c: &Backup) {
-        self.put("job-id", c.job_id.as_str());
-        self.put("device", c.device.as_str());
-        self.put("target", c.target.as_str());
-        self.put("sync", sync(c.sync));
-        self.text("bitmap", &c.bitmap);
-        self.word("bitmap-mode", bitmap_mode(c.bitmap_mode));
-        self.word("on-source-error", on_error(c.on_source_error));
-        self.word("on-target-error", on_error(c.on_target_error));
-        self.job_options(&c.options);
-    }
-
-    fn cache(&mut self, cache: Option<Cache>) {
-        let Some(cache) = cache else {
-            return;
-        };
-        self.put("cache", "{");
-        self.flag("direct", cache.direct);
-        self.flag("no-flush", cache.no_flush);
-        self.push("}");
-    }
-
-    fn node_options(&mut self, c: &NodeOptions) {
-        self.flag("read-only", c.read_only);
-        self.flag("auto-read-only", c.auto_read_only);
-        self.word("discard", discard(c.discard));
-        self.cache(c.cache);
-    }
-
-    fn inline_file(&mut self, c: &InlineFile) {
-        self.put("driver", driver(c.driver));
-        self.put("filename", c.filename.as_str());
-        self.text("node-name", &c.node_name);
-        self.node_options(&c.options);
-    }
-
-    fn file_ref(&mut self, file: &FileRef) {
-        match file {
-            FileRef::Name(name) => self.put("file", name.as_str()),
-            FileRef::Inline(inline) => {
-                self.put("file", "{");
-                self.inline_file(inline);
-                self.push("}");
-            }
-        }
-    }
-
-    fn backing(&mut self, backing: &Option<BackingRef>) {
-        match backing {
-            Some(BackingRef::Null) => self.push(" backing"),
-            Some(BackingRef::Name(name)) => self.put("backing", name.as_str()),
-            None => {}
-        }
-    }
-
-    fn add_raw(&mut self, c: &AddRaw) {
-        self.put("driver", "raw");
-        self.file_ref(&c.file);
-        self.amount("offset", c.offset);
-        self.amount("size", c.size);
-    }
-
-    fn add_qcow2(&mut self, c: &AddQcow2) {
-        self.put("driver", "qcow2");
-        self.file_ref(&c.file);
-        self.backing(&c.backing);
-    }
-
-    fn added(&mut self, added: &Added) {
-        match added {
-            Added::File(name) => {
-                self.put("driver", "file");
-                self.put("filename", name.as_str());
-            }
-            Added::Raw(c) => self.add_raw(c),
-            Added::Qcow2(c) => self.add_qcow2(c),
-            Added::CopyOnRead(name) => {
-                self.put("driver", "copy-on-read");
-                self.put("file", name.as_str());
-            }
-            Added::Unknown => self.put("driver", "?"),
-        }
-    }
-
-    fn blockdev_add(&mut self, c: &BlockdevAdd) {
-        self.put("node-name", c.node_name.as_str());
-        self.node_options(&c.options);
-        self.added(&c.driver);
-    }
-
-    fn create_qcow2(&mut self, c: &CreateQcow2) {
-        self.put("driver", "qcow2");
-        self.put("file", c.file.as_str());
-        self.amount("size", Some(c.size));
-        self.text("backing-file", &c.backing_file);
-        self.word("backing-fmt", image_format(c.backing_fmt));
-        self.amount("cluster-size", c.cluster_size);
-        self.amount("refcount-bits", c.refcount_bits);
-        self.word("version", version(c.version));
-    }
-
-    fn created(&mut self, created: &Created) {
-        match created {
-            Created::File(c) => {
-                self.put("driver", "file");
-                self.put("filename", c.filename.as_str());
-                self.amount("size", Some(c.size));
-            }
-            Created::Qcow2(c) => self.create_qcow2(c),
-            Created::Unknown => self.put("driver", "?"),
-        }
-    }
-
-    fn blockdev_create(&mut self, c: &BlockdevCreate) {
-        self.put("job-id", c.job_id.as_str());
-        self.created(&c.options);
-    }
-
-    fn snapshot(&mut self, c: &Snapshot) {
-        self.put("node", c.node.as_str());
-        self.put("overlay", c.overlay.as_str());
-    }
-
-    fn device_add(&mut self, c: &DeviceAdd) {
-        self.put("driver", device_driver(c.driver));
-        self.put("id", c.id.as_str());
-        self.put("drive", c.drive.as_str());
-        self.word("share-rw", sharing(c.share_rw));
-        self.text("bus", &c.bus);
-        self.text("addr", &c.addr);
-        self.text("serial", &c.serial);
-        self.text("write-cache", &c.write_cache);
-        self.amount("bootindex", c.bootindex);
-    }
-
-    fn bitmap_add(&mut self, c: &BitmapAdd) {
-        self.put("node", c.node.as_str());
-        self.put("name", c.name.as_str());
-        self.amount("granularity", c.granularity);
-        self.flag("persistent", c.persistent);
-        self.flag("disabled", c.disabled);
-    }
-
-    fn bitmap_name(&mut self, c: &BitmapName) {
-        self.put("node", c.node.as_str());
-        self.put("name", c.name.as_str());
-    }
-
-    fn source(&mut self, source: &MergeSource) {
-        match source {
-            MergeSource::Name(name) => self.put("name", name.as_str()),
-            MergeSource::Of(bitmap) => self.bitmap_name(bitmap),
-        }
-    }
-
-    fn bitmap_merge(&mut self, c: &BitmapMerge) {
-        self.put("node", c.node.as_str());
-        self.put("target", c.target.as_str());
-        self.put("bitmaps", "[");
-        for source in &c.bitmaps {
-            self.source(source);
-            self.push(";");
-        }
-        self.push("]");
-    }
-
-    fn action(&mut self, action: &Action) {
-        self.push(" ");
-        self.push(action_name(action));
-        match action {
-            Action::Abort | Action::Unknown => {}
-            Action::Snapshot(c) => self.snapshot(c),
-            Action::Backup(c) => self.backup(c),
-            Action::BitmapAdd(c) => self.bitmap_add(c),
-            Action::BitmapRemove(c)
-            | Action::BitmapClear(c)
-            | Action::BitmapEnable(c)
-            | Action::BitmapDisable(c) => self.bitmap_name(c),
-            Action::BitmapMerge(c) => self.bitmap_merge(c),
-        }
-    }
-
-    fn transaction(&mut self, c: &Transaction) {
-        self.put("actions", "[");
-        for action in &c.actions {
-            self.action(action);
-            self.push(";");
-        }
-        self.push("]");
-        self.word("completion-mode", completion_mode(c.completion_mode));
-    }
-
-    fn members(&mut self, command: &Command) {
-        match command {
-            Command::Capabilities(Some(texts)) => self.texts("enable", texts),
-            Command::Capabilities(None) | Command::QueryBlockJobs => {}
-            Command::BlockdevCreate(c) => self.blockdev_create(c),
-            Command::JobDismiss(id) | Command::DeviceDel(id) => self.put("id", id.as_str()),
-            Command::BlockdevAdd(c) => self.blockdev_add(c),
-            Command::BlockdevDel(name) => self.put("node-name", name.as_str()),
-            Command::DeviceAdd(c) => self.device_add(c),
-            Command::BlockdevSnapshot(c) => self.snapshot(c),
-            Command::Transaction(c) => self.transaction(c),
-            Command::BlockStream(c) => self.stream(c),
-            Command::BlockCommit(c) => self.commit(c),
-            Command::BlockdevMirror(c) => self.mirror(c),
-            Command::BlockdevBackup(c) => self.backup(c),
-            Command::BlockJobCancel(job, force) => {
-                self.put("device", job.as_str());
-                self.flag("force", *force);
-            }
-            Command::BlockJobComplete(job) => self.put("device", job.as_str()),
-            Command::QueryNamedBlockNodes(flat) => self.flag("flat", *flat),
-            Command::BitmapAdd(c) => self.bitmap_add(c),
-            Command::BitmapRemove(c)
-            | Command::BitmapClear(c)
-            | Command::BitmapEnable(c)
-            | Command::BitmapDisable(c) => self.bitmap_name(c),
-            Command::BitmapMerge(c) => self.bitmap_merge(c),
+fn put_file_ref(out: &mut Words, file: &FileRef) {
+    match file {
+        FileRef::Name(name) => member(out, "file", name.as_str()),
+        FileRef::Inline(inline) => {
+            member(out, "file", "{");
+            put_inline_file(out, inline);
+            out.put("}");
         }
     }
 }
 
-/// A command in words.
-pub(crate) fn shown(alloc: Global, command: &Command) -> Result<String, RowStop> {
-    let out = String::from_str(alloc, command_name(command))?;
-    let mut words = Words {
-        out,
-        is_whole: true,
-    };
-    words.members(command);
-    if !words.is_whole {
-        return Err(RowStop::NoMemory);
+fn put_backing(out: &mut Words, backing: &Option<BackingRef>) {
+    match backing {
+        Some(BackingRef::Null) => out.put(" backing"),
+        Some(BackingRef::Name(name)) => member(out, "backing", name.as_str()),
+        None => {}
     }
-    Ok(words.out)
+}
+
+fn put_add_raw(out: &mut Words, c: &AddRaw) {
+    member(out, "driver", "raw");
+    put_file_ref(out, &c.file);
+    maybe_amount(out, "offset", c.offset);
+    maybe_amount(out, "size", c.size);
+}
+
+fn put_add_qcow2(out: &mut Words, c: &AddQcow2) {
+    member(out, "driver", "qcow2");
+    put_file_ref(out, &c.file);
+    put_backing(out, &c.backing);
+}
+
+fn put_added(out: &mut Words, added: &Added) {
+    match added {
+        Added::File(name) => {
+            member(out, "driver", "file");
+            member(out, "filename", name.as_str());
+        }
+        Added::Raw(c) => put_add_raw(out, c),
+        Added::Qcow2(c) => put_add_qcow2(out, c),
+        Added::CopyOnRead(name) => {
+            member(out, "driver", "copy-on-read");
+            member(out, "file", name.as_str());
+        }
+        Added::Unknown => member(out, "driver", "?"),
+    }
+}
+
+fn put_blockdev_add(out: &mut Words, c: &BlockdevAdd) {
+    member(out, "node-name", c.node_name.as_str());
+    put_node_options(out, &c.options);
+    put_added(out, &c.driver);
+}
+
+fn put_create_qcow2(out: &mut Words, c: &CreateQcow2) {
+    member(out, "driver", "qcow2");
+    member(out, "file", c.file.as_str());
+    maybe_amount(out, "size", Some(c.size));
+    maybe_text(out, "backing-file", &c.backing_file);
+    maybe_word(out, "backing-fmt", image_format(c.backing_fmt));
+    maybe_amount(out, "cluster-size", c.cluster_size);
+    maybe_amount(out, "refcount-bits", c.refcount_bits);
+    maybe_word(out, "version", version(c.version));
+}
+
+fn put_created(out: &mut Words, created: &Created) {
+    match created {
+        Created::File(c) => {
+            member(out, "driver", "file");
+            member(out, "filename", c.filename.as_str());
+            maybe_amount(out, "size", Some(c.size));
+        }
+        Created::Qcow2(c) => put_create_qcow2(out, c),
+        Created::Unknown => member(out, "driver", "?"),
+    }
+}
+
+fn put_blockdev_create(out: &mut Words, c: &BlockdevCreate) {
+    member(out, "job-id", c.job_id.as_str());
+    put_created(out, &c.options);
+}
+
+fn put_snapshot(out: &mut Words, c: &Snapshot) {
+    member(out, "node", c.node.as_str());
+    member(out, "overlay", c.overlay.as_str());
+}
+
+fn put_device_add(out: &mut Words, c: &DeviceAdd) {
+    member(out, "driver", device_driver(c.driver));
+    member(out, "id", c.id.as_str());
+    member(out, "drive", c.drive.as_str());
+    maybe_word(out, "share-rw", sharing(c.share_rw));
+    maybe_text(out, "bus", &c.bus);
+    maybe_text(out, "addr", &c.addr);
+    maybe_text(out, "serial", &c.serial);
+    maybe_text(out, "write-cache", &c.write_cache);
+    maybe_amount(out, "bootindex", c.bootindex);
+}
+
+fn put_bitmap_add(out: &mut Words, c: &BitmapAdd) {
+    member(out, "node", c.node.as_str());
+    member(out, "name", c.name.as_str());
+    maybe_amount(out, "granularity", c.granularity);
+    maybe_flag(out, "persistent", c.persistent);
+    maybe_flag(out, "disabled", c.disabled);
+}
+
+fn put_bitmap_name(out: &mut Words, c: &BitmapName) {
+    member(out, "node", c.node.as_str());
+    member(out, "name", c.name.as_str());
+}
+
+fn put_source(out: &mut Words, source: &MergeSource) {
+    match source {
+        MergeSource::Name(name) => member(out, "name", name.as_str()),
+        MergeSource::Of(bitmap) => put_bitmap_name(out, bitmap),
+    }
+}
+
+fn put_bitmap_merge(out: &mut Words, c: &BitmapMerge) {
+    member(out, "node", c.node.as_str());
+    member(out, "target", c.target.as_str());
+    member(out, "bitmaps", "[");
+    for source in &c.bitmaps {
+        put_source(out, source);
+        out.put(";");
+    }
+    out.put("]");
+}
+
+fn put_action(out: &mut Words, action: &Action) {
+    out.put(" ");
+    out.put(action_name(action));
+    match action {
+        Action::Abort | Action::Unknown => {}
+        Action::Snapshot(c) => put_snapshot(out, c),
+        Action::Backup(c) => put_backup(out, c),
+        Action::BitmapAdd(c) => put_bitmap_add(out, c),
+        Action::BitmapRemove(c)
+        | Action::BitmapClear(c)
+        | Action::BitmapEnable(c)
+        | Action::BitmapDisable(c) => put_bitmap_name(out, c),
+        Action::BitmapMerge(c) => put_bitmap_merge(out, c),
+    }
+}
+
+fn put_transaction(out: &mut Words, c: &Transaction) {
+    member(out, "actions", "[");
+    for action in &c.actions {
+        put_action(out, action);
+        out.put(";");
+    }
+    out.put("]");
+    maybe_word(out, "completion-mode", completion_mode(c.completion_mode));
+}
+
+fn put_members(out: &mut Words, command: &Command) {
+    match command {
+        Command::Capabilities(Some(texts)) => put_texts(out, "enable", texts),
+        Command::Capabilities(None) | Command::QueryBlockJobs => {}
+        Command::BlockdevCreate(c) => put_blockdev_create(out, c),
+        Command::JobDismiss(id) | Command::DeviceDel(id) => member(out, "id", id.as_str()),
+        Command::BlockdevAdd(c) => put_blockdev_add(out, c),
+        Command::BlockdevDel(name) => member(out, "node-name", name.as_str()),
+        Command::DeviceAdd(c) => put_device_add(out, c),
+        Command::BlockdevSnapshot(c) => put_snapshot(out, c),
+        Command::Transaction(c) => put_transaction(out, c),
+        Command::BlockStream(c) => put_stream(out, c),
+        Command::BlockCommit(c) => put_commit(out, c),
+        Command::BlockdevMirror(c) => put_mirror(out, c),
+        Command::BlockdevBackup(c) => put_backup(out, c),
+        Command::BlockJobCancel(job, force) => {
+            member(out, "device", job.as_str());
+            maybe_flag(out, "force", *force);
+        }
+        Command::BlockJobComplete(job) => member(out, "device", job.as_str()),
+        Command::QueryNamedBlockNodes(flat) => maybe_flag(out, "flat", *flat),
+        Command::BitmapAdd(c) => put_bitmap_add(out, c),
+        Command::BitmapRemove(c)
+        | Command::BitmapClear(c)
+        | Command::BitmapEnable(c)
+        | Command::BitmapDisable(c) => put_bitmap_name(out, c),
+        Command::BitmapMerge(c) => put_bitmap_merge(out, c),
+    }
+}
+
+/// Puts a command in words.
+pub(crate) fn put_command(out: &mut Words, command: &Command) {
+    out.put(command_name(command));
+    put_members(out, command);
 }

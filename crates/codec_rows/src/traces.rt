@@ -1,8 +1,8 @@
 //! Traces: lines that are read and written, and those that are refused.
 
-use row_text::{Row, RowStop};
+use blk_base::Span;
+use row_text::{Row, RowStop, Words, same};
 use std::alloc::Global;
-use std::fmt::Write;
 use std::str;
 use trace_codec::{Op, Ops, Payload, Totals, TraceStop, read_trace, read_trace_after, write_trace};
 
@@ -49,14 +49,11 @@ pub(crate) const ASKS: [(&str, Ask); 5] = [
     ("stop", Ask::Stop),
 ];
 
-/// How many requests were read, or why they were refused.
-fn count(alloc: Global, read: Result<Ops, TraceStop>) -> Result<String, RowStop> {
+/// Puts how many requests were read, or why they were refused.
+fn put_count(read: Result<Ops, TraceStop>, out: &mut Words) {
     match read {
-        Ok(ops) => {
-            let count = ops.len();
-            Ok(format!(in alloc; "{count}")?)
-        }
-        Err(stop) => Ok(format!(in alloc; "{stop}")?),
+        Ok(ops) => out.number(ops.len() as u64),
+        Err(stop) => out.show(&stop),
     }
 }
 
@@ -85,70 +82,79 @@ impl TraceText {
     }
 
     /// `count`: how many requests the text has, or why it is refused.
-    fn count(&self, alloc: Global) -> Result<String, RowStop> {
+    fn count(&self, alloc: Global, out: &mut Words) -> Result<(), RowStop> {
         let text = utf8(self.bytes.as_slice())?;
-        count(alloc, read_trace(alloc, text))
+        put_count(read_trace(alloc, text), out);
+        Ok(())
     }
 
     /// `go-on`: the same behind what is asked so far.
-    fn go_on(&mut self, alloc: Global) -> Result<String, RowStop> {
+    fn go_on(&mut self, alloc: Global, out: &mut Words) -> Result<(), RowStop> {
         let text = utf8(self.bytes.as_slice())?;
-        count(alloc, read_trace_after(alloc, &mut self.asked, text))
+        put_count(read_trace_after(alloc, &mut self.asked, text), out);
+        Ok(())
     }
 
-    /// What is answered to a row on the text.
+    /// Puts what is answered to a row on the text.
     pub(crate) fn answer_to(
         &mut self,
         alloc: Global,
         part: Part,
         row: &Row,
-    ) -> Result<String, RowStop> {
+        out: &mut Words,
+    ) -> Result<(), RowStop> {
         match part {
             // `new`: the text is empty
             Part::New => self.bytes.clear(),
             Part::More => self.more(alloc, row)?,
-            Part::Count => return self.count(alloc),
+            Part::Count => return self.count(alloc, out),
             // `totals`: nothing is asked so far
             Part::Totals => self.asked = Totals::new(),
-            Part::GoOn => return self.go_on(alloc),
+            Part::GoOn => return self.go_on(alloc, out),
         }
-        Ok(String::from_str(alloc, "ok")?)
+        out.put("ok");
+        Ok(())
     }
 }
 
 /// `trace BYTES`: how many requests a trace has, or why it is refused.
-fn trace(alloc: Global, row: &Row) -> Result<String, RowStop> {
+fn trace(alloc: Global, row: &Row, out: &mut Words) -> Result<(), RowStop> {
     let bytes = row.bytes(alloc, 0)?;
     let text = utf8(bytes.as_slice())?;
-    count(alloc, read_trace(alloc, text))
+    put_count(read_trace(alloc, text), out);
+    Ok(())
 }
 
-/// Puts what a request is, its offset and length, and the bytes that a write has.
-fn put_request(out: &mut String, op: &Op) -> Result<(), RowStop> {
-    match op {
-        Op::Read(span) => write!(out, "read {} {}", span.start, span.len)?,
-        Op::Zero(span) => write!(out, "zero {} {}", span.start, span.len)?,
-        Op::Flush => out.push_str("flush")?,
-        Op::Discard(span) => write!(out, "discard {} {}", span.start, span.len)?,
-        Op::Write(span, payload) => {
-            write!(out, "write {} {}", span.start, span.len)?;
-            put_payload(out, payload)?;
-        }
-    }
-    Ok(())
+/// Puts a request of a span.
+fn put_span(what: &str, span: &Span, out: &mut Words) {
+    out.put(what);
+    out.fill(" % %", &[span.start, span.len]);
 }
 
 /// Puts the byte that a write fills with, or each that it has.
-fn put_payload(out: &mut String, payload: &Payload) -> Result<(), RowStop> {
+fn put_payload(payload: &Payload, out: &mut Words) {
     match payload {
-        Payload::Fill(byte) => write!(out, " fill {byte}")?,
+        Payload::Fill(byte) => out.fill(" fill %", &[u64::from(*byte)]),
         Payload::Raw(bytes) => {
             for byte in bytes.as_slice() {
-                write!(out, " {byte}")?;
+                out.fill(" %", &[u64::from(*byte)]);
             }
         }
     }
-    Ok(())
+}
+
+/// Puts what a request is, its offset and length, and the bytes that a write has.
+fn put_request(op: &Op, out: &mut Words) {
+    match op {
+        Op::Read(span) => put_span("read", span, out),
+        Op::Zero(span) => put_span("zero", span, out),
+        Op::Flush => out.put("flush"),
+        Op::Discard(span) => put_span("discard", span, out),
+        Op::Write(span, payload) => {
+            put_span("write", span, out);
+            put_payload(payload, out);
+        }
+    }
 }
 
 /// The only request of a line.
@@ -163,22 +169,8 @@ fn only(alloc: Global, line: &str) -> Result<Op, RowStop> {
     }
 }
 
-/// `request LINE`: what it asks.
-fn request(alloc: Global, row: &Row) -> Result<String, RowStop> {
-    let mut out = String::new(alloc);
-    put_request(&mut out, &only(alloc, row.words.trim_ascii())?)?;
-    Ok(out)
-}
-
-/// `sizes LINE`: how many pieces its request has, and how many bytes it reads.
-fn sizes(alloc: Global, row: &Row) -> Result<String, RowStop> {
-    let op = only(alloc, row.words.trim_ascii())?;
-    let (pieces, bytes) = (op.pieces(), op.read_bytes());
-    Ok(format!(in alloc; "{pieces} pieces, {bytes} bytes")?)
-}
-
 /// `written BYTES`: how a trace is written, with a semicolon behind each line.
-fn written(alloc: Global, row: &Row) -> Result<String, RowStop> {
+fn written(alloc: Global, row: &Row, out: &mut Words) -> Result<(), RowStop> {
     let bytes = row.bytes(alloc, 0)?;
     let Ok(ops) = read_trace(alloc, utf8(bytes.as_slice())?) else {
         return Err(RowStop::Word);
@@ -186,33 +178,45 @@ fn written(alloc: Global, row: &Row) -> Result<String, RowStop> {
     let Ok(text) = write_trace(alloc, &ops) else {
         return Err(RowStop::NoMemory);
     };
-    let mut out = String::new(alloc);
-    for line in text.as_str().split('\n') {
-        if !line.is_empty() {
-            write!(out, "{line};")?;
-        }
+    out.swapped(text.as_str(), '\n', ';');
+    Ok(())
+}
+
+/// `stop bad-line LINE`, `stop too-many LINE`, `stop no-memory`: that refusal.
+fn stop_of(row: &Row) -> Result<TraceStop, RowStop> {
+    let word = row.word(0)?;
+    if same(word, "no-memory") {
+        return Ok(TraceStop::NoMemory);
     }
-    Ok(out)
+    let line = row.short(1)?;
+    if same(word, "bad-line") {
+        return Ok(TraceStop::BadLine(line));
+    }
+    if same(word, "too-many") {
+        return Ok(TraceStop::TooMany(line));
+    }
+    Err(RowStop::Word)
 }
 
-/// `stop bad-line LINE`, `stop too-many LINE`, `stop no-memory`: how that refusal is printed.
-fn stop(alloc: Global, row: &Row) -> Result<String, RowStop> {
-    let stop = match row.word(0)? {
-        "bad-line" => TraceStop::BadLine(row.short(1)?),
-        "too-many" => TraceStop::TooMany(row.short(1)?),
-        "no-memory" => TraceStop::NoMemory,
-        _ => return Err(RowStop::Word),
-    };
-    Ok(format!(in alloc; "{stop}")?)
-}
-
-/// What is answered to a row that has a text.
-pub(crate) fn answer_to(alloc: Global, ask: Ask, row: &Row) -> Result<String, RowStop> {
+/// Puts what is answered to a row that has a text.
+pub(crate) fn answer_to(
+    alloc: Global,
+    ask: Ask,
+    row: &Row,
+    out: &mut Words,
+) -> Result<(), RowStop> {
     match ask {
-        Ask::Trace => trace(alloc, row),
-        Ask::Request => request(alloc, row),
-        Ask::Sizes => sizes(alloc, row),
-        Ask::Written => written(alloc, row),
-        Ask::Stop => stop(alloc, row),
+        Ask::Trace => return trace(alloc, row, out),
+        // `request LINE`: what it asks
+        Ask::Request => put_request(&only(alloc, row.text())?, out),
+        // `sizes LINE`: how many pieces its request has, and how many bytes it reads
+        Ask::Sizes => {
+            let op = only(alloc, row.text())?;
+            out.fill("% pieces, % bytes", &[op.pieces(), op.read_bytes()]);
+        }
+        Ask::Written => return written(alloc, row, out),
+        // how a refusal is printed
+        Ask::Stop => out.show(&stop_of(row)?),
     }
+    Ok(())
 }

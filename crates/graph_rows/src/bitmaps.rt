@@ -4,9 +4,8 @@ use crate::row::{node, nth};
 use blk_base::{Span, Text};
 use blk_bitmaps::{Bitmap, BitmapStop, Bitmaps, SourceBitmap, Sources};
 use blk_graph::{Graph, NodeId};
-use row_text::{Row, RowStop};
+use row_text::{Row, RowStop, Words};
 use std::alloc::Global;
-use std::fmt::Write;
 
 /// What the table answers, where the words say a call.
 type Answer = Result<Result<(), BitmapStop>, RowStop>;
@@ -90,14 +89,18 @@ fn release(table: &mut Bitmaps, row: &Row) -> Answer {
     Ok(Ok(()))
 }
 
+/// The span whose start and length stand at a place.
+fn span(row: &Row, place: usize) -> Result<Span, RowStop> {
+    Ok(Span {
+        start: u64::from(row.short(place)?),
+        len: u64::from(row.short(place.saturating_add(1))?),
+    })
+}
+
 /// `write NODE START LENGTH`.
 fn write(table: &mut Bitmaps, graph: &Graph, row: &Row) -> Answer {
     let node = node(graph, row, 0)?;
-    let span = Span {
-        start: u64::from(row.short(1)?),
-        len: u64::from(row.short(2)?),
-    };
-    table.note_write(node, span);
+    table.note_write(node, span(row, 1)?);
     Ok(Ok(()))
 }
 
@@ -122,14 +125,15 @@ fn change(table: &mut Bitmaps, graph: &Graph, call: Call, row: &Row) -> Answer {
     }
 }
 
-/// What is answered to a call.
+/// Puts what is answered to a call.
 pub(crate) fn answer_to(
     alloc: Global,
     table: &mut Bitmaps,
     graph: &Graph,
     call: Call,
     row: &Row,
-) -> Result<String, RowStop> {
+    out: &mut Words,
+) -> Result<(), RowStop> {
     let answer = match call {
         Call::Add => add(alloc, table, graph, row)?,
         Call::AddToAll => add_to_all(alloc, table, graph, row)?,
@@ -140,58 +144,38 @@ pub(crate) fn answer_to(
         _ => change(table, graph, call, row)?,
     };
     match answer {
-        Ok(()) => Ok(String::from_str(alloc, "ok")?),
-        Err(stop) => Ok(format!(in alloc; "{stop}")?),
-    }
-}
-
-/// Puts a picture of a bitmap: `#` for each granule that is dirty, a point for each other; and how many bytes are dirty
-/// where that isn't what the picture says.
-fn push_bitmap(out: &mut String, bitmap: &Bitmap) -> Result<(), RowStop> {
-    let mut marks: u64 = 0;
-    for granule in 0..bitmap.dirty.granules() {
-        let is_dirty = bitmap.is_dirty(granule);
-        marks = marks.saturating_add(u64::from(is_dirty));
-        out.push(if is_dirty { '#' } else { '.' })?;
-    }
-    let bytes = bitmap.dirty_bytes();
-    if bytes != bitmap.granularity.bytes().saturating_mul(marks) {
-        write!(out, " of {bytes} bytes")?;
+        Ok(()) => out.put("ok"),
+        Err(stop) => out.show(&stop),
     }
     Ok(())
 }
 
+/// Puts a picture of a bitmap: `#` for each granule that is dirty, a point for each other; and how many bytes are dirty
+/// where that isn't what the picture says.
+fn put_bitmap(bitmap: &Bitmap, out: &mut Words) {
+    let mut marks: u64 = 0;
+    for granule in 0..bitmap.dirty.granules() {
+        let is_dirty = bitmap.is_dirty(granule);
+        marks = marks.saturating_add(u64::from(is_dirty));
+        out.put(if is_dirty { "#" } else { "." });
+    }
+    let bytes = bitmap.dirty_bytes();
+    if bytes != bitmap.granularity.bytes().saturating_mul(marks) {
+        out.fill(" of % bytes", &[bytes]);
+    }
+}
+
 /// Puts a picture of the bitmap of that name, or `none`.
-pub(crate) fn push_picture(
-    out: &mut String,
-    table: &Bitmaps,
-    node: NodeId,
-    name: &str,
-) -> Result<(), RowStop> {
+pub(crate) fn put_picture(table: &Bitmaps, node: NodeId, name: &str, out: &mut Words) {
     match table.find(node, name) {
-        Some(bitmap) => push_bitmap(out, bitmap),
-        None => Ok(out.push_str("none")?),
+        Some(bitmap) => put_bitmap(bitmap, out),
+        None => out.put("none"),
     }
 }
 
-/// `picture NODE NAME`.
-fn picture(alloc: Global, table: &Bitmaps, graph: &Graph, row: &Row) -> Result<String, RowStop> {
-    let node = node(graph, row, 0)?;
-    let mut out = String::new(alloc);
-    push_picture(&mut out, table, node, row.word(1)?)?;
-    Ok(out)
-}
-
-/// `dirty NODE NAME`: the bytes that a query tells.
-fn dirty(alloc: Global, table: &Bitmaps, graph: &Graph, row: &Row) -> Result<String, RowStop> {
-    let node = node(graph, row, 0)?;
-    match table.find(node, row.word(1)?) {
-        Some(bitmap) => {
-            let bytes = bitmap.dirty_bytes();
-            Ok(format!(in alloc; "{bytes}")?)
-        }
-        None => Ok(String::from_str(alloc, "none")?),
-    }
+/// How many bytes of the bitmap of that name are dirty, as a query tells.
+fn dirty(table: &Bitmaps, node: NodeId, name: &str) -> Option<u64> {
+    Some(table.find(node, name)?.dirty_bytes())
 }
 
 /// A table with a bitmap `x` of a node.
@@ -208,28 +192,19 @@ fn with_bitmap(
     }
 }
 
-/// The dirty bytes of the bitmap `x` of a node.
-fn count(table: &Bitmaps, node: NodeId) -> Option<u64> {
-    Some(table.find(node, "x")?.dirty_bytes())
-}
-
 /// `marks SIZE GRANULARITY START LENGTH`: a new bitmap of the first node behind that write, and one of the second node.
-fn marks(alloc: Global, graph: &Graph, row: &Row) -> Result<String, RowStop> {
-    let node = nth(graph, row, 0)?;
-    let other = nth(graph, row, 1)?;
-    let span = Span {
-        start: u64::from(row.short(2)?),
-        len: u64::from(row.short(3)?),
-    };
+fn marks(alloc: Global, graph: &Graph, row: &Row, out: &mut Words) -> Result<(), RowStop> {
+    let node = nth(graph, 0)?;
+    let other = nth(graph, 1)?;
+    let span = span(row, 2)?;
     let mut table = with_bitmap(alloc, node, row.number(0)?, row.number(1)?)?;
     table.note_write(other, Span { start: 0, len: 512 });
-    let mut out = String::new(alloc);
-    if count(&table, node) != Some(0) {
-        out.push_str("marked by a write elsewhere, ")?;
+    if dirty(&table, node, "x") != Some(0) {
+        out.put("marked by a write elsewhere, ");
     }
     table.note_write(node, span);
-    push_picture(&mut out, &table, node, "x")?;
-    Ok(out)
+    put_picture(&table, node, "x", out);
+    Ok(())
 }
 
 #[derive(Clone, Copy)]
@@ -247,21 +222,22 @@ pub(crate) const ASKS: [(&str, Ask); 4] = [
     ("marks", Ask::Marks),
 ];
 
-/// What a row asks of bitmaps.
+/// Puts what a row asks of bitmaps.
 pub(crate) fn asked(
     alloc: Global,
     table: &Bitmaps,
     graph: &Graph,
     ask: Ask,
     row: &Row,
-) -> Result<String, RowStop> {
+    out: &mut Words,
+) -> Result<(), RowStop> {
     match ask {
-        Ask::Count => {
-            let count = table.rows().len();
-            Ok(format!(in alloc; "{count}")?)
-        }
-        Ask::Dirty => dirty(alloc, table, graph, row),
-        Ask::Picture => picture(alloc, table, graph, row),
-        Ask::Marks => marks(alloc, graph, row),
+        Ask::Count => out.number(table.rows().len() as u64),
+        // `dirty NODE NAME`
+        Ask::Dirty => out.maybe(dirty(table, node(graph, row, 0)?, row.word(1)?)),
+        // `picture NODE NAME`
+        Ask::Picture => put_picture(table, node(graph, row, 0)?, row.word(1)?, out),
+        Ask::Marks => return marks(alloc, graph, row, out),
     }
+    Ok(())
 }

@@ -1,11 +1,9 @@
 //! A list of edges apart from its graph.
 
-use crate::graph::yes_or_no;
 use crate::row::node;
-use crate::words::{ROLES, answer_text, name_of};
-use blk_graph::{EdgeList, Graph, GraphStop, Parent};
-use row_text::{Row, RowStop};
-use std::alloc::Global;
+use crate::words::{ROLES, name_of, put_conflict};
+use blk_graph::{EdgeList, Graph, Parent};
+use row_text::{Row, RowStop, Words};
 
 #[derive(Clone, Copy)]
 pub(crate) enum Ask {
@@ -52,10 +50,10 @@ fn move_all(graph: &Graph, draft: &mut EdgeList, row: &Row) -> Result<&'static s
 }
 
 /// `draft-path FROM TO`.
-fn path(graph: &Graph, draft: &EdgeList, row: &Row) -> Result<&'static str, RowStop> {
+fn path(graph: &Graph, draft: &EdgeList, row: &Row) -> Result<bool, RowStop> {
     let from = node(graph, row, 0)?;
     let to = node(graph, row, 1)?;
-    Ok(yes_or_no(draft.reaches(from, to)))
+    Ok(draft.reaches(from, to))
 }
 
 /// `draft-cut NODE ROLE`: the node's edge of that role goes.
@@ -67,33 +65,29 @@ fn cut(graph: &Graph, draft: &mut EdgeList, row: &Row) -> Result<&'static str, R
 }
 
 /// `draft-judge`: derives what is asked and shared, and looks for a conflict.
-fn judge(alloc: Global, graph: &Graph, draft: &mut EdgeList) -> Result<String, RowStop> {
+fn judge(graph: &Graph, draft: &mut EdgeList, out: &mut Words) {
     draft.refresh(graph.kinds());
-    let answer = match draft.judge(graph.nodes()) {
-        Ok(()) => Ok(()),
-        Err(pair) => Err(GraphStop::Conflict(pair)),
-    };
-    Ok(answer_text(alloc, graph, &answer)?)
+    match draft.judge(graph.nodes()) {
+        Ok(()) => out.put("ok"),
+        Err(pair) => put_conflict(graph, &pair, out),
+    }
 }
 
-/// What comes of a row on the list.
+/// Puts what comes of a row on the list.
 pub(crate) fn answer_to(
-    alloc: Global,
     graph: &Graph,
     draft: &mut EdgeList,
     ask: Ask,
     row: &Row,
-) -> Result<String, RowStop> {
-    let answer = match ask {
-        Ask::Child => child(graph, draft, row)?,
-        Ask::Move => move_all(graph, draft, row)?,
-        Ask::Path => path(graph, draft, row)?,
-        Ask::Cut => cut(graph, draft, row)?,
-        Ask::Judge => return judge(alloc, graph, draft),
-        Ask::Count => {
-            let count = draft.as_slice().len();
-            return Ok(format!(in alloc; "{count}")?);
-        }
-    };
-    Ok(String::from_str(alloc, answer)?)
+    out: &mut Words,
+) -> Result<(), RowStop> {
+    match ask {
+        Ask::Child => out.put(child(graph, draft, row)?),
+        Ask::Move => out.put(move_all(graph, draft, row)?),
+        Ask::Path => out.yes_or_no(path(graph, draft, row)?),
+        Ask::Cut => out.put(cut(graph, draft, row)?),
+        Ask::Judge => judge(graph, draft, out),
+        Ask::Count => out.number(draft.as_slice().len() as u64),
+    }
+    Ok(())
 }

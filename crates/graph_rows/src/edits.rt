@@ -2,10 +2,10 @@
 ghost use Rattle.std.specs.Prelude.{◌<◌};
 
 use crate::row::{guest, job, node, nth};
-use crate::words::{JOB_USES, push_stop, push_user};
+use crate::words::{JOB_USES, put_stop, put_user};
 use blk_base::Text;
 use blk_graph::{Edge, Graph, GraphStop, JobUse, NO_KIND, Parent, Perms, Role};
-use row_text::{Row, RowStop};
+use row_text::{Row, RowStop, Words};
 use std::alloc::Global;
 
 /// What the graph answers, where the words say an edit.
@@ -188,10 +188,10 @@ fn make_writable(graph: &mut Graph, row: &Row) -> Answer {
 }
 
 /// `chain`: each node gets a backing edge to the one that was added behind it, from the last on.
-fn chain(graph: &mut Graph, row: &Row) -> Answer {
+fn chain(graph: &mut Graph) -> Answer {
     for place in (1..graph.nodes().len()).rev() {
-        let parent = nth(graph, row, place.saturating_sub(1))?;
-        let child = nth(graph, row, place)?;
+        let parent = nth(graph, place.saturating_sub(1))?;
+        let child = nth(graph, place)?;
         if !graph.has_role(parent, Role::Backing) {
             return Err(RowStop::Call);
         }
@@ -204,14 +204,14 @@ fn chain(graph: &mut Graph, row: &Row) -> Answer {
 }
 
 /// A job holds all nodes, and the last of them twice.
-fn hold_by(graph: &mut Graph, row: &Row, job: u32) -> Answer
+fn hold_by(graph: &mut Graph, job: u32) -> Answer
     requires { job < 16 }
 {
-    let last = nth(graph, row, graph.nodes().len().saturating_sub(1))?;
+    let last = nth(graph, graph.nodes().len().saturating_sub(1))?;
     let mut answer = graph.set_edge(Edge::of_job(job, JobUse::StreamTop, last));
     for place in 0..graph.nodes().len() {
         if answer.is_ok() {
-            let child = nth(graph, row, place)?;
+            let child = nth(graph, place)?;
             answer = graph.set_edge(Edge::of_job(job, JobUse::StreamBelow, child));
         }
     }
@@ -219,9 +219,9 @@ fn hold_by(graph: &mut Graph, row: &Row, job: u32) -> Answer
 }
 
 /// `hold-all`: so does each of 16 jobs.
-fn hold_all(graph: &mut Graph, row: &Row) -> Answer {
+fn hold_all(graph: &mut Graph) -> Answer {
     for job in 0..16 {
-        let answer = hold_by(graph, row, job)?;
+        let answer = hold_by(graph, job)?;
         if answer.is_err() {
             return Ok(answer);
         }
@@ -249,23 +249,23 @@ fn edited(alloc: Global, graph: &mut Graph, edit: Edit, row: &Row) -> Answer {
         Edit::Pivot => pivot(graph, row),
         Edit::Writable => make_writable(graph, row),
         Edit::ReadOnly => make_read_only(graph, row),
-        Edit::Chain => chain(graph, row),
-        Edit::HoldAll => hold_all(graph, row),
+        Edit::Chain => chain(graph),
+        Edit::HoldAll => hold_all(graph),
     }
 }
 
-/// What is answered to an edit.
+/// Puts what is answered to an edit.
 pub(crate) fn answer_to(
     alloc: Global,
     graph: &mut Graph,
     edit: Edit,
     row: &Row,
-) -> Result<String, RowStop> {
-    let mut out = String::new(alloc);
+    out: &mut Words,
+) -> Result<(), RowStop> {
     match edited(alloc, graph, edit, row)? {
-        Ok(()) => out.push_str("ok")?,
-        Err(GraphStop::InUse(parent)) => push_user(&mut out, graph, &parent)?,
-        Err(stop) => push_stop(&mut out, graph, &stop)?,
+        Ok(()) => out.put("ok"),
+        Err(GraphStop::InUse(parent)) => put_user(graph, &parent, out),
+        Err(stop) => put_stop(graph, &stop, out),
     }
-    Ok(out)
+    Ok(())
 }

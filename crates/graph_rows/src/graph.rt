@@ -1,10 +1,10 @@
 //! New graphs by rows, and what rows ask of a graph.
 
 use crate::row::node;
-use crate::words::{KINDS, edges_text, uses_text};
+use crate::words::{KINDS, put_edges, put_uses};
 use blk_base::Text;
-use blk_graph::{Graph, Kind, NodeKind, Uses};
-use row_text::{Row, RowStop, named};
+use blk_graph::{Graph, Kind, NodeKind};
+use row_text::{Row, RowStop, Words, cut, named};
 use std::alloc::Global;
 
 /// Adds a node that may be written.
@@ -17,21 +17,19 @@ fn add_node(alloc: Global, graph: &mut Graph, name: &str, kind: Kind) -> Result<
 }
 
 /// Adds a node by a word, `NAME:KIND`.
-fn add_word(alloc: Global, graph: &mut Graph, row: &Row, word: &str) -> Result<(), RowStop> {
-    let Some((name, kind)) = word.split_once(':') else {
-        return Err(RowStop::Word);
-    };
-    let Some(kind) = named(&KINDS, kind) else {
-        return Err(RowStop::Word);
-    };
-    add_node(alloc, graph, name, kind)
+fn add_word(alloc: Global, graph: &mut Graph, word: &str) -> Result<(), RowStop> {
+    let (name, kind) = cut(word, ":");
+    match named(&KINDS, kind) {
+        Some(kind) => add_node(alloc, graph, name, kind),
+        None => Err(RowStop::Word),
+    }
 }
 
 /// `nodes NAME:KIND ..`: a graph with these nodes, which may be written.
 pub(crate) fn nodes(alloc: Global, row: &Row) -> Result<Graph, RowStop> {
     let mut graph = Graph::new(alloc)?;
     for word in row.words.split_whitespace() {
-        add_word(alloc, &mut graph, row, word)?;
+        add_word(alloc, &mut graph, word)?;
     }
     Ok(graph)
 }
@@ -40,7 +38,8 @@ pub(crate) fn nodes(alloc: Global, row: &Row) -> Result<Graph, RowStop> {
 pub(crate) fn many(alloc: Global, row: &Row) -> Result<Graph, RowStop> {
     let mut graph = Graph::new(alloc)?;
     for number in 0..row.number(0)? {
-        let name = format!(in alloc; "n{number}")?;
+        let mut name = Words::new(alloc);
+        name.fill("n%", &[number]);
         add_node(alloc, &mut graph, name.as_str(), Kind::Qcow2)?;
     }
     Ok(graph)
@@ -64,59 +63,39 @@ pub(crate) const ASKS: [(&str, Ask); 5] = [
 ];
 
 /// `id NAME`: the number of the node of that name.
-fn id(alloc: Global, graph: &Graph, row: &Row) -> Result<String, RowStop> {
-    match graph.node_named(row.word(0)?) {
-        Some(node) => {
-            let id = node.index();
-            Ok(format!(in alloc; "{id}")?)
-        }
-        None => Ok(String::from_str(alloc, "none")?),
-    }
+fn id(graph: &Graph, name: &str) -> Option<u64> {
+    Some(graph.node_named(name)?.index() as u64)
 }
 
 /// `uses PLACE`: what the edge at a place, counted from 0, asks and shares.
-fn uses(alloc: Global, graph: &Graph, row: &Row) -> Result<String, RowStop> {
-    match graph.edges().get(row.short(0)? as usize) {
-        Some(edge) => Ok(uses_text(
-            alloc,
-            Uses {
-                perm: edge.perm,
-                shared: edge.shared,
-            },
-        )?),
-        None => Ok(String::from_str(alloc, "none")?),
+fn put_edge(graph: &Graph, place: usize, out: &mut Words) {
+    match graph.edges().get(place) {
+        Some(edge) => put_uses(edge.perm, edge.shared, out),
+        None => out.put("none"),
     }
-}
-
-/// `count`: how many edges there are.
-fn count(alloc: Global, graph: &Graph) -> Result<String, RowStop> {
-    let count = graph.edges().len();
-    Ok(format!(in alloc; "{count}")?)
 }
 
 /// `path FROM TO`: whether one node leads to the other.
-fn path(alloc: Global, graph: &Graph, row: &Row) -> Result<String, RowStop> {
+fn path(graph: &Graph, row: &Row) -> Result<bool, RowStop> {
     let from = node(graph, row, 0)?;
     let to = node(graph, row, 1)?;
-    Ok(String::from_str(alloc, yes_or_no(graph.reaches(from, to)))?)
+    Ok(graph.reaches(from, to))
 }
 
-pub(crate) fn yes_or_no(is_so: bool) -> &'static str {
-    if is_so { "yes" } else { "no" }
-}
-
-/// What a row asks of a graph.
+/// Puts what a row asks of a graph.
 pub(crate) fn answer_to(
-    alloc: Global,
     graph: &Graph,
     ask: Ask,
     row: &Row,
-) -> Result<String, RowStop> {
+    out: &mut Words,
+) -> Result<(), RowStop> {
     match ask {
-        Ask::Id => id(alloc, graph, row),
-        Ask::Edges => Ok(edges_text(alloc, graph)?),
-        Ask::Uses => uses(alloc, graph, row),
-        Ask::Count => count(alloc, graph),
-        Ask::Path => path(alloc, graph, row),
+        Ask::Id => out.maybe(id(graph, row.word(0)?)),
+        Ask::Edges => put_edges(graph, out),
+        Ask::Uses => put_edge(graph, row.short(0)? as usize, out),
+        // `count`: how many edges there are
+        Ask::Count => out.number(graph.edges().len() as u64),
+        Ask::Path => out.yes_or_no(path(graph, row)?),
     }
+    Ok(())
 }

@@ -40,7 +40,7 @@ pub(crate) fn node(graph: &Graph, row: &Row, place: usize) -> Result<NodeId, Row
 }
 
 /// The node that was added at a place, counted from 0.
-pub(crate) fn nth(graph: &Graph, row: &Row, place: usize) -> Result<NodeId, RowStop>
+pub(crate) fn nth(graph: &Graph, place: usize) -> Result<NodeId, RowStop>
     ensures { IfOk result (HasNode graph.now) }
 {
     let nodes = graph.nodes();

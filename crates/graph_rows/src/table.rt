@@ -3,14 +3,14 @@
 ghost use Rattle.std.specs.Prelude.{◌<◌};
 
 use crate::row::nth;
-use crate::words::{JOB_USES, KINDS, ROLES, role_name, uses_text};
+use crate::words::{JOB_USES, KINDS, ROLES, put_uses, role_name};
 use blk_base::Text;
 use blk_graph::{
     Edge, EdgeList, Graph, Kind, MOST_NODES, NO_KIND, NodeId, NodeKind, Parent, Perm, Perms, Role,
     Uses,
 };
-use row_text::{Row, RowStop};
-use std::alloc::{AllocError, Global};
+use row_text::{Row, RowStop, Words, same};
+use std::alloc::Global;
 
 /// What a letter may depend on: what the edges into the node ask together, and what all of them share; and whether the
 /// node may be written.
@@ -121,77 +121,72 @@ fn derived(
     }
 }
 
-/// Where a node's edge isn't as the letters say.
-fn other_text(alloc: Global, derived: Option<Uses>, case: &Case) -> Result<String, RowStop> {
-    let above = uses_text(alloc, case.above)?;
-    let above = above.as_str();
-    let writes = case.writes;
+/// Puts where a node's edge isn't as the letters say.
+fn put_other(derived: Option<Uses>, case: &Case, out: &mut Words) {
     let Some(uses) = derived else {
-        return Ok(String::from_str(alloc, "no edge")?);
+        return out.put("no edge");
     };
-    let uses = uses_text(alloc, uses)?;
-    let uses = uses.as_str();
-    Ok(format!(in alloc; "{uses} below {above}, may be written: {writes}")?)
+    put_uses(uses.perm, uses.shared, out);
+    out.put(" below ");
+    put_uses(case.above.perm, case.above.shared, out);
+    out.put(", may be written: ");
+    out.yes_or_no(case.writes);
 }
 
 /// `of-node KIND ROLE ASKS SHARES`: whether that is so in all cases. The graph has two nodes.
-fn of_node(alloc: Global, graph: &Graph, row: &Row) -> Result<String, RowStop> {
+fn of_node(alloc: Global, graph: &Graph, row: &Row, out: &mut Words) -> Result<(), RowStop> {
     let kind = row.named(0, &KINDS)?;
     let role = row.named(1, &ROLES)?;
-    let nodes = (nth(graph, row, 0)?, nth(graph, row, 1)?);
+    let nodes = (nth(graph, 0)?, nth(graph, 1)?);
     for number in 0..128 {
         let case = case_of(number);
         let uses = derived(alloc, nodes, kind, role, &case)?;
         if uses != Some(uses_said(row, 2, &case)?) {
-            return other_text(alloc, uses, &case);
+            put_other(uses, &case, out);
+            return Ok(());
         }
     }
-    Ok(String::from_str(alloc, "ok")?)
+    out.put("ok");
+    Ok(())
 }
 
 /// `roles KIND`: those that a node of that kind has an edge of.
-fn roles(alloc: Global, row: &Row) -> Result<String, RowStop> {
+fn roles(row: &Row, out: &mut Words) -> Result<(), RowStop> {
     let kind = row.named(0, &KINDS)?;
-    let mut out = String::new(alloc);
     for (name, role) in &ROLES {
         if kind.has_role(*role) {
-            if !out.is_empty() {
-                out.push(' ')?;
-            }
-            out.push_str(*name)?;
+            out.part(" ", *name);
         }
     }
-    Ok(out)
+    Ok(())
 }
 
-fn edge_text(alloc: Global, edge: &Edge) -> Result<String, AllocError> {
-    let uses = uses_text(
-        alloc,
-        Uses {
-            perm: edge.perm,
-            shared: edge.shared,
-        },
-    )?;
-    let (role, uses) = (role_name(edge.role), uses.as_str());
-    format!(in alloc; "{role} {uses}")
+/// Puts the role of an edge, and what it asks and shares.
+fn put_edge(edge: &Edge, out: &mut Words) {
+    out.put(role_name(edge.role));
+    out.put(" ");
+    put_uses(edge.perm, edge.shared, out);
 }
 
 /// `of-job USE`: the edge of a job, if it is as the use says.
-fn of_job(alloc: Global, graph: &Graph, row: &Row) -> Result<String, RowStop> {
+fn of_job(graph: &Graph, row: &Row, out: &mut Words) -> Result<(), RowStop> {
     let what = row.named(0, &JOB_USES)?;
-    let edge = Edge::of_job(3, what, nth(graph, row, 0)?);
+    let edge = Edge::of_job(3, what, nth(graph, 0)?);
     let uses = what.uses();
     if edge.role != what.role() || edge.perm != uses.perm || edge.shared != uses.shared {
-        return Ok(String::from_str(alloc, "another than of the use alone")?);
+        out.put("another than of the use alone");
+    } else {
+        put_edge(&edge, out);
     }
-    Ok(edge_text(alloc, &edge)?)
+    Ok(())
 }
 
 /// `of-guest`: the edge of a guest, with `writes` of one that may write, with `shared` of one that lets others write.
-fn of_guest(alloc: Global, graph: &Graph, row: &Row) -> Result<String, RowStop> {
-    let node = nth(graph, row, 0)?;
+fn of_guest(graph: &Graph, row: &Row, out: &mut Words) -> Result<(), RowStop> {
+    let node = nth(graph, 0)?;
     let edge = Edge::drive(3, node, row.has("writes"), row.has("shared"));
-    Ok(edge_text(alloc, &edge)?)
+    put_edge(&edge, out);
+    Ok(())
 }
 
 /// The letter of a permission, large where it is the second edge's.
@@ -239,7 +234,7 @@ pub(crate) fn edge_kind(alloc: Global, row: &Row) -> Result<EdgeKind, RowStop> {
 fn uses_of(kinds: &[EdgeKind], row: &Row) -> Result<Uses, RowStop> {
     let name = row.word(0)?;
     for kind in kinds {
-        if kind.name.as_str() == name {
+        if same(kind.name.as_str(), name) {
             return Ok(kind.uses);
         }
     }
@@ -247,14 +242,19 @@ fn uses_of(kinds: &[EdgeKind], row: &Row) -> Result<Uses, RowStop> {
 }
 
 /// `meets NAME`: what is refused where an edge of that kind meets one of each kind.
-fn meets(alloc: Global, graph: &Graph, kinds: &[EdgeKind], row: &Row) -> Result<String, RowStop> {
-    let node = nth(graph, row, 0)?;
+fn meets(
+    alloc: Global,
+    graph: &Graph,
+    kinds: &[EdgeKind],
+    row: &Row,
+    out: &mut Words,
+) -> Result<(), RowStop> {
+    let node = nth(graph, 0)?;
     let uses = uses_of(kinds, row)?;
-    let mut out = String::new(alloc);
     for other in kinds {
-        out.push(meet(alloc, graph, node, (uses, other.uses))?)?;
+        out.letter(meet(alloc, graph, node, (uses, other.uses))?);
     }
-    Ok(out)
+    Ok(())
 }
 
 #[derive(Clone, Copy)]
@@ -274,19 +274,20 @@ pub(crate) const ASKS: [(&str, Ask); 5] = [
     ("meets", Ask::Meets),
 ];
 
-/// What a row asks of the table of permissions.
+/// Puts what a row asks of the table of permissions.
 pub(crate) fn answer_to(
     alloc: Global,
     graph: &Graph,
     kinds: &[EdgeKind],
     ask: Ask,
     row: &Row,
-) -> Result<String, RowStop> {
+    out: &mut Words,
+) -> Result<(), RowStop> {
     match ask {
-        Ask::OfNode => of_node(alloc, graph, row),
-        Ask::Roles => roles(alloc, row),
-        Ask::OfJob => of_job(alloc, graph, row),
-        Ask::OfGuest => of_guest(alloc, graph, row),
-        Ask::Meets => meets(alloc, graph, kinds, row),
+        Ask::OfNode => of_node(alloc, graph, row, out),
+        Ask::Roles => roles(row, out),
+        Ask::OfJob => of_job(graph, row, out),
+        Ask::OfGuest => of_guest(graph, row, out),
+        Ask::Meets => meets(alloc, graph, kinds, row, out),
     }
 }

@@ -1,10 +1,7 @@
 //! What kinds, roles, uses and permissions are called, and parents and answers.
 
-use blk_graph::{
-    Conflict, Graph, GraphStop, JobUse, Kind, NodeId, Parent, Perm, Perms, Role, Uses,
-};
-use std::alloc::{AllocError, Global};
-use std::fmt::Write;
+use blk_graph::{Conflict, Graph, GraphStop, JobUse, Kind, NodeId, Parent, Perm, Perms, Role};
+use row_text::Words;
 
 pub(crate) const KINDS: [(&str, Kind); 7] = [
     ("protocol", Kind::Protocol),
@@ -63,86 +60,61 @@ fn perm_name(perm: Perm) -> &'static str {
 }
 
 /// Puts what a parent is called.
-fn push_parent(out: &mut String, graph: &Graph, parent: &Parent) -> Result<(), AllocError> {
+fn put_parent(graph: &Graph, parent: &Parent, out: &mut Words) {
     match parent {
-        Parent::Node(node) => out.push_str(name_of(graph, *node)),
-        Parent::Guest(guest) => write!(out, "guest{guest}"),
-        Parent::Job(job) => write!(out, "job{job}"),
+        Parent::Node(node) => out.put(name_of(graph, *node)),
+        Parent::Guest(guest) => out.fill("guest%", &[u64::from(*guest)]),
+        Parent::Job(job) => out.fill("job%", &[u64::from(*job)]),
     }
 }
 
-fn push_conflict(out: &mut String, graph: &Graph, pair: &Conflict) -> Result<(), AllocError> {
-    push_parent(out, graph, &pair.asks)?;
-    let node = name_of(graph, pair.node);
-    let perm = perm_name(pair.perm);
-    write!(out, " asks {perm} of {node}, ")?;
-    push_parent(out, graph, &pair.denies)?;
-    out.push_str(" denies it")
+/// Puts which permission is asked and denied.
+pub(crate) fn put_conflict(graph: &Graph, pair: &Conflict, out: &mut Words) {
+    put_parent(graph, &pair.asks, out);
+    out.put(" asks ");
+    out.put(perm_name(pair.perm));
+    out.put(" of ");
+    out.put(name_of(graph, pair.node));
+    out.put(", ");
+    put_parent(graph, &pair.denies, out);
+    out.put(" denies it");
 }
 
 /// Puts who uses a node.
-pub(crate) fn push_user(
-    out: &mut String,
-    graph: &Graph,
-    parent: &Parent,
-) -> Result<(), AllocError> {
-    out.push_str("in use by ")?;
-    push_parent(out, graph, parent)
+pub(crate) fn put_user(graph: &Graph, parent: &Parent, out: &mut Words) {
+    out.put("in use by ");
+    put_parent(graph, parent, out);
 }
 
 /// Puts why a graph refused a call.
-pub(crate) fn push_stop(
-    out: &mut String,
-    graph: &Graph,
-    stop: &GraphStop,
-) -> Result<(), AllocError> {
+pub(crate) fn put_stop(graph: &Graph, stop: &GraphStop, out: &mut Words) {
     match stop {
-        GraphStop::InUse(parent) => push_user(out, graph, parent),
-        GraphStop::Conflict(pair) => push_conflict(out, graph, pair),
-        stop => write!(out, "{stop}"),
+        GraphStop::InUse(parent) => put_user(graph, parent, out),
+        GraphStop::Conflict(pair) => put_conflict(graph, pair, out),
+        stop => out.show(stop),
     }
 }
 
-/// What is answered, as a text.
-pub(crate) fn answer_text(
-    alloc: Global,
-    graph: &Graph,
-    answer: &Result<(), GraphStop>,
-) -> Result<String, AllocError> {
-    let mut out = String::new(alloc);
-    match answer {
-        Ok(()) => out.push_str("ok")?,
-        Err(stop) => push_stop(&mut out, graph, stop)?,
-    }
-    Ok(out)
-}
-
-/// The edges in order of making, each as its parent, `>` and its child.
-pub(crate) fn edges_text(alloc: Global, graph: &Graph) -> Result<String, AllocError> {
-    let mut out = String::new(alloc);
+/// Puts the edges in order of making, each as its parent, `>` and its child.
+pub(crate) fn put_edges(graph: &Graph, out: &mut Words) {
     for edge in graph.edges() {
-        if !out.is_empty() {
-            out.push(' ')?;
-        }
-        push_parent(&mut out, graph, &edge.parent)?;
-        out.push('>')?;
-        out.push_str(name_of(graph, edge.child))?;
+        out.part(" ", "");
+        put_parent(graph, &edge.parent, out);
+        out.put(">");
+        out.put(name_of(graph, edge.child));
     }
-    Ok(out)
 }
 
 /// Puts a letter for each permission of a set.
-fn push_perms(out: &mut String, perms: Perms) -> Result<(), AllocError> {
-    out.push(if perms.read { 'r' } else { '.' })?;
-    out.push(if perms.write { 'w' } else { '.' })?;
-    out.push(if perms.unchanged { 'u' } else { '.' })
+fn put_perms(perms: Perms, out: &mut Words) {
+    out.put(if perms.read { "r" } else { "." });
+    out.put(if perms.write { "w" } else { "." });
+    out.put(if perms.unchanged { "u" } else { "." });
 }
 
-/// What is asked and shared, as letters.
-pub(crate) fn uses_text(alloc: Global, uses: Uses) -> Result<String, AllocError> {
-    let mut out = String::new(alloc);
-    push_perms(&mut out, uses.perm)?;
-    out.push(' ')?;
-    push_perms(&mut out, uses.shared)?;
-    Ok(out)
+/// Puts what is asked and shared, as letters.
+pub(crate) fn put_uses(perm: Perms, shared: Perms, out: &mut Words) {
+    put_perms(perm, out);
+    out.put(" ");
+    put_perms(shared, out);
 }

@@ -6,7 +6,7 @@ use crate::{bitmaps, draft, edits, graph, table};
 use blk_base::{NoMemory, Text};
 use blk_bitmaps::Bitmaps;
 use blk_graph::{EdgeList, Graph, NodeId};
-use row_text::{Player, Row, RowStop, named};
+use row_text::{Player, Row, RowStop, Words, named};
 use std::alloc::Global;
 
 /// A graph, a list of edges apart from it, the bitmaps of its nodes, and kinds of edges.
@@ -38,6 +38,14 @@ const ACTS: [(&str, Act); 5] = [
     ("watch", Act::Watch),
     ("edge", Act::Edge),
 ];
+
+/// Puts the pictures of the bitmaps that are watched.
+fn put_pictures(bitmaps: &Bitmaps, watched: &[(NodeId, Text)], out: &mut Words) {
+    for (node, name) in watched {
+        out.put(" ");
+        bitmaps::put_picture(bitmaps, *node, name.as_str(), out);
+    }
+}
 
 impl World {
     pub fn new(alloc: Global) -> Result<Self, NoMemory> {
@@ -71,7 +79,7 @@ impl World {
         Ok(())
     }
 
-    fn act(&mut self, act: Act, row: &Row) -> Result<String, RowStop> {
+    fn act(&mut self, act: Act, row: &Row) -> Result<(), RowStop> {
         match act {
             Act::Nodes => self.begin(graph::nodes(self.alloc, row)?)?,
             Act::Many => self.begin(graph::many(self.alloc, row)?)?,
@@ -79,44 +87,52 @@ impl World {
             Act::Watch => self.watch(row)?,
             Act::Edge => self.kinds.push(edge_kind(self.alloc, row)?)?,
         }
-        Ok(String::from_str(self.alloc, "ok")?)
+        Ok(())
     }
 
-    /// What is answered to a call on bitmaps, with the pictures of those that are watched.
-    fn call(&mut self, call: bitmaps::Call, row: &Row) -> Result<String, RowStop> {
-        let mut out = bitmaps::answer_to(self.alloc, &mut self.bitmaps, &self.graph, call, row)?;
-        for (node, name) in &self.watched {
-            out.push(' ')?;
-            bitmaps::push_picture(&mut out, &self.bitmaps, *node, name.as_str())?;
+    /// What is asked, where no row changes anything.
+    fn asked(&self, row: &Row, out: &mut Words) -> Result<(), RowStop> {
+        if let Some(ask) = named(&graph::ASKS, row.key) {
+            return graph::answer_to(&self.graph, ask, row, out);
         }
-        Ok(out)
+        if let Some(ask) = named(&bitmaps::ASKS, row.key) {
+            return bitmaps::asked(self.alloc, &self.bitmaps, &self.graph, ask, row, out);
+        }
+        match named(&table::ASKS, row.key) {
+            Some(ask) => {
+                table::answer_to(
+                    self.alloc,
+                    &self.graph,
+                    self.kinds.as_slice(),
+                    ask,
+                    row,
+                    out,
+                )
+            }
+            None => Err(RowStop::Word),
+        }
     }
 }
 
 impl Player for World {
-    fn answer_to(&mut self, row: &Row) -> Result<String, RowStop> {
+    fn answer_to(&mut self, row: &Row, out: &mut Words) -> Result<(), RowStop> {
         let alloc = self.alloc;
         if let Some(act) = named(&ACTS, row.key) {
-            return self.act(act, row);
+            self.act(act, row)?;
+            out.put("ok");
+            return Ok(());
         }
         if let Some(edit) = named(&edits::EDITS, row.key) {
-            return edits::answer_to(alloc, &mut self.graph, edit, row);
+            return edits::answer_to(alloc, &mut self.graph, edit, row, out);
         }
         if let Some(call) = named(&bitmaps::CALLS, row.key) {
-            return self.call(call, row);
+            bitmaps::answer_to(alloc, &mut self.bitmaps, &self.graph, call, row, out)?;
+            put_pictures(&self.bitmaps, self.watched.as_slice(), out);
+            return Ok(());
         }
-        if let Some(ask) = named(&graph::ASKS, row.key) {
-            return graph::answer_to(alloc, &self.graph, ask, row);
+        match named(&draft::ASKS, row.key) {
+            Some(ask) => draft::answer_to(&self.graph, &mut self.draft, ask, row, out),
+            None => self.asked(row, out),
         }
-        if let Some(ask) = named(&draft::ASKS, row.key) {
-            return draft::answer_to(alloc, &self.graph, &mut self.draft, ask, row);
-        }
-        if let Some(ask) = named(&bitmaps::ASKS, row.key) {
-            return bitmaps::asked(alloc, &self.bitmaps, &self.graph, ask, row);
-        }
-        if let Some(ask) = named(&table::ASKS, row.key) {
-            return table::answer_to(alloc, &self.graph, self.kinds.as_slice(), ask, row);
-        }
-        Err(RowStop::Word)
     }
 }

@@ -2,10 +2,9 @@
 ghost use Rattle.std.specs.Prelude.{IfOk, IfSome};
 ghost use Rattle.q2_format.specs.Entry.{IsWritable};
 
-use crate::text::entry_text;
+use crate::text::put_entry;
 use q2_format::{L2Entry, l2_word, read_l2};
-use row_text::{Row, RowStop};
-use std::alloc::Global;
+use row_text::{Row, RowStop, Words};
 
 /// No host cluster ends above it.
 const LARGEST: u64 = 1_073_741_824;
@@ -24,8 +23,9 @@ const KINDS: [(&str, Kind); 3] = [
 ];
 
 /// `entry WORD`: what it says.
-pub(crate) fn entry(alloc: Global, row: &Row) -> Result<String, RowStop> {
-    Ok(entry_text(alloc, read_l2(row.number(0)?))?)
+pub(crate) fn entry(row: &Row, out: &mut Words) -> Result<(), RowStop> {
+    put_entry(read_l2(row.number(0)?), out);
+    Ok(())
 }
 
 /// The entry of a kind whose host cluster lies there.
@@ -51,10 +51,11 @@ fn word_of(kind: Kind, host: u64) -> Option<u64> {
 }
 
 /// `word KIND HOST`: the word that says it, with a refcount of one where there is a host cluster.
-pub(crate) fn word(alloc: Global, row: &Row) -> Result<String, RowStop> {
+pub(crate) fn word(row: &Row, out: &mut Words) -> Result<(), RowStop> {
     let kind = row.named(0, &KINDS)?;
     match word_of(kind, row.number(1)?) {
-        Some(word) => Ok(format!(in alloc; "0x{word:x}")?),
-        None => Err(RowStop::Call),
+        Some(word) => out.hex(word),
+        None => return Err(RowStop::Call),
     }
+    Ok(())
 }

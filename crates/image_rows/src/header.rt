@@ -8,9 +8,8 @@ use q2_format::{
     Header, MAX_DISK_SIZE, Place, name_fields, new_name_offset, read_header, write_header,
     write_refcount_block, write_refcount_table,
 };
-use row_devices::bytes_text;
-use row_text::{Row, RowStop};
-use std::alloc::{AllocError, Global};
+use row_text::{Row, RowStop, Words};
+use std::alloc::Global;
 
 /// Whether a name may be given.
 pub(crate) fn may_name(name: Option<&str>) -> bool
@@ -92,26 +91,24 @@ fn number_of(header: &Header, field: HeaderField) -> u64 {
     }
 }
 
-fn place_text(alloc: Global, place: Option<Place>) -> Result<String, AllocError> {
+fn put_place(place: Option<Place>, out: &mut Words) {
     match place {
-        Some(Place { at, len }) => format!(in alloc; "{at}+{len}"),
-        None => String::from_str(alloc, "none"),
+        Some(Place { at, len }) => out.fill("%+%", &[u64::from(at), u64::from(len)]),
+        None => out.put("none"),
     }
 }
 
 /// `field NAME`: of the header that was read last. The place of the name or of the format is its offset and its length.
-pub(crate) fn field(alloc: Global, header: Option<&Header>, row: &Row) -> Result<String, RowStop> {
+pub(crate) fn field(header: Option<&Header>, row: &Row, out: &mut Words) -> Result<(), RowStop> {
     let Some(header) = header else {
         return Err(RowStop::Call);
     };
     match row.named(0, &FIELDS)? {
-        HeaderField::Name => Ok(place_text(alloc, header.name)?),
-        HeaderField::Format => Ok(place_text(alloc, header.format)?),
-        field => {
-            let number = number_of(header, field);
-            Ok(format!(in alloc; "{number}")?)
-        }
+        HeaderField::Name => put_place(header.name, out),
+        HeaderField::Format => put_place(header.format, out),
+        field => out.number(number_of(header, field)),
     }
+    Ok(())
 }
 
 /// `header LENGTH EDITS`: reads the header of the file with these edits, as one of that length.
@@ -120,29 +117,34 @@ pub(crate) fn header(
     file: &[u8],
     into: &mut Option<Header>,
     row: &Row,
-) -> Result<String, RowStop> {
+    out: &mut Words,
+) -> Result<(), RowStop> {
     let bytes = edited(alloc, file, row, 1)?;
     match read_header(bytes.as_slice(), row.number(0)?) {
         Ok(header) => {
             *into = Some(header);
-            Ok(String::from_str(alloc, "ok")?)
+            out.put("ok");
         }
-        Err(stop) => Ok(format!(in alloc; "{stop}")?),
+        Err(stop) => out.show(&stop),
     }
+    Ok(())
 }
 
 /// `new-name NAME_LENGTH LENGTH EDITS`: the fields of a new name of so many bytes, in place of the one that the header of such a
 /// file has.
-pub(crate) fn new_name(alloc: Global, file: &[u8], row: &Row) -> Result<String, RowStop> {
+pub(crate) fn new_name(
+    alloc: Global,
+    file: &[u8],
+    row: &Row,
+    out: &mut Words,
+) -> Result<(), RowStop> {
     let len = row.short(0)?;
     let bytes = edited(alloc, file, row, 2)?;
     match read_header(bytes.as_slice(), row.number(1)?) {
-        Ok(header) => {
-            let fields = name_fields(new_name_offset(&header), len);
-            Ok(bytes_text(alloc, &fields)?)
-        }
-        Err(_) => Err(RowStop::Call),
+        Ok(header) => out.bytes(&name_fields(new_name_offset(&header), len)),
+        Err(_) => return Err(RowStop::Call),
     }
+    Ok(())
 }
 
 /// Writes a header of a new image into a cluster.

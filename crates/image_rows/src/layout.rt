@@ -1,20 +1,20 @@
 //! Files as rows lay them out. An edit is a word, `PLACE:BYTES`; bytes have no space in them.
 
-use row_text::{Row, RowStop, read_bytes, read_number};
+use row_text::{Row, RowStop, cut, read_bytes, read_number, same};
 use std::alloc::Global;
 
 /// Puts bytes at a place, as far as there is room.
 fn overwrite(bytes: &mut [u8], place: usize, edit: &[u8]) {
-    for (to, byte) in bytes.iter_mut().skip(place).zip(edit.iter()) {
-        *to = *byte;
+    for k in 0..edit.len() {
+        if let Some(to) = bytes.get_mut(place.saturating_add(k)) {
+            *to = edit[k];
+        }
     }
 }
 
 /// Makes an edit.
 fn put_word(alloc: Global, bytes: &mut [u8], word: &str) -> Result<(), RowStop> {
-    let Some((place, edit)) = word.split_once(':') else {
-        return Err(RowStop::Word);
-    };
+    let (place, edit) = cut(word, ":");
     let Some(place) = read_number(place) else {
         return Err(RowStop::Number);
     };
@@ -32,8 +32,10 @@ pub(crate) fn put_words(
     row: &Row,
     first: usize,
 ) -> Result<(), RowStop> {
-    for word in row.words.split_whitespace().skip(first) {
-        put_word(alloc, bytes, word)?;
+    for (place, word) in row.words.split_whitespace().enumerate() {
+        if place >= first {
+            put_word(alloc, bytes, word)?;
+        }
     }
     Ok(())
 }
@@ -67,12 +69,14 @@ pub(crate) fn filled(alloc: Global, row: &Row) -> Result<Vec<u8>, RowStop> {
 
 /// Makes each count of the refcount block at a place one.
 pub(crate) fn fill_counts(bytes: &mut [u8], place: usize) {
-    for (i, to) in bytes.iter_mut().skip(place).take(65_536).enumerate() {
-        *to = (i % 2) as u8;
+    for k in 0..65_536usize {
+        if let Some(to) = bytes.get_mut(place.saturating_add(k)) {
+            *to = if k % 2 == 0 { 0 } else { 1 };
+        }
     }
 }
 
 /// The text that a word stands for, which is none for `-`.
 pub(crate) fn text_of(word: &str) -> Option<&str> {
-    if word == "-" { None } else { Some(word) }
+    if same(word, "-") { None } else { Some(word) }
 }

@@ -2,14 +2,13 @@
 
 use crate::device::device;
 use crate::layout::edited;
-use crate::text::{mapping_text, ok, tables_text};
+use crate::text::{put_mapping, put_tables_stop};
 use blk_base::Device;
 use blk_fakes::FailAt;
 use q2_format::read_header;
 use q2_tables::{Tables, TablesStop, load_tables};
-use row_text::{Row, RowStop};
+use row_text::{Row, RowStop, Words};
 use std::alloc::Global;
-use std::fmt::Write;
 
 /// Loads the tables of the image in these bytes, from a device of which calls fail.
 fn load(
@@ -31,39 +30,49 @@ pub(crate) fn tables(
     fails: &[FailAt],
     into: &mut Option<Tables>,
     row: &Row,
-) -> Result<String, RowStop> {
+    out: &mut Words,
+) -> Result<(), RowStop> {
     let bytes = edited(alloc, file, row, 0)?;
     match load(alloc, bytes.as_slice(), fails)? {
         Ok(tables) => {
             *into = Some(tables);
-            Ok(ok(alloc)?)
+            out.put("ok");
         }
-        Err(stop) => Ok(tables_text(alloc, stop)?),
+        Err(stop) => put_tables_stop(stop, out),
     }
+    Ok(())
 }
 
 /// `l1`: the words of the L1 table, and how many there are of all L2 tables.
-pub(crate) fn l1(alloc: Global, tables: Option<&Tables>) -> Result<String, RowStop> {
-    let Some(tables) = tables else {
-        return Err(RowStop::Call);
-    };
-    let mut out = String::new(alloc);
+fn put_l1(tables: &Tables, out: &mut Words) {
     for word in tables.l1() {
-        write!(out, "0x{word:x} ")?;
+        out.fill("$ ", &[*word]);
     }
-    let count = tables.words().len();
-    write!(out, "over {count}")?;
-    Ok(out)
+    out.fill("over %", &[tables.words().len() as u64]);
 }
 
 /// `lookup CLUSTER`: what it is mapped to.
-pub(crate) fn lookup(alloc: Global, tables: Option<&Tables>, row: &Row) -> Result<String, RowStop> {
-    let Some(tables) = tables else {
-        return Err(RowStop::Call);
-    };
-    let cluster = row.number(0)?;
+fn put_lookup(tables: &Tables, cluster: u64, out: &mut Words) -> Result<(), RowStop> {
     if cluster >= tables.words().len() as u64 {
         return Err(RowStop::Call);
     }
-    Ok(mapping_text(alloc, tables.lookup(cluster))?)
+    put_mapping(tables.lookup(cluster), out);
+    Ok(())
+}
+
+/// Puts what a row asks of the tables that were loaded last.
+pub(crate) fn asked(
+    tables: Option<&Tables>,
+    is_lookup: bool,
+    row: &Row,
+    out: &mut Words,
+) -> Result<(), RowStop> {
+    let Some(tables) = tables else {
+        return Err(RowStop::Call);
+    };
+    if is_lookup {
+        return put_lookup(tables, row.number(0)?, out);
+    }
+    put_l1(tables, out);
+    Ok(())
 }

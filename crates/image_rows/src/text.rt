@@ -3,61 +3,56 @@
 use blk_base::{DevStop, Stop, WriteStop};
 use q2_format::L2Entry;
 use q2_tables::{Mapping, TablesStop};
-use std::alloc::{AllocError, Global};
+use row_text::Words;
 
-pub(crate) fn ok(alloc: Global) -> Result<String, AllocError> {
-    String::from_str(alloc, "ok")
-}
-
-pub(crate) fn done_text(alloc: Global, answer: Result<(), DevStop>) -> Result<String, AllocError> {
+pub(crate) fn put_done(answer: Result<(), DevStop>, out: &mut Words) {
     match answer {
-        Ok(()) => ok(alloc),
-        Err(DevStop::Io { count }) => format!(in alloc; "Io({count})"),
-        Err(DevStop::NoSpace) => String::from_str(alloc, "NoSpace"),
+        Ok(()) => out.put("ok"),
+        Err(DevStop::Io { count }) => out.fill("Io(%)", &[count]),
+        Err(DevStop::NoSpace) => out.put("NoSpace"),
     }
 }
 
-pub(crate) fn written_text(
-    alloc: Global,
-    answer: Result<(), WriteStop>,
-) -> Result<String, AllocError> {
-    let Err(stop) = answer else {
-        return ok(alloc);
-    };
-    let done = stop.done;
-    match stop.why {
-        Stop::Failed => format!(in alloc; "Failed after {done}"),
-        Stop::NoSpace => format!(in alloc; "NoSpace after {done}"),
-    }
-}
-
-pub(crate) fn mapping_text(alloc: Global, mapping: Mapping) -> Result<String, AllocError> {
-    match mapping {
-        Mapping::Unallocated => String::from_str(alloc, "unallocated"),
-        Mapping::Zero { host } => format!(in alloc; "zero 0x{host:x}"),
-        Mapping::Host { host } => format!(in alloc; "host 0x{host:x}"),
-    }
-}
-
-pub(crate) fn entry_text(alloc: Global, entry: L2Entry) -> Result<String, AllocError> {
-    match entry {
-        L2Entry::Unallocated => String::from_str(alloc, "unallocated"),
-        L2Entry::Zero { host } => format!(in alloc; "zero 0x{host:x}"),
-        L2Entry::Host { host } => format!(in alloc; "host 0x{host:x}"),
-        L2Entry::Compressed => String::from_str(alloc, "compressed"),
-        L2Entry::Reserved => String::from_str(alloc, "reserved"),
-    }
-}
-
-pub(crate) fn tables_text(alloc: Global, stop: TablesStop) -> Result<String, AllocError> {
-    match stop {
-        TablesStop::Offset(offset) => format!(in alloc; "Offset(0x{offset:x})"),
-        TablesStop::ReservedInL1 { index } => format!(in alloc; "ReservedInL1({index})"),
-        TablesStop::ReservedInL2 { table, index } => {
-            format!(in alloc; "ReservedInL2(0x{table:x}, {index})")
+pub(crate) fn put_written(answer: Result<(), WriteStop>, out: &mut Words) {
+    match answer {
+        Ok(()) => out.put("ok"),
+        Err(WriteStop { done, why }) => {
+            out.put(match why {
+                Stop::Failed => "Failed",
+                Stop::NoSpace => "NoSpace",
+            });
+            out.fill(" after %", &[done]);
         }
-        TablesStop::Compressed(cluster) => format!(in alloc; "Compressed({cluster})"),
-        TablesStop::Io { count } => format!(in alloc; "Io({count})"),
-        TablesStop::NoMemory => String::from_str(alloc, "NoMemory"),
+    }
+}
+
+pub(crate) fn put_mapping(mapping: Mapping, out: &mut Words) {
+    match mapping {
+        Mapping::Unallocated => out.put("unallocated"),
+        Mapping::Zero { host } => out.fill("zero $", &[host]),
+        Mapping::Host { host } => out.fill("host $", &[host]),
+    }
+}
+
+pub(crate) fn put_entry(entry: L2Entry, out: &mut Words) {
+    match entry {
+        L2Entry::Unallocated => out.put("unallocated"),
+        L2Entry::Zero { host } => out.fill("zero $", &[host]),
+        L2Entry::Host { host } => out.fill("host $", &[host]),
+        L2Entry::Compressed => out.put("compressed"),
+        L2Entry::Reserved => out.put("reserved"),
+    }
+}
+
+pub(crate) fn put_tables_stop(stop: TablesStop, out: &mut Words) {
+    match stop {
+        TablesStop::Offset(offset) => out.fill("Offset($)", &[offset]),
+        TablesStop::ReservedInL1 { index } => out.fill("ReservedInL1(%)", &[index]),
+        TablesStop::ReservedInL2 { table, index } => {
+            out.fill("ReservedInL2($, %)", &[table, index]);
+        }
+        TablesStop::Compressed(cluster) => out.fill("Compressed(%)", &[cluster]),
+        TablesStop::Io { count } => out.fill("Io(%)", &[count]),
+        TablesStop::NoMemory => out.put("NoMemory"),
     }
 }

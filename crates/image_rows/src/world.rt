@@ -3,15 +3,12 @@
 use crate::device::device;
 use crate::layout::{edited, fill_counts, filled, put_words};
 use crate::opened::{Opened, open};
-use crate::text::ok;
 use crate::{calls, creating, entries, header, looks, reads, tables};
 use blk_base::NoMemory;
 use blk_fakes::{FailAt, MemDevice};
 use q2_format::Header;
-use q2_image::ImageStop;
 use q2_tables::Tables;
-use row_devices::failing;
-use row_text::{Player, Row, RowStop, named};
+use row_text::{Player, Row, RowStop, Words, named};
 use std::alloc::Global;
 
 /// A file that is laid out, and what was made of it last.
@@ -30,6 +27,7 @@ pub(crate) struct World {
     tables: Option<Tables>,
 }
 
+/// What a row lays out, or which device it makes.
 #[derive(Clone, Copy)]
 enum Act {
     File,
@@ -39,15 +37,36 @@ enum Act {
     Capacity,
     Fail,
     Device,
+    WriteHeader,
+    WriteTable,
+    WriteBlock,
+}
+
+const ACTS: [(&str, Act); 6] = [
+    ("file", Act::File),
+    ("put", Act::Put),
+    ("full-block", Act::FullBlock),
+    ("keep", Act::Keep),
+    ("capacity", Act::Capacity),
+    ("fail", Act::Fail),
+];
+
+const DEVICES: [(&str, Act); 4] = [
+    ("device", Act::Device),
+    ("write-header", Act::WriteHeader),
+    ("write-refcount-table", Act::WriteTable),
+    ("write-refcount-block", Act::WriteBlock),
+];
+
+/// What a row asks, or makes of the file that is laid out.
+#[derive(Clone, Copy)]
+enum Made {
     Create,
     Open,
     Again,
     Header,
     Field,
     NewName,
-    WriteHeader,
-    WriteTable,
-    WriteBlock,
     Entry,
     Word,
     Tables,
@@ -56,29 +75,19 @@ enum Act {
     Reads,
 }
 
-const ACTS: [(&str, Act); 22] = [
-    ("file", Act::File),
-    ("put", Act::Put),
-    ("full-block", Act::FullBlock),
-    ("keep", Act::Keep),
-    ("capacity", Act::Capacity),
-    ("fail", Act::Fail),
-    ("device", Act::Device),
-    ("create", Act::Create),
-    ("open", Act::Open),
-    ("again", Act::Again),
-    ("header", Act::Header),
-    ("field", Act::Field),
-    ("new-name", Act::NewName),
-    ("write-header", Act::WriteHeader),
-    ("write-refcount-table", Act::WriteTable),
-    ("write-refcount-block", Act::WriteBlock),
-    ("entry", Act::Entry),
-    ("word", Act::Word),
-    ("tables", Act::Tables),
-    ("l1", Act::L1),
-    ("lookup", Act::Lookup),
-    ("reads", Act::Reads),
+const MAKES: [(&str, Made); 12] = [
+    ("create", Made::Create),
+    ("open", Made::Open),
+    ("again", Made::Again),
+    ("header", Made::Header),
+    ("field", Made::Field),
+    ("new-name", Made::NewName),
+    ("entry", Made::Entry),
+    ("word", Made::Word),
+    ("tables", Made::Tables),
+    ("l1", Made::L1),
+    ("lookup", Made::Lookup),
+    ("reads", Made::Reads),
 ];
 
 impl World {
@@ -96,22 +105,10 @@ impl World {
     }
 
     /// `file LENGTH BYTE`: lays out a file of equal bytes.
-    fn lay_out(&mut self, row: &Row) -> Result<String, RowStop> {
+    fn lay_out(&mut self, row: &Row) -> Result<(), RowStop> {
         self.file = filled(self.alloc, row)?;
         self.capacity = 0;
-        Ok(ok(self.alloc)?)
-    }
-
-    /// `put EDITS`: edits the file that is laid out.
-    fn put(&mut self, row: &Row) -> Result<String, RowStop> {
-        put_words(self.alloc, self.file.as_mut_slice(), row, 0)?;
-        Ok(ok(self.alloc)?)
-    }
-
-    /// `full-block PLACE`: the refcount block there counts one for each of its clusters.
-    fn full_block(&mut self, row: &Row) -> Result<String, RowStop> {
-        fill_counts(self.file.as_mut_slice(), row.number(0)? as usize);
-        Ok(ok(self.alloc)?)
+        Ok(())
     }
 
     /// The device that was made last.
@@ -123,21 +120,16 @@ impl World {
     }
 
     /// `keep`: what the device holds is the file that is laid out.
-    fn keep(&mut self) -> Result<String, RowStop> {
+    fn keep(&mut self) -> Result<(), RowStop> {
         self.file = Vec::from_slice(self.alloc, self.seen().bytes())?;
-        Ok(ok(self.alloc)?)
-    }
-
-    /// `capacity BYTES`: of devices that are made from there on.
-    fn set_capacity(&mut self, row: &Row) -> Result<String, RowStop> {
-        self.capacity = row.number(0)?;
-        Ok(ok(self.alloc)?)
+        Ok(())
     }
 
     /// `fail CALL DONE`: so does a call of the next device.
-    fn fail(&mut self, row: &Row) -> Result<String, RowStop> {
-        self.fails.push(failing(row, 0)?)?;
-        Ok(ok(self.alloc)?)
+    fn fail(&mut self, row: &Row) -> Result<(), RowStop> {
+        let (call, done) = row.failing(0)?;
+        self.fails.push(FailAt { call, done })?;
+        Ok(())
     }
 
     /// A device of these bytes, of which the calls fail that are to.
@@ -148,103 +140,126 @@ impl World {
     }
 
     /// Looks at a device of these bytes.
-    fn show(&mut self, bytes: &[u8]) -> Result<String, RowStop> {
+    fn show(&mut self, bytes: &[u8]) -> Result<(), RowStop> {
         self.dev = self.device(bytes)?;
         self.opened = None;
-        Ok(ok(self.alloc)?)
+        Ok(())
     }
 
-    /// `device LENGTH BYTE`: a device of so many equal bytes.
-    fn blank(&mut self, row: &Row) -> Result<String, RowStop> {
-        let bytes = filled(self.alloc, row)?;
-        self.show(bytes.as_slice())
-    }
-
-    fn put_opened(&mut self, opened: Result<Opened, ImageStop>) -> Result<String, RowStop> {
-        match opened {
-            Ok(opened) => {
-                self.opened = Some(opened);
-                Ok(ok(self.alloc)?)
+    /// Lays something out. It is as `act` says.
+    fn laid_out(&mut self, act: Act, row: &Row) -> Result<(), RowStop> {
+        let alloc = self.alloc;
+        match act {
+            // `put EDITS`: edits the file that is laid out
+            Act::Put => put_words(alloc, self.file.as_mut_slice(), row, 0),
+            // `full-block PLACE`: the refcount block there counts one for each of its clusters
+            Act::FullBlock => {
+                fill_counts(self.file.as_mut_slice(), row.number(0)? as usize);
+                Ok(())
             }
-            Err(stop) => Ok(format!(in self.alloc; "{stop}")?),
+            Act::Keep => self.keep(),
+            // `capacity BYTES`: of devices that are made from there on
+            Act::Capacity => {
+                self.capacity = row.number(0)?;
+                Ok(())
+            }
+            Act::Fail => self.fail(row),
+            _ => self.lay_out(row),
         }
     }
 
-    /// `open EDITS`: the image in the file that is laid out, with these edits.
-    fn open(&mut self, row: &Row) -> Result<String, RowStop> {
-        let bytes = edited(self.alloc, self.file.as_slice(), row, 0)?;
-        let dev = self.device(bytes.as_slice())?;
-        self.put_opened(open(self.alloc, dev))
-    }
-
-    /// `again EDITS`: the image on the device, once more, on a device of its bytes with these edits.
-    fn again(&mut self, row: &Row) -> Result<String, RowStop> {
-        let bytes = edited(self.alloc, self.seen().bytes(), row, 0)?;
-        let dev = self.device(bytes.as_slice())?;
-        self.put_opened(open(self.alloc, dev))
-    }
-
-    fn write_header(&mut self, row: &Row) -> Result<String, RowStop> {
-        let bytes = header::written_header(self.alloc, self.file.as_slice(), row)?;
-        self.show(bytes.as_slice())
-    }
-
-    fn write_counts(&mut self, row: &Row, is_block: bool) -> Result<String, RowStop> {
-        let bytes = header::written_counts(self.alloc, self.file.as_slice(), row, is_block)?;
-        self.show(bytes.as_slice())
-    }
-
-    fn load(&mut self, row: &Row) -> Result<String, RowStop> {
-        let (file, fails) = (self.file.as_slice(), self.fails.as_slice());
-        let answer = tables::tables(self.alloc, file, fails, &mut self.tables, row)?;
-        self.fails.clear();
-        Ok(answer)
-    }
-
-    fn act(&mut self, act: Act, row: &Row) -> Result<String, RowStop> {
+    /// Looks at a device whose bytes are as `act` says.
+    fn shown(&mut self, act: Act, row: &Row) -> Result<(), RowStop> {
         let alloc = self.alloc;
-        match act {
-            Act::File => self.lay_out(row),
-            Act::Put => self.put(row),
-            Act::FullBlock => self.full_block(row),
-            Act::Keep => self.keep(),
-            Act::Capacity => self.set_capacity(row),
-            Act::Fail => self.fail(row),
-            Act::Device => self.blank(row),
-            Act::Create => creating::create(alloc, &mut self.dev, row),
-            Act::Open => self.open(row),
-            Act::Again => self.again(row),
-            Act::Header => header::header(alloc, self.file.as_slice(), &mut self.header, row),
-            Act::Field => header::field(alloc, self.header.as_ref(), row),
-            Act::NewName => header::new_name(alloc, self.file.as_slice(), row),
-            Act::WriteHeader => self.write_header(row),
-            Act::WriteTable => self.write_counts(row, false),
-            Act::WriteBlock => self.write_counts(row, true),
-            Act::Entry => entries::entry(alloc, row),
-            Act::Word => entries::word(alloc, row),
-            Act::Tables => self.load(row),
-            Act::L1 => tables::l1(alloc, self.tables.as_ref()),
-            Act::Lookup => tables::lookup(alloc, self.tables.as_ref(), row),
-            Act::Reads => reads::reads(alloc, self.file.as_slice(), row),
+        let file = self.file.as_slice();
+        let bytes = match act {
+            Act::WriteHeader => header::written_header(alloc, file, row)?,
+            Act::WriteTable => header::written_counts(alloc, file, row, false)?,
+            Act::WriteBlock => header::written_counts(alloc, file, row, true)?,
+            // `device LENGTH BYTE`: so many equal bytes
+            _ => filled(alloc, row)?,
+        };
+        self.show(bytes.as_slice())
+    }
+
+    /// `open EDITS`: the image in the file that is laid out, with these edits. `again EDITS`: the image on the device, once more,
+    /// on a device of its bytes with these edits.
+    fn open(&mut self, is_again: bool, row: &Row, out: &mut Words) -> Result<(), RowStop> {
+        let from = if is_again {
+            self.seen().bytes()
+        } else {
+            self.file.as_slice()
+        };
+        let bytes = edited(self.alloc, from, row, 0)?;
+        let dev = self.device(bytes.as_slice())?;
+        match open(self.alloc, dev) {
+            Ok(opened) => {
+                self.opened = Some(opened);
+                out.put("ok");
+            }
+            Err(stop) => out.show(&stop),
+        }
+        Ok(())
+    }
+
+    fn load(&mut self, row: &Row, out: &mut Words) -> Result<(), RowStop> {
+        let (file, fails) = (self.file.as_slice(), self.fails.as_slice());
+        tables::tables(self.alloc, file, fails, &mut self.tables, row, out)?;
+        self.fails.clear();
+        Ok(())
+    }
+
+    /// Puts what is asked, or made of the file that is laid out.
+    fn make(&mut self, made: Made, row: &Row, out: &mut Words) -> Result<(), RowStop> {
+        let alloc = self.alloc;
+        let file = self.file.as_slice();
+        match made {
+            Made::Create => creating::create(alloc, &mut self.dev, row, out),
+            Made::Open => self.open(false, row, out),
+            Made::Again => self.open(true, row, out),
+            Made::Header => header::header(alloc, file, &mut self.header, row, out),
+            Made::Field => header::field(self.header.as_ref(), row, out),
+            Made::NewName => header::new_name(alloc, file, row, out),
+            Made::Entry => entries::entry(row, out),
+            Made::Word => entries::word(row, out),
+            Made::Tables => self.load(row, out),
+            Made::L1 => tables::asked(self.tables.as_ref(), false, row, out),
+            Made::Lookup => tables::asked(self.tables.as_ref(), true, row, out),
+            Made::Reads => reads::reads(alloc, file, row, out),
+        }
+    }
+
+    /// Puts what is answered to a call on the image that is open.
+    fn call(&mut self, call: calls::Call, row: &Row, out: &mut Words) -> Result<(), RowStop> {
+        match &mut self.opened {
+            Some(opened) => calls::answer_to(self.alloc, opened, call, row, out),
+            None => Err(RowStop::Call),
         }
     }
 }
 
 impl Player for World {
-    fn answer_to(&mut self, row: &Row) -> Result<String, RowStop> {
-        let alloc = self.alloc;
+    fn answer_to(&mut self, row: &Row, out: &mut Words) -> Result<(), RowStop> {
         if let Some(act) = named(&ACTS, row.key) {
-            return self.act(act, row);
+            self.laid_out(act, row)?;
+            out.put("ok");
+            return Ok(());
+        }
+        if let Some(act) = named(&DEVICES, row.key) {
+            self.shown(act, row)?;
+            out.put("ok");
+            return Ok(());
+        }
+        if let Some(made) = named(&MAKES, row.key) {
+            return self.make(made, row, out);
         }
         if let Some(look) = named(&looks::LOOKS, row.key) {
-            return looks::answer_to(alloc, self.file.as_slice(), self.seen(), look, row);
+            let file = self.file.as_slice();
+            return looks::answer_to(self.alloc, file, self.seen(), look, row, out);
         }
-        let Some(call) = named(&calls::CALLS, row.key) else {
-            return Err(RowStop::Word);
-        };
-        match &mut self.opened {
-            Some(opened) => calls::answer_to(alloc, opened, call, row),
-            None => Err(RowStop::Call),
+        match named(&calls::CALLS, row.key) {
+            Some(call) => self.call(call, row, out),
+            None => Err(RowStop::Word),
         }
     }
 }

@@ -11,7 +11,9 @@ use Rattle.blk_nodes.specs.Nodes.{Nodes, row_at, driver_kind, kind_in, file_of, 
 use Rattle.blk_nodes.specs.Reading.{LeadsTo}
 use Rattle.blk_nodes.specs.Writing.{MayWriteThrough, CanBeWritten, IsOverApart, OwnsFile, own_file}
 use Rattle.blk_nodes.specs.declared.row.Driver.{Driver}
-use Rattle.blk_nodes.specs.declared.row.Driver.TheVariants.{File, Raw, Qcow2, CopyOnRead}
+use Rattle.blk_nodes.specs.declared.row.Driver.TheVariants.{File, Raw, Qcow2, CopyOnRead, Filter}
+use Rattle.blk_nodes.specs.declared.row.FilterKind.{FilterKind}
+use Rattle.blk_nodes.specs.declared.row.FilterKind.TheVariants.{BeforeWrite, Mirror, Commit}
 use Rattle.blk_nodes.specs.declared.row.Row.{Row}
 use Rattle.node_rows.specs.Lone.{IsNoOthers, IsAwayFrom}
 
@@ -26,6 +28,12 @@ over_apart nodes node file (Some over) own below apart = λ o f is owns leads.
     let same_over : o ≡ over = cc in
     let same_file : f ≡ file = cc in
     not_led nodes file over apart (rw (← same_over, ← same_file) leads)
+
+-- a job's filter is no image
+by_filter : (kind : FilterKind) → driver_kind (Filter kind) ≡ kinds.Qcow2 → ⊥
+by_filter BeforeWrite is = let bad : ⊥ = cc is in bad
+by_filter Mirror is = let bad : ⊥ = cc is in bad
+by_filter Commit is = let bad : ⊥ = cc is in bad
 
 only_owner : (nodes : Nodes) (node file : ℕ) → All (IsNoOthers node file) nodes.graph.edges → OwnsFile nodes node file
 only_owner nodes node file used other has =
@@ -43,12 +51,14 @@ may_write nodes node file over own below kind writable used apart = by_row (row_
     can_be (Raw part) is = absurd cc
     can_be (Qcow2 image) is = over_apart nodes node file over own below apart
     can_be CopyOnRead is = absurd cc
+    can_be (Filter kind) is = absurd (by_filter kind is)
 
     own_is : (d : Driver) → driver_kind d ≡ kinds.Qcow2 → (f : ℕ) → own_file nodes node d ≡ Some f → f ≡ file
     own_is File is f e = absurd cc
     own_is (Raw part) is f e = absurd cc
     own_is (Qcow2 image) is f e = cc
     own_is CopyOnRead is f e = absurd cc
+    own_is (Filter kind) is f e = absurd (by_filter kind is)
 
     by_row : (found : Option Row) → row_at nodes node ≡ found → option_map kind_in found ≡ Some kinds.Qcow2 → is_read_only_in found ≡ false
         → MayWriteThrough nodes node

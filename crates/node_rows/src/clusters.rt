@@ -2,12 +2,12 @@
 
 use crate::node::node;
 use crate::pieces::{CLUSTER, read, write, zero};
-use crate::text::{ok, outcome_text};
+use crate::text::put_outcome;
 use blk_base::Outcome;
 use blk_fakes::MemDevice;
 use blk_graph::NodeId;
 use blk_nodes::Nodes;
-use row_text::{Row, RowStop};
+use row_text::{Row, RowStop, Words};
 use std::alloc::Global;
 
 /// How many bytes are half of a cluster.
@@ -64,11 +64,7 @@ fn lay(
 
 /// `mix NODE ALIKE LETTER`: so many clusters are mapped, as many behind them read as zeros, as many more stay as they are, and
 /// so on from there. A mapped one holds the letter, small in its first half.
-pub(crate) fn mix(
-    alloc: Global,
-    nodes: &mut Nodes<MemDevice>,
-    row: &Row,
-) -> Result<String, RowStop> {
+fn mix(alloc: Global, nodes: &mut Nodes<MemDevice>, row: &Row) -> Result<Outcome, RowStop> {
     let node = node(nodes, row, 0)?;
     let alike = row.number(1)?.max(1);
     let letter = row.word(2)?.as_bytes().first().copied().unwrap_or(0);
@@ -76,18 +72,14 @@ pub(crate) fn mix(
         let start = cluster.saturating_mul(CLUSTER);
         let outcome = lay(alloc, nodes, node, start, cluster / alike, letter)?;
         if !outcome.is_good() {
-            return Ok(outcome_text(alloc, outcome)?);
+            return Ok(outcome);
         }
     }
-    Ok(ok(alloc)?)
+    Ok(Outcome::Good)
 }
 
 /// `write-each NODE START BYTES`: the same place of each cluster.
-pub(crate) fn write_each(
-    alloc: Global,
-    nodes: &mut Nodes<MemDevice>,
-    row: &Row,
-) -> Result<String, RowStop> {
+fn write_each(alloc: Global, nodes: &mut Nodes<MemDevice>, row: &Row) -> Result<Outcome, RowStop> {
     let node = node(nodes, row, 0)?;
     let at = u64::from(row.short(1)?);
     let bytes = row.bytes(alloc, 2)?;
@@ -95,18 +87,14 @@ pub(crate) fn write_each(
         let start = cluster.saturating_mul(CLUSTER).saturating_add(at);
         let outcome = write(nodes, node, start, bytes.as_slice())?;
         if !outcome.is_good() {
-            return Ok(outcome_text(alloc, outcome)?);
+            return Ok(outcome);
         }
     }
-    Ok(ok(alloc)?)
+    Ok(Outcome::Good)
 }
 
 /// `zero-each NODE START LENGTH`.
-pub(crate) fn zero_each(
-    alloc: Global,
-    nodes: &mut Nodes<MemDevice>,
-    row: &Row,
-) -> Result<String, RowStop> {
+fn zero_each(nodes: &mut Nodes<MemDevice>, row: &Row) -> Result<Outcome, RowStop> {
     let node = node(nodes, row, 0)?;
     let at = u64::from(row.short(1)?);
     let len = row.short(2)? as usize;
@@ -114,10 +102,10 @@ pub(crate) fn zero_each(
         let start = cluster.saturating_mul(CLUSTER).saturating_add(at);
         let outcome = zero(nodes, node, start, len)?;
         if !outcome.is_good() {
-            return Ok(outcome_text(alloc, outcome)?);
+            return Ok(outcome);
         }
     }
-    Ok(ok(alloc)?)
+    Ok(Outcome::Good)
 }
 
 /// What a cluster holds at a place that reads as two halves but for a piece.
@@ -130,8 +118,8 @@ fn byte_at(place: usize, halves: (u8, u8), at: usize, piece: &[u8]) -> u8 {
 
 /// Whether a cluster reads as two halves but for a piece.
 fn is_halves(cluster: &[u8], halves: (u8, u8), at: usize, piece: &[u8]) -> bool {
-    for (place, byte) in cluster.iter().enumerate() {
-        if *byte != byte_at(place, halves, at, piece) {
+    for place in 0..cluster.len() {
+        if cluster[place] != byte_at(place, halves, at, piece) {
             return false;
         }
     }
@@ -151,31 +139,55 @@ fn letter_of(cluster: &[u8], at: usize, piece: &[u8]) -> char {
     }
 }
 
+/// The place at which each cluster holds a piece, where the row says one.
+fn place_said(row: &Row) -> Result<usize, RowStop> {
+    match row.word(1) {
+        Ok(_) => Ok(row.short(1)? as usize),
+        Err(_) => Ok(0),
+    }
+}
+
+/// Puts what each cluster of a node reads as, where each holds a piece there.
+fn put_letters(
+    nodes: &mut Nodes<MemDevice>,
+    node: NodeId,
+    at: usize,
+    piece: &[u8],
+    buffer: &mut [u8],
+    out: &mut Words,
+) -> Result<Outcome, RowStop> {
+    for cluster in 0..count(nodes, node) {
+        let start = cluster.saturating_mul(CLUSTER);
+        let outcome = read(nodes, node, start, buffer)?;
+        if !outcome.is_good() {
+            return Ok(outcome);
+        }
+        out.letter(letter_of(buffer, at, piece));
+    }
+    Ok(Outcome::Good)
+}
+
 /// `letters NODE`: what each cluster reads as. With `START BYTES` behind it each holds these bytes there.
-pub(crate) fn letters(
+fn letters(
     alloc: Global,
     nodes: &mut Nodes<MemDevice>,
     row: &Row,
-) -> Result<String, RowStop> {
+    out: &mut Words,
+) -> Result<(), RowStop> {
     let node = node(nodes, row, 0)?;
-    let at = if row.word(1).is_ok() {
-        row.short(1)?
-    } else {
-        0
-    };
+    let at = place_said(row)?;
     let piece = row.bytes(alloc, 2)?;
-    let mut out = String::new(alloc);
     let mut buffer = Vec::new(alloc);
     buffer.resize(65_536, 1u8)?;
-    for cluster in 0..count(nodes, node) {
-        let start = cluster.saturating_mul(CLUSTER);
-        let outcome = read(nodes, node, start, buffer.as_mut_slice())?;
-        if !outcome.is_good() {
-            return Ok(outcome_text(alloc, outcome)?);
-        }
-        out.push(letter_of(buffer.as_slice(), at as usize, piece.as_slice()))?;
+    let mut letters = Words::new(alloc);
+    let buffer = buffer.as_mut_slice();
+    let outcome = put_letters(nodes, node, at, piece.as_slice(), buffer, &mut letters)?;
+    if outcome.is_good() {
+        out.put(letters.as_str());
+    } else {
+        put_outcome(outcome, out);
     }
-    Ok(out)
+    Ok(())
 }
 
 #[derive(Clone, Copy)]
@@ -193,16 +205,20 @@ pub(crate) const EACH: [(&str, Each); 4] = [
     ("letters", Each::Letters),
 ];
 
+/// Puts what is answered to a row on all clusters of a node.
 pub(crate) fn answer_to(
     alloc: Global,
     nodes: &mut Nodes<MemDevice>,
     each: Each,
     row: &Row,
-) -> Result<String, RowStop> {
-    match each {
-        Each::Mix => mix(alloc, nodes, row),
-        Each::Write => write_each(alloc, nodes, row),
-        Each::Zero => zero_each(alloc, nodes, row),
-        Each::Letters => letters(alloc, nodes, row),
-    }
+    out: &mut Words,
+) -> Result<(), RowStop> {
+    let outcome = match each {
+        Each::Mix => mix(alloc, nodes, row)?,
+        Each::Write => write_each(alloc, nodes, row)?,
+        Each::Zero => zero_each(nodes, row)?,
+        Each::Letters => return letters(alloc, nodes, row, out),
+    };
+    put_outcome(outcome, out);
+    Ok(())
 }

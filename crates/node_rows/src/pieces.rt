@@ -7,13 +7,12 @@ ghost use Rattle.blk_nodes.specs.Writing.{MayWriteThrough};
 ghost use Rattle.node_rows.specs.Lone.{IsNoOthers, IsAwayFrom};
 
 use crate::node::node;
-use crate::text::outcome_text;
+use crate::text::put_outcome;
 use blk_base::{Outcome, Span};
 use blk_fakes::MemDevice;
 use blk_graph::{Edge, Kind, NodeId, Parent, Role};
 use blk_nodes::Nodes;
-use row_devices::bytes_text;
-use row_text::{Row, RowStop};
+use row_text::{Row, RowStop, Words};
 use std::alloc::Global;
 
 /// The bytes of a cluster and of a block.
@@ -129,43 +128,47 @@ fn length(row: &Row, place: usize) -> Result<usize, RowStop> {
 }
 
 /// `write NODE START BYTES`.
-fn write_row(alloc: Global, nodes: &mut Nodes<MemDevice>, row: &Row) -> Result<String, RowStop> {
+fn write_row(alloc: Global, nodes: &mut Nodes<MemDevice>, row: &Row) -> Result<Outcome, RowStop> {
     let node = node(nodes, row, 0)?;
     let bytes = row.bytes(alloc, 2)?;
-    let outcome = write(nodes, node, row.number(1)?, bytes.as_slice())?;
-    Ok(outcome_text(alloc, outcome)?)
+    write(nodes, node, row.number(1)?, bytes.as_slice())
 }
 
 /// `zero NODE START LENGTH`.
-fn zero_row(alloc: Global, nodes: &mut Nodes<MemDevice>, row: &Row) -> Result<String, RowStop> {
+fn zero_row(nodes: &mut Nodes<MemDevice>, row: &Row) -> Result<Outcome, RowStop> {
     let node = node(nodes, row, 0)?;
-    let outcome = zero(nodes, node, row.number(1)?, length(row, 2)?)?;
-    Ok(outcome_text(alloc, outcome)?)
+    zero(nodes, node, row.number(1)?, length(row, 2)?)
 }
 
 /// `read NODE START LENGTH`: the bytes.
-fn read_row(alloc: Global, nodes: &mut Nodes<MemDevice>, row: &Row) -> Result<String, RowStop> {
+fn read_row(
+    alloc: Global,
+    nodes: &mut Nodes<MemDevice>,
+    row: &Row,
+    out: &mut Words,
+) -> Result<(), RowStop> {
     let node = node(nodes, row, 0)?;
     let mut buffer = Vec::new(alloc);
     buffer.resize(length(row, 2)?, 1u8)?;
     let outcome = read(nodes, node, row.number(1)?, buffer.as_mut_slice())?;
     if outcome.is_good() {
-        return Ok(bytes_text(alloc, buffer.as_slice())?);
+        out.bytes(buffer.as_slice());
+    } else {
+        put_outcome(outcome, out);
     }
-    Ok(outcome_text(alloc, outcome)?)
+    Ok(())
 }
 
 /// `flush NODE`.
-fn flush_row(alloc: Global, nodes: &mut Nodes<MemDevice>, row: &Row) -> Result<String, RowStop> {
+fn flush_row(nodes: &mut Nodes<MemDevice>, row: &Row) -> Result<Outcome, RowStop> {
     let node = node(nodes, row, 0)?;
-    let outcome = nodes.flush_node(node);
-    Ok(outcome_text(alloc, outcome)?)
+    Ok(nodes.flush_node(node))
 }
 
 /// `size NODE`.
-fn size_row(alloc: Global, nodes: &Nodes<MemDevice>, row: &Row) -> Result<String, RowStop> {
-    let size = nodes.size(node(nodes, row, 0)?);
-    Ok(format!(in alloc; "{size}")?)
+fn size_row(nodes: &Nodes<MemDevice>, row: &Row) -> Result<u64, RowStop> {
+    let node = node(nodes, row, 0)?;
+    Ok(nodes.size(node))
 }
 
 #[derive(Clone, Copy)]
@@ -185,17 +188,20 @@ pub(crate) const CALLS: [(&str, Call); 5] = [
     ("size", Call::Size),
 ];
 
+/// Puts what is answered to a row on a piece.
 pub(crate) fn answer_to(
     alloc: Global,
     nodes: &mut Nodes<MemDevice>,
     call: Call,
     row: &Row,
-) -> Result<String, RowStop> {
+    out: &mut Words,
+) -> Result<(), RowStop> {
     match call {
-        Call::Write => write_row(alloc, nodes, row),
-        Call::Zero => zero_row(alloc, nodes, row),
-        Call::Read => read_row(alloc, nodes, row),
-        Call::Flush => flush_row(alloc, nodes, row),
-        Call::Size => size_row(alloc, nodes, row),
+        Call::Write => put_outcome(write_row(alloc, nodes, row)?, out),
+        Call::Zero => put_outcome(zero_row(nodes, row)?, out),
+        Call::Read => return read_row(alloc, nodes, row, out),
+        Call::Flush => put_outcome(flush_row(nodes, row)?, out),
+        Call::Size => out.number(size_row(nodes, row)?),
     }
+    Ok(())
 }

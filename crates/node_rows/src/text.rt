@@ -2,41 +2,29 @@
 
 use blk_base::Outcome;
 use blk_nodes::AddStop;
-use std::alloc::{AllocError, Global};
+use row_text::Words;
 
-/// Why a node isn't added.
-pub(crate) fn stop_text(alloc: Global, stop: &AddStop) -> Result<String, AllocError> {
-    let name = match stop {
-        AddStop::NameTaken => "NameTaken",
-        AddStop::TooManyNodes => "TooManyNodes",
-        AddStop::Conflict(_) => "Conflict",
-        AddStop::Image(why) => return format!(in alloc; "{why}"),
-        AddStop::BackingNeeded => "BackingNeeded",
-        AddStop::SizeDiffers => "SizeDiffers",
-        AddStop::NoMemory => "NoMemory",
-    };
-    String::from_str(alloc, name)
-}
-
-/// How a piece went.
-pub(crate) fn outcome_text(alloc: Global, outcome: Outcome) -> Result<String, AllocError> {
-    match outcome {
-        Outcome::Good => String::from_str(alloc, "ok"),
-        Outcome::Torn { done, dev, count } => {
-            let number = dev.0;
-            format!(in alloc; "Torn({done}, {number}, {count})")
-        }
-        Outcome::Io { dev, count } => {
-            let number = dev.0;
-            format!(in alloc; "Io({number}, {count})")
-        }
-        Outcome::NoSpace { dev } => {
-            let number = dev.0;
-            format!(in alloc; "NoSpace({number})")
-        }
+/// Puts why a node isn't added.
+pub(crate) fn put_stop(stop: &AddStop, out: &mut Words) {
+    match stop {
+        AddStop::NameTaken => out.put("NameTaken"),
+        AddStop::TooManyNodes => out.put("TooManyNodes"),
+        AddStop::Conflict(_) => out.put("Conflict"),
+        AddStop::Image(why) => out.show(why),
+        AddStop::BackingNeeded => out.put("BackingNeeded"),
+        AddStop::SizeDiffers => out.put("SizeDiffers"),
+        AddStop::NoMemory => out.put("NoMemory"),
     }
 }
 
-pub(crate) fn ok(alloc: Global) -> Result<String, AllocError> {
-    String::from_str(alloc, "ok")
+/// Puts how a piece went.
+pub(crate) fn put_outcome(outcome: Outcome, out: &mut Words) {
+    match outcome {
+        Outcome::Good => out.put("ok"),
+        Outcome::Torn { done, dev, count } => {
+            out.fill("Torn(%, %, %)", &[done, u64::from(dev.0), count]);
+        }
+        Outcome::Io { dev, count } => out.fill("Io(%, %)", &[u64::from(dev.0), count]),
+        Outcome::NoSpace { dev } => out.fill("NoSpace(%)", &[u64::from(dev.0)]),
+    }
 }

@@ -6,8 +6,7 @@ use crate::node::node;
 use blk_fakes::MemDevice;
 use blk_graph::{JobUse, MOST_GUESTS, MOST_JOBS};
 use blk_nodes::{NodeUse, Nodes};
-use row_text::{Row, RowStop};
-use std::alloc::Global;
+use row_text::{Row, RowStop, Words};
 
 const JOB_USES: [(&str, JobUse); 6] = [
     ("copy-target", JobUse::CopyTarget),
@@ -132,20 +131,17 @@ fn is_done(nodes: &mut Nodes<MemDevice>, edit: Edit, row: &Row) -> Result<bool, 
     }
 }
 
-/// What is answered to an edit, with the number of edges that there are then.
+/// Puts what is answered to an edit, with the number of edges that there are then.
 pub(crate) fn answer_to(
-    alloc: Global,
     nodes: &mut Nodes<MemDevice>,
     edit: Edit,
     row: &Row,
-) -> Result<String, RowStop> {
-    let answer = if is_done(nodes, edit, row)? {
-        "ok"
-    } else {
-        "Conflict"
-    };
-    let edges = nodes.edges().len();
-    Ok(format!(in alloc; "{answer}, {edges} edges")?)
+    out: &mut Words,
+) -> Result<(), RowStop> {
+    let is_done = is_done(nodes, edit, row)?;
+    out.put(if is_done { "ok" } else { "Conflict" });
+    out.fill(", % edges", &[nodes.edges().len() as u64]);
+    Ok(())
 }
 
 /// `mode NODE`: `rw`, or `ro` of a node that may not be written.

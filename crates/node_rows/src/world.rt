@@ -1,11 +1,10 @@
 //! What rows are played on.
 
-use crate::{adding, clusters, pieces, stack, text, users};
+use crate::{adding, clusters, pieces, stack, users};
 use blk_base::NoMemory;
 use blk_fakes::{FailAt, MemDevice};
 use blk_nodes::Nodes;
-use row_devices::failing;
-use row_text::{Player, Row, RowStop, named};
+use row_text::{Player, Row, RowStop, Words, named};
 use std::alloc::Global;
 
 /// The nodes, and which calls of the next device are to fail.
@@ -26,12 +25,14 @@ enum Act {
     Image,
     Raw,
     Qcow2,
+    Filter,
+    Drop,
     Mode,
     Edges,
     NextCallsFail,
 }
 
-const ACTS: [(&str, Act); 10] = [
+const ACTS: [(&str, Act); 12] = [
     ("begin", Act::Begin),
     ("stack", Act::Stack),
     ("fail", Act::Fail),
@@ -39,6 +40,8 @@ const ACTS: [(&str, Act); 10] = [
     ("image", Act::Image),
     ("raw", Act::Raw),
     ("qcow2", Act::Qcow2),
+    ("filter", Act::Filter),
+    ("drop", Act::Drop),
     ("mode", Act::Mode),
     ("edges", Act::Edges),
     ("next-calls-fail", Act::NextCallsFail),
@@ -54,72 +57,63 @@ impl World {
     }
 
     /// Begins with these nodes.
-    fn begin(&mut self, nodes: Nodes<MemDevice>) -> Result<String, RowStop> {
+    fn begin(&mut self, nodes: Nodes<MemDevice>, out: &mut Words) {
         self.nodes = nodes;
         self.fails.clear();
-        Ok(text::ok(self.alloc)?)
+        out.put("ok");
     }
 
     /// `fail CALL DONE`: so does a call of the next device.
-    fn fail(&mut self, row: &Row) -> Result<String, RowStop> {
-        self.fails.push(failing(row, 0)?)?;
-        Ok(text::ok(self.alloc)?)
+    fn fail(&mut self, row: &Row, out: &mut Words) -> Result<(), RowStop> {
+        let (call, done) = row.failing(0)?;
+        self.fails.push(FailAt { call, done })?;
+        out.put("ok");
+        Ok(())
     }
 
-    fn file(&mut self, row: &Row) -> Result<String, RowStop> {
-        let answer = adding::file(self.alloc, &mut self.nodes, self.fails.as_slice(), row)?;
+    fn file(&mut self, is_image: bool, row: &Row, out: &mut Words) -> Result<(), RowStop> {
+        let fails = self.fails.as_slice();
+        adding::file(self.alloc, &mut self.nodes, fails, is_image, row, out)?;
         self.fails.clear();
-        Ok(answer)
+        Ok(())
     }
 
-    fn image(&mut self, row: &Row) -> Result<String, RowStop> {
-        let answer = adding::image(self.alloc, &mut self.nodes, self.fails.as_slice(), row)?;
-        self.fails.clear();
-        Ok(answer)
-    }
-
-    fn mode(&self, row: &Row) -> Result<String, RowStop> {
-        Ok(String::from_str(self.alloc, users::mode(&self.nodes, row)?)?)
-    }
-
-    /// `edges`: how many there are.
-    fn edges(&self) -> Result<String, RowStop> {
-        let count = self.nodes.edges().len();
-        Ok(format!(in self.alloc; "{count}")?)
-    }
-
-    fn act(&mut self, act: Act, row: &Row) -> Result<String, RowStop> {
+    fn act(&mut self, act: Act, row: &Row, out: &mut Words) -> Result<(), RowStop> {
         let alloc = self.alloc;
         match act {
-            Act::Begin => self.begin(Nodes::new(alloc)?),
-            Act::Stack => self.begin(stack::stack(alloc, row)?),
-            Act::Fail => self.fail(row),
-            Act::File => self.file(row),
-            Act::Image => self.image(row),
-            Act::Raw => adding::raw(alloc, &mut self.nodes, row),
-            Act::Qcow2 => adding::qcow2(alloc, &mut self.nodes, row),
-            Act::Mode => self.mode(row),
-            Act::Edges => self.edges(),
-            Act::NextCallsFail => stack::next_calls_fail(alloc, &mut self.nodes, row),
+            Act::Begin => self.begin(Nodes::new(alloc)?, out),
+            Act::Stack => self.begin(stack::stack(alloc, row)?, out),
+            Act::Fail => return self.fail(row, out),
+            Act::File => return self.file(false, row, out),
+            Act::Image => return self.file(true, row, out),
+            Act::Raw => return adding::raw(alloc, &mut self.nodes, row, out),
+            Act::Qcow2 => return adding::qcow2(alloc, &mut self.nodes, row, out),
+            Act::Filter => return adding::filter(alloc, &mut self.nodes, row, out),
+            Act::Drop => adding::drop_node(&mut self.nodes, row, out)?,
+            Act::Mode => out.put(users::mode(&self.nodes, row)?),
+            // `edges`: how many there are
+            Act::Edges => out.number(self.nodes.edges().len() as u64),
+            Act::NextCallsFail => return stack::next_calls_fail(alloc, &mut self.nodes, row, out),
         }
+        Ok(())
     }
 }
 
 impl Player for World {
-    fn answer_to(&mut self, row: &Row) -> Result<String, RowStop> {
+    fn answer_to(&mut self, row: &Row, out: &mut Words) -> Result<(), RowStop> {
         let alloc = self.alloc;
         if let Some(act) = named(&ACTS, row.key) {
-            return self.act(act, row);
+            return self.act(act, row, out);
         }
         if let Some(call) = named(&pieces::CALLS, row.key) {
-            return pieces::answer_to(alloc, &mut self.nodes, call, row);
+            return pieces::answer_to(alloc, &mut self.nodes, call, row, out);
         }
         if let Some(edit) = named(&users::EDITS, row.key) {
-            return users::answer_to(alloc, &mut self.nodes, edit, row);
+            return users::answer_to(&mut self.nodes, edit, row, out);
         }
-        if let Some(each) = named(&clusters::EACH, row.key) {
-            return clusters::answer_to(alloc, &mut self.nodes, each, row);
+        match named(&clusters::EACH, row.key) {
+            Some(each) => clusters::answer_to(alloc, &mut self.nodes, each, row, out),
+            None => Err(RowStop::Word),
         }
-        Err(RowStop::Word)
     }
 }

@@ -1,11 +1,11 @@
 //! What rows ask of the last run.
 
-use crate::file::file_of;
-use crate::scene::Scene;
-use crate::told::same_text;
+use crate::file::{RunFile, file_of};
+use crate::runner::Ran;
+use crate::told::put_same;
 use blk_fakes::MemDevice;
-use row_text::{Row, RowStop};
-use std::fmt::Write;
+use row_text::{Row, RowStop, Words};
+use std::alloc::Global;
 
 #[derive(Clone, Copy)]
 pub(crate) enum Ask {
@@ -24,76 +24,69 @@ pub(crate) const ASKS: [(&str, Ask); 5] = [
     ("writes", Ask::Writes),
 ];
 
+/// The device of a file as a run left it.
+fn device_of<'a>(ran: &'a Ran, name: &str) -> Result<&'a MemDevice, RowStop> {
+    match ran.store.file(name) {
+        Some(dev) => Ok(dev),
+        None => Err(RowStop::Word),
+    }
+}
+
+/// The bytes of a file as a run left it.
+pub(crate) fn left<'a>(ran: &'a Ran, name: &str) -> Result<&'a [u8], RowStop> {
+    Ok(device_of(ran, name)?.bytes())
+}
+
 /// Puts where the writes of a device were, and how long: `0x20008 2, 0x30000 8`.
-fn put_writes(out: &mut String, dev: &MemDevice) -> Result<(), RowStop> {
+fn put_writes(out: &mut Words, dev: &MemDevice) {
     let Some(count) = dev.logged() else {
-        return Ok(out.push_str("too many")?);
+        return out.put("too many");
     };
     for k in 0..count {
         let (at, bytes) = dev.log_at(k);
-        let len = bytes.len();
-        if k != 0 {
-            out.push_str(", ")?;
-        }
-        write!(out, "0x{at:x} {len}")?;
+        out.put(if k == 0 { "" } else { ", " });
+        out.fill("$ %", &[at, bytes.len() as u64]);
+    }
+}
+
+/// `left FILE NAME`: whether a file has the bytes that were kept by that name.
+fn put_left(ran: &Ran, kept: &[RunFile], row: &Row, out: &mut Words) -> Result<(), RowStop> {
+    let came = left(ran, row.word(0)?)?;
+    let kept = file_of(kept, row.word(1)?)?;
+    put_same(out, came, kept.bytes.as_slice());
+    Ok(())
+}
+
+/// `holds FILE PLACE BYTES`: whether a file has these bytes from a place on.
+fn put_holds(alloc: Global, ran: &Ran, row: &Row, out: &mut Words) -> Result<(), RowStop> {
+    let came = left(ran, row.word(0)?)?;
+    let at = row.short(1)? as usize;
+    let bytes = row.bytes(alloc, 2)?;
+    match came.get(at..at.saturating_add(bytes.len())) {
+        Some(part) => put_same(out, part, bytes.as_slice()),
+        None => out.put("it ends before"),
     }
     Ok(())
 }
 
-impl Scene {
-    /// `status`: what the status of the run is, with its fields.
-    fn status(&self) -> Result<String, RowStop> {
-        match &self.ran {
-            Some(ran) => Ok(String::from_str(self.alloc, ran.ended.variant.as_str())?),
-            None => Err(RowStop::Call),
-        }
+/// Puts what is asked of a run.
+pub(crate) fn answer(
+    alloc: Global,
+    ran: &Ran,
+    kept: &[RunFile],
+    what: Ask,
+    row: &Row,
+    out: &mut Words,
+) -> Result<(), RowStop> {
+    match what {
+        // `status`: what the status of the run is, with its fields
+        Ask::Status => out.put(ran.variant.as_str()),
+        Ask::Left => return put_left(ran, kept, row, out),
+        // `size FILE`: how long a file is
+        Ask::Size => out.number(left(ran, row.word(0)?)?.len() as u64),
+        Ask::Holds => return put_holds(alloc, ran, row, out),
+        // `writes FILE`: where the writes of its device were, and how long
+        Ask::Writes => put_writes(out, device_of(ran, row.word(0)?)?),
     }
-
-    /// `left FILE NAME`: whether a file has the bytes that were kept by that name.
-    fn is_left(&self, row: &Row) -> Result<String, RowStop> {
-        let came = self.left(row.word(0)?)?;
-        let kept = file_of(self.kept.as_slice(), row.word(1)?)?;
-        same_text(self.alloc, came.as_slice(), kept.bytes.as_slice())
-    }
-
-    /// `size FILE`: how long a file is.
-    fn size(&self, row: &Row) -> Result<String, RowStop> {
-        let size = self.left(row.word(0)?)?.len();
-        Ok(format!(in self.alloc; "{size}")?)
-    }
-
-    /// `holds FILE PLACE BYTES`: whether a file has these bytes from a place on.
-    fn holds(&self, row: &Row) -> Result<String, RowStop> {
-        let came = self.left(row.word(0)?)?;
-        let at = row.short(1)? as usize;
-        let bytes = row.bytes(self.alloc, 2)?;
-        match came.as_slice().get(at..at.saturating_add(bytes.len())) {
-            Some(part) => same_text(self.alloc, part, bytes.as_slice()),
-            None => Ok(String::from_str(self.alloc, "it ends before")?),
-        }
-    }
-
-    /// `writes FILE`: where the writes of its device were, and how long.
-    fn writes(&self, row: &Row) -> Result<String, RowStop> {
-        let mut out = String::new(self.alloc);
-        let Some(ran) = &self.ran else {
-            return Err(RowStop::Call);
-        };
-        match ran.store.file(row.word(0)?) {
-            Some(dev) => put_writes(&mut out, dev)?,
-            None => return Err(RowStop::Word),
-        }
-        Ok(out)
-    }
-
-    /// What is answered.
-    pub(crate) fn asked(&self, ask: Ask, row: &Row) -> Result<String, RowStop> {
-        match ask {
-            Ask::Status => self.status(),
-            Ask::Left => self.is_left(row),
-            Ask::Size => self.size(row),
-            Ask::Holds => self.holds(row),
-            Ask::Writes => self.writes(row),
-        }
-    }
+    Ok(())
 }

@@ -1,15 +1,14 @@
 //! Rows that are played more than once.
 
-use crate::script::numbered;
-use row_text::{Row, RowStop};
+use row_text::{Row, RowStop, Words};
 use std::alloc::Global;
 
 /// A row that is played later, with a number in the place of each `%`.
 #[derive(Drop)]
 pub(crate) struct Later {
-    pub(crate) key: String,
-    pub(crate) words: String,
-    pub(crate) expected: String,
+    key: Words,
+    words: Words,
+    expected: Words,
 }
 
 /// Rows that are played for each of some numbers.
@@ -22,14 +21,38 @@ pub(crate) struct Block {
     pub(crate) rows: Vec<Later>,
 }
 
+/// A text with this number in the place of each `%`.
+fn with(alloc: Global, text: &str, number: u64) -> Words {
+    let mut words = Words::new(alloc);
+    words.numbered(text, number);
+    words
+}
+
+/// A copy of a text.
+fn kept(alloc: Global, text: &str) -> Words {
+    let mut words = Words::new(alloc);
+    words.put(text);
+    words
+}
+
 impl Later {
     /// A copy of a row, with this number in the place of each `%`.
-    pub(crate) fn numbered(&self, alloc: Global, number: u64) -> Result<Later, RowStop> {
-        Ok(Later {
-            key: numbered(alloc, self.key.as_str(), number)?,
-            words: numbered(alloc, self.words.as_str(), number)?,
-            expected: numbered(alloc, self.expected.as_str(), number)?,
-        })
+    pub(crate) fn numbered(&self, alloc: Global, number: u64) -> Later {
+        Later {
+            key: with(alloc, self.key.as_str(), number),
+            words: with(alloc, self.words.as_str(), number),
+            expected: with(alloc, self.expected.as_str(), number),
+        }
+    }
+
+    /// The row that it is.
+    pub(crate) fn row(&self) -> Row<'_> {
+        Row {
+            is_wrong: false,
+            key: self.key.as_str(),
+            words: self.words.as_str(),
+            expected: self.expected.as_str(),
+        }
     }
 }
 
@@ -51,9 +74,9 @@ impl Block {
     /// Takes a row that is played later.
     pub(crate) fn record(&mut self, alloc: Global, row: &Row) -> Result<(), RowStop> {
         self.rows.push(Later {
-            key: String::from_str(alloc, row.key)?,
-            words: String::from_str(alloc, row.words)?,
-            expected: String::from_str(alloc, row.expected)?,
+            key: kept(alloc, row.key),
+            words: kept(alloc, row.words),
+            expected: kept(alloc, row.expected),
         })?;
         Ok(())
     }

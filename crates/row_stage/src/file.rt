@@ -2,7 +2,7 @@
 
 use blk_base::NoMemory;
 use blk_fakes::{FailAt, MemDevice};
-use row_text::RowStop;
+use row_text::{RowStop, same};
 use std::alloc::Global;
 
 /// The most that a file may hold, where nothing else is said and it isn't longer.
@@ -28,18 +28,22 @@ pub(crate) fn empty(alloc: Global, name: &str) -> Result<RunFile, RowStop> {
 }
 
 fn place_of(files: &[RunFile], name: &str) -> Option<usize> {
-    files.iter().position(|file| file.name.as_str() == name)
+    for place in 0..files.len() {
+        if same(files[place].name.as_str(), name) {
+            return Some(place);
+        }
+    }
+    None
 }
 
 /// The file of that name.
 pub(crate) fn file_of<'a>(files: &'a [RunFile], name: &str) -> Result<&'a RunFile, RowStop> {
-    let Some(place) = place_of(files, name) else {
-        return Err(RowStop::Word);
-    };
-    match files.get(place) {
-        Some(file) => Ok(file),
-        None => Err(RowStop::Word),
+    for file in files {
+        if same(file.name.as_str(), name) {
+            return Ok(file);
+        }
     }
+    Err(RowStop::Word)
 }
 
 /// The place of the file of that name, which is added with no bytes where there is none.
@@ -70,45 +74,48 @@ pub(crate) fn append(
     Ok(())
 }
 
+/// Puts bytes over others from a place on, where they lie in them.
+fn put_bytes(all: &mut [u8], at: usize, bytes: &[u8]) -> Result<(), RowStop> {
+    if all.len() < at || all.len() - at < bytes.len() {
+        return Err(RowStop::Number);
+    }
+    for place in 0..bytes.len() {
+        if let Some(to) = all.get_mut(at.saturating_add(place)) {
+            *to = bytes[place];
+        }
+    }
+    Ok(())
+}
+
 /// Puts bytes over those of a file from a place on.
-pub(crate) fn put(
+pub(crate) fn put_over(
     files: &mut Vec<RunFile>,
     name: &str,
     at: usize,
     bytes: &[u8],
 ) -> Result<(), RowStop> {
-    for file in files.iter_mut() {
-        if file.name.as_str() == name {
-            return put_over(&mut file.bytes, at, bytes);
+    match place_of(files.as_slice(), name) {
+        Some(place) if place < files.len() => {
+            put_bytes(files[place].bytes.as_mut_slice(), at, bytes)
         }
+        _ => Err(RowStop::Word),
     }
-    Err(RowStop::Word)
-}
-
-fn put_over(all: &mut Vec<u8>, at: usize, bytes: &[u8]) -> Result<(), RowStop> {
-    if all.len() < at || all.len() - at < bytes.len() {
-        return Err(RowStop::Number);
-    }
-    for (to, byte) in all.iter_mut().skip(at).zip(bytes.iter()) {
-        *to = *byte;
-    }
-    Ok(())
 }
 
 /// The same bytes as those of a file, under another name, with no call that fails.
 pub(crate) fn copied(alloc: Global, file: &RunFile, name: &str) -> Result<RunFile, RowStop> {
-    Ok(RunFile {
-        name: String::from_str(alloc, name)?,
-        bytes: Vec::from_slice(alloc, file.bytes.as_slice())?,
-        capacity: file.capacity,
-        fails: Vec::new(alloc),
-    })
+    let mut copy = empty(alloc, name)?;
+    copy.bytes.extend_from_slice(file.bytes.as_slice())?;
+    copy.capacity = file.capacity;
+    Ok(copy)
 }
 
 /// Puts a file in the place of that of its name, or at the end.
 pub(crate) fn set(files: &mut Vec<RunFile>, file: RunFile) -> Result<(), RowStop> {
-    files.retain(|other| other.name.as_str() != file.name.as_str());
-    files.push(file)?;
+    match place_of(files.as_slice(), file.name.as_str()) {
+        Some(place) if place < files.len() => files[place] = file,
+        _ => files.push(file)?,
+    }
     Ok(())
 }
 

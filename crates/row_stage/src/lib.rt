@@ -17,5 +17,5 @@ mod stage;
 mod store;
 mod told;
 
-pub use runner::{Ended, Runner};
+pub use runner::{Ran, Runner};
 pub use stage::Stage;

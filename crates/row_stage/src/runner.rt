@@ -3,26 +3,21 @@ ghost use Rattle.std.specs.Prelude.{◌≡◌, []};
 
 use blk_base::Text;
 use blk_fakes::{MemSink, MemStore};
-use row_text::RowStop;
+use row_text::Words;
 use std::alloc::Global;
 
-/// How a run ended: the number that the process ends with, the status's text, and its variant with what is in it.
+/// What came of a run: the number that the process ends with, the status's text, its variant with what is in it, and the files.
 #[derive(Drop)]
-pub struct Ended {
+pub struct Ran {
     pub exit: u8,
-    pub text: String,
-    pub variant: String,
+    pub text: Words,
+    pub variant: Words,
+    pub store: MemStore,
 }
 
 /// What carries out a run.
 pub trait Runner {
     /// Does what the words say on the files of a store, of which none is out. The store is given back.
-    fn run(
-        &mut self,
-        alloc: Global,
-        words: &[Text],
-        store: MemStore,
-        out: &mut MemSink,
-    ) -> Result<(Ended, MemStore), RowStop>
+    fn run(&mut self, alloc: Global, words: &[Text], store: MemStore, out: &mut MemSink) -> Ran
         requires { store.opened ≡ [] };
 }

@@ -1,20 +1,6 @@
 //! Lines of scripts, and lines of transcripts.
 
-use row_text::RowStop;
-use std::alloc::Global;
-use std::fmt::Write;
-
-/// The line of a command with its arguments, or of one alone.
-pub(crate) fn command_line(
-    alloc: Global,
-    command: &str,
-    arguments: &str,
-) -> Result<String, RowStop> {
-    if arguments.is_empty() {
-        return Ok(format!(in alloc; "{{\"execute\":\"{command}\"}}\n")?);
-    }
-    Ok(format!(in alloc; "{{\"execute\":\"{command}\",\"arguments\":{arguments}}}\n")?)
-}
+use row_text::{Words, cut, first_word, same};
 
 /// How many lines end in these bytes.
 pub(crate) fn line_count(bytes: &[u8]) -> u64 {
@@ -27,63 +13,78 @@ pub(crate) fn line_count(bytes: &[u8]) -> u64 {
     count
 }
 
-const CLASSES: [&str; 3] = ["CommandNotFound", "DeviceNotFound", "DeviceNotActive"];
+/// Classes as words begin with them, and as replies have them.
+const CLASSES: [(&str, &str); 3] = [
+    ("CommandNotFound:", "CommandNotFound"),
+    ("DeviceNotFound:", "DeviceNotFound"),
+    ("DeviceNotActive:", "DeviceNotActive"),
+];
 
 /// The class of a refusal and its text: that which stands before a colon, or GenericError.
 fn class_of(words: &str) -> (&str, &str) {
-    if let Some((class, text)) = words.split_once(": ")
-        && CLASSES.iter().any(|other| *other == class)
-    {
-        return (class, text);
+    let (first, text) = first_word(words);
+    for (begins, class) in &CLASSES {
+        if same(first, *begins) {
+            return (*class, text);
+        }
     }
     ("GenericError", words)
 }
 
-/// Puts the line of a reply: `ok` stands for nothing, a list for itself, and all other words for why a line is refused.
-pub(crate) fn put_reply(out: &mut String, number: u64, words: &str) -> Result<(), RowStop> {
-    if words == "ok" {
-        writeln!(out, "reply {number} {{\"return\":{{}}}}")?;
-        return Ok(());
-    }
-    if words.starts_with('[') {
-        writeln!(out, "reply {number} {{\"return\":{words}}}")?;
-        return Ok(());
-    }
+/// Puts why a line is refused.
+fn put_refusal(out: &mut Words, words: &str) {
     let (class, text) = class_of(words);
-    writeln!(
-        out,
-        "reply {number} {{\"error\":{{\"class\":\"{class}\",\"desc\":\"{text}\"}}}}"
-    )?;
-    Ok(())
+    out.put("{\"error\":{\"class\":\"");
+    out.put(class);
+    out.put("\",\"desc\":\"");
+    out.put(text);
+    out.line("\"}}");
 }
 
-/// Puts the lines of a guest's request of that number: it is admitted, its pieces go so, and it is retired.
-pub(crate) fn put_request(
-    out: &mut String,
-    guest: &str,
-    number: u64,
-    words: &str,
-) -> Result<(), RowStop> {
-    let (request, pieces) = words.split_once(" : ").unwrap_or((words, ""));
-    let request = request.trim_ascii();
-    writeln!(out, "admit {guest} {number} {request}")?;
-    for (place, piece) in pieces.split(", ").enumerate() {
-        if !piece.is_empty() {
-            writeln!(out, "piece {guest} {number} {place} {piece}")?;
-        }
+/// Puts the line of a reply: `ok` stands for nothing, a list for itself, and all other words for why a line is refused.
+pub(crate) fn put_reply(out: &mut Words, number: u64, words: &str) {
+    out.fill("reply % ", &[number]);
+    if same(words, "ok") {
+        out.line("{\"return\":{}}");
+    } else if words.starts_with('[') {
+        out.put("{\"return\":");
+        out.put(words);
+        out.line("}");
+    } else {
+        put_refusal(out, words);
     }
-    writeln!(out, "retire {guest} {number}")?;
-    Ok(())
 }
 
-/// A text with this number in the place of each `%`.
-pub(crate) fn numbered(alloc: Global, text: &str, number: u64) -> Result<String, RowStop> {
-    let mut out = String::new(alloc);
-    for (place, part) in text.split('%').enumerate() {
-        if place != 0 {
-            write!(out, "{number}")?;
+/// Puts what a line of a request begins with.
+fn put_head(out: &mut Words, what: &str, guest: &str, number: u64) {
+    out.put(what);
+    out.put(guest);
+    out.fill(" %", &[number]);
+}
+
+/// Puts the lines of a request's pieces.
+fn put_pieces(out: &mut Words, guest: &str, number: u64, pieces: &str) {
+    let mut rest = pieces;
+    for place in 0..pieces.len() {
+        if rest.is_empty() {
+            return;
         }
-        out.push_str(part)?;
+        let (piece, more) = cut(rest, ", ");
+        put_head(out, "piece ", guest, number);
+        out.fill(" % ", &[place as u64]);
+        out.line(piece);
+        rest = more;
     }
-    Ok(out)
+}
+
+/// Puts the lines of a request of that number, `GUEST WORDS : PIECE, PIECE`: it is admitted, its pieces go so, and it is retired.
+pub(crate) fn put_request(out: &mut Words, words: &str, number: u64) {
+    let (guest, words) = first_word(words);
+    let (request, pieces) = cut(words, " : ");
+    put_head(out, "admit ", guest, number);
+    out.put(" ");
+    out.line(request.trim_ascii());
+    put_pieces(out, guest, number, pieces);
+    put_head(out, "retire ", guest, number);
+    out.line("");
 }

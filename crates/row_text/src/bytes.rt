@@ -139,3 +139,13 @@ pub fn read_bytes(alloc: Global, text: &str) -> Result<Option<Vec<u8>>, NoMemory
     }
     Ok(Some(out))
 }
+
+/// The first place at which bytes don't begin with others.
+pub fn first_other(came: &[u8], wanted: &[u8]) -> Option<usize> {
+    for place in 0..wanted.len() {
+        if place >= came.len() || came[place] != wanted[place] {
+            return Some(place);
+        }
+    }
+    None
+}

@@ -1,11 +1,11 @@
 //! Rows of one line: what is done, and what is answered.
 
-use crate::{Entry, read_bytes, read_number};
+use crate::{first_word, read_bytes, read_number, same};
 use blk_base::NoMemory;
 use std::alloc::{AllocError, AllocFailed, Global};
 
 /// Why a row isn't played.
-#[derive(Clone, Copy, Debug)]
+#[derive(Clone, Copy)]
 pub enum RowStop {
     NoMemory,
     /// A word is missing.
@@ -55,7 +55,6 @@ impl<T: Drop> From<AllocFailed<T>> for RowStop {
 /// doesn't say it. A row behind the key `wrong` is one whose answer is to be another.
 #[derive(Clone, Copy)]
 pub struct Row<'a> {
-    pub line: usize,
     pub is_wrong: bool,
     pub key: &'a str,
     pub words: &'a str,
@@ -65,29 +64,25 @@ pub struct Row<'a> {
 /// What a word stands for in a table.
 pub fn named<T: Copy>(table: &[(&str, T)], word: &str) -> Option<T> {
     for (name, thing) in table {
-        if *name == word {
+        if same(*name, word) {
             return Some(*thing);
         }
     }
     None
 }
 
-/// The first word of a text, and what stands behind it.
-fn first_word(text: &str) -> (&str, &str) {
-    text.split_once(' ').unwrap_or((text, ""))
-}
-
 impl<'a> Row<'a> {
-    pub fn of(entry: &Entry<'a>) -> Row<'a> {
-        let is_wrong = entry.key == "wrong";
+    /// The row that a line is.
+    pub fn of(line: &'a str) -> Row<'a> {
+        let (first, behind) = first_word(line);
+        let is_wrong = same(first, "wrong");
         let (key, rest) = if is_wrong {
-            first_word(entry.rest)
+            first_word(behind)
         } else {
-            (entry.key, entry.rest)
+            (first, behind)
         };
         let (words, expected) = rest.split_once('=').unwrap_or((rest, "ok"));
         Row {
-            line: entry.number,
             is_wrong,
             key,
             words,
@@ -95,20 +90,30 @@ impl<'a> Row<'a> {
         }
     }
 
+    /// What stands behind the key, without the spaces around it.
+    pub fn text(&self) -> &'a str {
+        self.words.trim_ascii()
+    }
+
     /// Whether it is right where this is answered.
     pub fn is_right(&self, answer: &str) -> bool {
-        (answer == self.expected) != self.is_wrong
+        same(answer, self.expected) != self.is_wrong
     }
 
     /// Whether a word stands behind the key.
     pub fn has(&self, word: &str) -> bool {
-        self.words.split_whitespace().any(|other| other == word)
+        for other in self.words.split_whitespace() {
+            if same(other, word) {
+                return true;
+            }
+        }
+        false
     }
 
     /// The word at a place, counted from 0; `""` stands for the empty word.
     pub fn word(&self, place: usize) -> Result<&'a str, RowStop> {
         match self.words.split_whitespace().nth(place) {
-            Some("\"\"") => Ok(""),
+            Some(word) if same(word, "\"\"") => Ok(""),
             Some(word) => Ok(word),
             None => Err(RowStop::Missing),
         }
@@ -154,5 +159,16 @@ impl<'a> Row<'a> {
             Ok(number) => Ok(number),
             Err(_) => Err(RowStop::Number),
         }
+    }
+
+    /// `CALL` or `CALL DONE`, the first of them at a place: the number of a call that fails, counted from 0, and how many
+    /// bytes of a write it does first, which are none where the row doesn't say it.
+    pub fn failing(&self, place: usize) -> Result<(u64, u64), RowStop> {
+        let call = self.number(place)?;
+        let behind = place.saturating_add(1);
+        if self.word(behind).is_err() {
+            return Ok((call, 0));
+        }
+        Ok((call, self.number(behind)?))
     }
 }

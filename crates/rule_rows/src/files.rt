@@ -49,14 +49,21 @@ fn stopped_at(alloc: Global, look: Option<Look>) -> Result<Option<Stopped>, NoMe
     }
 }
 
+/// The length of each file that is opened, and the look at which files refuse a line.
+#[derive(Clone, Copy)]
+pub(crate) struct Files {
+    pub(crate) length: u64,
+    pub(crate) look: Option<Look>,
+}
+
 /// That every file which is opened has this length, and every image 1 MiB. That of the node `full` maps a cluster.
-pub(crate) fn told(alloc: Global, length: u64, look: Option<Look>) -> Result<Told, NoMemory> {
+pub(crate) fn told(alloc: Global, files: Files) -> Result<Told, NoMemory> {
     let mut mapped = Vec::new(alloc);
     mapped.push(Text::copied(alloc, "full")?)?;
     Ok(Told {
-        length: Some(length),
+        length: Some(files.length),
         size: Some(1_048_576),
-        stopped: stopped_at(alloc, look)?,
+        stopped: stopped_at(alloc, files.look)?,
         mapped: Names1::from_vec(mapped),
         dirty: Amounts::new(Vec::new(alloc)),
     })

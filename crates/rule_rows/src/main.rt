@@ -2,6 +2,7 @@
 //! given by name, and prints what is wrong.
 #![tactic(auto)]
 
+mod ends;
 mod files;
 mod judged;
 mod player;

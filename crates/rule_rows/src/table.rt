@@ -1,30 +1,40 @@
 //! Tables that rows begin with, by the lines that made them.
 
-use row_text::RowStop;
+use row_text::{RowStop, Words, same};
 use std::alloc::Global;
 
 /// A table as lines made it, all of which it accepted.
 #[derive(Drop)]
 pub(crate) struct Table {
-    pub(crate) name: String,
+    pub(crate) name: Words,
     /// How long the files were.
     pub(crate) length: u64,
-    pub(crate) lines: Vec<String>,
+    pub(crate) lines: Vec<Words>,
 }
 
-/// A copy of lines.
-pub(crate) fn copied(alloc: Global, lines: &[String]) -> Result<Vec<String>, RowStop> {
-    let mut all = Vec::new(alloc);
-    for line in lines {
-        all.push(String::from_str(alloc, line.as_str())?)?;
-    }
-    Ok(all)
+/// A copy of a text.
+pub(crate) fn kept(alloc: Global, text: &str) -> Words {
+    let mut words = Words::new(alloc);
+    words.put(text);
+    words
 }
 
-/// The place of a table by its name.
-pub(crate) fn place_of(tables: &[Table], name: &str) -> Result<usize, RowStop> {
-    match tables.iter().position(|table| table.name.as_str() == name) {
-        Some(place) if place < tables.len() => Ok(place),
-        _ => Err(RowStop::Word),
+/// Puts copies of lines in the place of others.
+pub(crate) fn copy(alloc: Global, from: &[Words], to: &mut Vec<Words>) -> Result<(), RowStop> {
+    to.clear();
+    for line in from {
+        to.push(kept(alloc, line.as_str()))?;
     }
+    Ok(())
+}
+
+/// The table of this name that was kept last.
+pub(crate) fn table_of<'a>(tables: &'a [Table], name: &str) -> Result<&'a Table, RowStop> {
+    let mut found = Err(RowStop::Word);
+    for table in tables {
+        if same(table.name.as_str(), name) {
+            found = Ok(table);
+        }
+    }
+    found
 }
