@@ -9,7 +9,7 @@ use Rattle.blk_base.specs.declared.fault.Outcome.TheVariants.{Good, Torn, Io, No
 use Rattle.blk_nodes.specs.Contents.{disk_of}
 use Rattle.blk_nodes.specs.Found.{IsReadOfSource}
 use Rattle.blk_nodes.specs.Nodes.{Nodes, AreTold}
-use Rattle.blk_nodes.specs.Reading.{IsReadBelow, ReadsDisk}
+use Rattle.blk_nodes.specs.Reading.{HaveRisen, IsReadBelow, ReadsDisk}
 use Rattle.blk_nodes.specs.Sources.{source_at}
 use Rattle.node_copies.specs.Putting.{CopiesBlock, CopiesBehind, IsPut, PutsRuns, answer_of}
 use Rattle.node_copies.specs.Sectors.{runs_of}
@@ -34,6 +34,7 @@ not_ok o stopped is =
 
 module _ (old mid : Nodes) (from to : ℕ) (block : Extent) (sectors : ℕ) (read : Outcome) (bytes : List ℕ) (went : IsReadBelow old mid from read)
     (source : IsReadOfSource old.rows (source_at old from block.start) block old.devices mid.devices read) (kept : mid ≡ record old { devices = mid.devices })
+    (risen : HaveRisen old.devices mid.devices)
     (found : AreTold old.devices → ReadsDisk read (disk_of old from) block bytes) where
   pub copies_stopped : is_good read ≡ false → CopiesBlock old mid from to block sectors (answer_of read)
   copies_stopped stopped = record {
@@ -43,6 +44,7 @@ module _ (old mid : Nodes) (from to : ℕ) (block : Extent) (sectors : ℕ) (rea
     went = went;
     source = source;
     kept = kept;
+    risen = risen;
     found = found;
     behind = by read stopped;
   }
@@ -64,6 +66,7 @@ module _ (old mid : Nodes) (from to : ℕ) (block : Extent) (sectors : ℕ) (rea
         went = went;
         source = source;
         kept = kept;
+        risen = risen;
         found = found;
         behind = subst P (sym (good_is read good)) (wrote, puts, refl);
       }

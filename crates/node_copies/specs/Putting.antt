@@ -9,7 +9,7 @@ use Rattle.blk_base.specs.declared.fault.Outcome.TheVariants.{Good, Torn, Io, No
 use Rattle.blk_nodes.specs.Contents.{disk_of}
 use Rattle.blk_nodes.specs.Found.{IsReadOfSource}
 use Rattle.blk_nodes.specs.Nodes.{Nodes, AreTold}
-use Rattle.blk_nodes.specs.Reading.{IsReadBelow, ReadsDisk}
+use Rattle.blk_nodes.specs.Reading.{HaveRisen, IsReadBelow, ReadsDisk}
 use Rattle.blk_nodes.specs.Sources.{source_at}
 use Rattle.blk_nodes.specs.Writing.{IsApartFrom, LeavesNodes, WritesPiece, ZerosPiece, taken_by}
 use Rattle.node_copies.specs.Sectors.{is_asked, run_bytes, run_span, runs_of}
@@ -75,6 +75,7 @@ pub record CopiesBlock (old new : Nodes) (from to : ℕ) (block : Extent) (secto
   pub source : IsReadOfSource old.rows (source_at old from block.start) block old.devices
       between.devices read
   pub kept : between ≡ record old { devices = between.devices }
+  pub risen : HaveRisen old.devices between.devices
   pub found : AreTold old.devices → ReadsDisk read (disk_of old from) block bytes
   pub behind : CopiesBehind read between new to block sectors bytes result
 
@@ -85,4 +86,5 @@ pub record ReadsBlock (old new : Nodes) (from : ℕ) (block : Extent) (buffer : 
   pub source : IsReadOfSource old.rows (source_at old from block.start) block old.devices
       new.devices read
   pub kept : new ≡ record old { devices = new.devices }
+  pub risen : HaveRisen old.devices new.devices
   pub found : AreTold old.devices → ReadsDisk read (disk_of old from) block (take block.len buffer)

@@ -41,12 +41,12 @@ returns-clause-copies g c =
     let found : AreTold old.devices → ReadsDisk read (disk_of old c.args.from) block bytes
     = subst (λ (b : Extent). AreTold old.devices → ReadsDisk read (disk_of old c.args.from) b bytes) is e.read in
     let good : is_good read ≡ true = sym c.is_good.ensures ∙ c.if-not-is_good.false in
-    let same : mid ≡ old = read_same old mid c.args.from c.args.to block c.args.sectors read bytes e.outcome (source some) e.kept found good in
+    let same : mid ≡ old = read_same old mid c.args.from c.args.to block c.args.sectors read bytes e.outcome (source some) e.kept e.devices found good in
     let size : node_size mid c.args.to ≡ node_size old c.args.to = ap (λ (n : Nodes). node_size n c.args.to) same in
     let Puts : ℕ → Type 0 = λ s. PutsRuns (runs_of (block_of s c.args.block) c.args.sectors) (block_of s c.args.block) mid new c.args.to bytes wrote in
     let puts : Puts (node_size old c.args.to) = subst Puts size p.puts in
     subst (λ (r : Result (Unit {0}) Fault). CopiesBlock old new c.args.from c.args.to block c.args.sectors r) (sym c.answer_of-2.ensures)
-    (copies_put old mid c.args.from c.args.to block c.args.sectors read bytes e.outcome (source some) e.kept found good new wrote puts)
+    (copies_put old mid c.args.from c.args.to block c.args.sectors read bytes e.outcome (source some) e.kept e.devices found good new wrote puts)
 
 pub returns-clause-disk : goal.returns-clause-disk
 returns-clause-disk g c = λ told.
@@ -67,12 +67,12 @@ returns-clause-disk g c = λ told.
     let found : AreTold old.devices → ReadsDisk read (disk_of old c.args.from) block bytes
     = subst (λ (b : Extent). AreTold old.devices → ReadsDisk read (disk_of old c.args.from) b bytes) is e.read in
     let good : is_good read ≡ true = sym c.is_good.ensures ∙ c.if-not-is_good.false in
-    let same : mid ≡ old = read_same old mid c.args.from c.args.to block c.args.sectors read bytes e.outcome (source some) e.kept found good in
+    let same : mid ≡ old = read_same old mid c.args.from c.args.to block c.args.sectors read bytes e.outcome (source some) e.kept e.devices found good in
     let size : node_size mid c.args.to ≡ node_size old c.args.to = ap (λ (n : Nodes). node_size n c.args.to) same in
     let Put : ℕ → Type 0 = λ s. AreTold mid.devices → IsPut (block_of s c.args.block) c.args.sectors bytes (disk_of mid c.args.to) (disk_of new c.args.to) (wrote ≡ Good) in
     let put : Put (node_size old c.args.to) = subst Put size p.disk in
     subst (λ (r : Result (Unit {0}) Fault). IsPut block c.args.sectors (bytes_at (disk_of old c.args.from) block.start block.len) (disk_of old c.args.to) (disk_of new c.args.to) (IsOk r)) (sym c.answer_of-2.ensures)
-    (disk_put old mid c.args.from c.args.to block c.args.sectors read bytes e.outcome (source some) e.kept found good told new wrote put)
+    (disk_put old mid c.args.from c.args.to block c.args.sectors read bytes e.outcome (source some) e.kept e.devices found good told new wrote put)
 
 pub returns-clause-others : goal.returns-clause-others
 returns-clause-others g c = λ other apart.
@@ -93,7 +93,7 @@ returns-clause-others g c = λ other apart.
     let found : AreTold old.devices → ReadsDisk read (disk_of old c.args.from) block bytes
     = subst (λ (b : Extent). AreTold old.devices → ReadsDisk read (disk_of old c.args.from) b bytes) is e.read in
     let good : is_good read ≡ true = sym c.is_good.ensures ∙ c.if-not-is_good.false in
-    let same : mid ≡ old = read_same old mid c.args.from c.args.to block c.args.sectors read bytes e.outcome (source some) e.kept found good in
+    let same : mid ≡ old = read_same old mid c.args.from c.args.to block c.args.sectors read bytes e.outcome (source some) e.kept e.devices found good in
     let size : node_size mid c.args.to ≡ node_size old c.args.to = ap (λ (n : Nodes). node_size n c.args.to) same in
     p.others other (subst (λ (n : Nodes). IsApartFrom n other c.args.to) (sym same) apart) ∙ ap (λ (n : Nodes). disk_of n other) same
 
@@ -116,6 +116,6 @@ returns-clause-told g c = λ told.
     let found : AreTold old.devices → ReadsDisk read (disk_of old c.args.from) block bytes
     = subst (λ (b : Extent). AreTold old.devices → ReadsDisk read (disk_of old c.args.from) b bytes) is e.read in
     let good : is_good read ≡ true = sym c.is_good.ensures ∙ c.if-not-is_good.false in
-    let same : mid ≡ old = read_same old mid c.args.from c.args.to block c.args.sectors read bytes e.outcome (source some) e.kept found good in
+    let same : mid ≡ old = read_same old mid c.args.from c.args.to block c.args.sectors read bytes e.outcome (source some) e.kept e.devices found good in
     let size : node_size mid c.args.to ≡ node_size old c.args.to = ap (λ (n : Nodes). node_size n c.args.to) same in
     p.told (subst (λ (n : Nodes). AreTold n.devices) (sym same) told)
