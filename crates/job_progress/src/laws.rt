@@ -3,6 +3,9 @@ ghost use Rattle.std.specs.Prelude.{◌≡◌, ◌≢◌, ◌≤◌, ◌<◌, �
 ghost use Rattle.std.specs.List.{list_any};
 ghost use Rattle.blk_base.specs.Pieces.{Extent, end_of};
 ghost use Rattle.blk_base.specs.declared.fault.Outcome.{Outcome};
+ghost use Rattle.blk_graph.specs.declared.edge.Edge.{Edge};
+ghost use Rattle.blk_graph.specs.declared.edge.Parent.TheVariants.{Guest};
+ghost use Rattle.blk_graph.specs.declared.edge.Role.TheVariants.{Drive};
 ghost use Rattle.blk_history.specs.declared.entry.JobEnd.{JobEnd};
 ghost use Rattle.blk_history.specs.declared.event.Event.{Event};
 ghost use Rattle.blk_history.specs.declared.event.Event.TheVariants.{End, Start};
@@ -16,7 +19,7 @@ ghost use Rattle.qmp_rules.specs.declared.change.Change.{Change};
 ghost use Rattle.qmp_rules.specs.declared.rows.JobRecord.{JobRecord};
 ghost use Rattle.qmp_rules.specs.Ends.{settles_target};
 ghost use Rattle.qmp_rules.specs.Queries.{bytes_of_node};
-ghost use Rattle.qmp_rules.specs.Chains.{disk_node};
+ghost use Rattle.qmp_rules.specs.Chains.{disk_node, is_over};
 ghost use Rattle.qmp_rules.specs.Changes.{all_changed};
 ghost use Rattle.qmp_rules.specs.Table.{RunTable, job_at};
 ghost use Rattle.trace_codec.specs.declared.op.Op.{Op};
@@ -28,11 +31,13 @@ ghost use Rattle.flat_machine.specs.Machine.{after, replay, with_part};
 ghost use Rattle.flat_machine.specs.Performing.{AllPerformed};
 ghost use Rattle.flat_machine.specs.State.{Dirty, State, bytes_at_node};
 ghost use Rattle.flat_machine.specs.Writing.{CanWrite, PieceDone};
-ghost use Rattle.job_tables.specs.Jobs.{JobsStand};
+ghost use Rattle.flat_machine.specs.Suiting.{IsThere};
+ghost use Rattle.flat_machine.specs.Wiring.{TableStands};
+ghost use Rattle.job_tables.specs.Jobs.{JobsStand, EdgesAreDrawn};
 ghost use Rattle.job_progress.specs.Beginning.{CanBeCopied, work_begun};
 ghost use Rattle.job_progress.specs.Going.{IsJobAhead, AreJobsAhead, copies_blocks, goal_of, taken_bytes};
 ghost use Rattle.job_progress.specs.Leaving.{AllLeaveCopies, AllLeaveRows};
-ghost use Rattle.job_progress.specs.Piecing.{CanPass, marked_by};
+ghost use Rattle.job_progress.specs.Piecing.{CanPass, NoTargetReads, NoTargetUnder, marked_by};
 ghost use Rattle.job_progress.specs.Belonging.{AreWorksOf, without_row};
 ghost use Rattle.job_works.specs.Works.{with_work, without_work, work_of};
 
@@ -152,4 +157,19 @@ pub fn works_belong()
     ensures steps { (t : RunTable) (works : List JobWork) (was now : JobWork) → AreWorksOf t works
         → work_of works now.job ≡ Some was → now.size ≡ was.size → was.room ≤ now.room
         → IsJobWork now → AreWorksOf t (with_work now works) }
+{}
+
+/// No job's target reads what a guest may write, nor is one the `file` node under what a guest reads; and no job's source is over what a
+/// guest may write. So a guest's request passes by what jobs write.
+pub fn no_target_is_written()
+    ensures reads { (t : RunTable) (writer : Edge) (guest : ℕ) → TableStands t → JobsStand t
+        → EdgesAreDrawn t → Contains t.edges writer → writer.parent ≡ Guest guest
+        → writer.role ≡ Drive → writer.perm.write ≡ true
+        → NoTargetReads t (disk_node t writer.child) }
+    ensures under { (t : RunTable) (node : ℕ) → TableStands t → JobsStand t → IsThere t node
+        → NoTargetUnder t (disk_node t node) }
+    ensures sources { (t : RunTable) (writer : Edge) (guest : ℕ) (row : JobRecord)
+        → TableStands t → JobsStand t → EdgesAreDrawn t → Contains t.edges writer
+        → writer.parent ≡ Guest guest → writer.role ≡ Drive → writer.perm.write ≡ true
+        → Contains t.jobs row → is_over t (disk_node t writer.child) row.source ≡ false }
 {}

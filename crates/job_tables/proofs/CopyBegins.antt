@@ -2,7 +2,7 @@
 use Rattle.std.proofs.Common.{◌≡◌, ◌≢◌, ◌⊎◌, ℕ, zero, suc, ◌<◌, ◌≤◌, List, [], ◌∷◌, map, length, refl, sym, ◌∙◌, ap, subst, inl, inr, arith, Bool, true, false, cond, Option, Some, None}
 use Rattle.std.specs.Prelude.{◌==◌, ◌&&◌, ◌||◌, not, bytes_eq}
 use Rattle.std.specs.List.{Contains}
-use Rattle.std.proofs.lemmas.Bool.{false≢true, eqb-true, eq-eqb, leb-false}
+use Rattle.std.proofs.lemmas.Bool.{false≢true, eqb-true, eq-eqb, leb-false, not-false}
 use Rattle.std.proofs.lemmas.List.{length-map}
 use Rattle.blk_graph.specs.declared.edge.Edge.{Edge}
 use Rattle.blk_graph.specs.declared.edge.Parent.TheVariants.{Node}
@@ -27,7 +27,7 @@ use Rattle.qmp_rules.specs.Asks.{holds, id_or, is_mirror, mirrored, first_reache
 use Rattle.qmp_rules.specs.Chains.{filter_role, is_settled, leads, reaches}
 use Rattle.qmp_rules.specs.Edits.{free_id, next_slot, backup_job, mirror_job}
 use Rattle.qmp_rules.specs.Refusals.{refused}
-use Rattle.qmp_rules.specs.Table.{RunTable, node_named, id_named, name_at}
+use Rattle.qmp_rules.specs.Table.{RunTable, node_named, node_by_id, id_named, name_at}
 use Rattle.flat_machine.specs.Jobs.{target_written}
 use Rattle.flat_machine.specs.Suiting.{IsPlainNode, IsAlone}
 use Rattle.flat_machine.specs.Wiring.{TableStands}
@@ -41,8 +41,10 @@ use Rattle.job_tables.specs.Accepted.{Begins}
 use Rattle.job_tables.specs.Jobs.{JobsStand}
 use Rattle.job_tables.specs.Rows.{nodes_of_job}
 use Rattle.job_tables.specs.Running.{JobsRun, UnsettlesNoSource, RunBegins}
+use Rattle.job_tables.specs.Copiers.{CopyCanGo, CopierBegins}
 use Rattle.job_tables.specs.Starts.{CopyBegins, MirrorBegins, BeginsByKind, JobBegins}
 use Rattle.job_tables.proofs.Clashes.{held_free}
+use Rattle.job_tables.proofs.Copiers.{copied_target}
 use Rattle.job_tables.proofs.Kept.{mirror_row}
 use Rattle.job_tables.proofs.RowEdges.{in_left, in_either}
 use Rattle.job_tables.proofs.Runs.{source_has}
@@ -126,6 +128,7 @@ pub record CopyAsked (t : RunTable) (told : Told) (device target : List ℕ) : T
   pub settled : holds t told (ask.Settled (Some device)) ≡ None
   pub free : holds t told (ask.Free (Copy device target)) ≡ None
   pub writable : holds t told (ask.Writable target) ≡ None
+  pub sizes : holds t told (ask.EqualSizes (Copy device target)) ≡ None
   pub lone : holds t told (ask.Lone target) ≡ None
   pub clear : holds t told (ask.Clear (Copy device target)) ≡ None
 
@@ -142,6 +145,7 @@ backup_asked t told c other asks = record {
   settled = asks.1.1.1.1.1.1.1.1.0;
   free = asks.1.1.1.1.1.1.1.1.1.0;
   writable = asks.1.1.1.1.1.1.1.1.1.1.1.0;
+  sizes = asks.1.1.1.1.1.1.1.1.1.1.1.1.0;
   lone = asks.1.1.1.1.1.1.1.1.1.1.1.1.1.0;
   clear = asks.1.1.1.1.1.1.1.1.1.1.1.1.1.1.0;
 }
@@ -159,6 +163,7 @@ mirror_asked t told c other asks = record {
   settled = asks.1.1.1.1.1.1.1.0;
   free = asks.1.1.1.1.1.1.1.1.0;
   writable = asks.1.1.1.1.1.1.1.1.1.0;
+  sizes = asks.1.1.1.1.1.1.1.1.1.1.0;
   lone = asks.1.1.1.1.1.1.1.1.1.1.1.0;
   clear = asks.1.1.1.1.1.1.1.1.1.1.1.1.0;
 }
@@ -233,6 +238,26 @@ module _ (t : RunTable) (told : Told) (h : TableStands t) (j : JobsStand t) (r :
 
   target_or : id_or 0 t (Some target) ≡ target_row.id
   target_or = rw target_named refl
+
+  equal_sizes : source_row.size ≡ target_row.size
+  unfolding holds
+  equal_sizes = eqb-true source_row.size target_row.size (not-false _ (not-refused _ _ (rw (source_named, target_named) at a.sizes)))
+
+  -- a backup or mirror begins with a target of its own
+  copier_begins : (row : JobRecord) → row.source ≡ id_or 0 t (Some device) → row.target ≡ id_named t target → CopierBegins t row
+  copier_begins row source target_at to is =
+      let to_is : Some target_row.id ≡ Some to = sym (target_at ∙ target_is) ∙ copied_target row to is in
+      let same : target_row.id ≡ to = cc to_is in
+      subst (CopyCanGo t row) same (record {
+        alone = target_alone;
+        sizes = record {
+          row = source_row;
+          other = target_row;
+          found = subst (λ n. node_by_id t n ≡ Some source_row) (sym (source ∙ source_is)) (h.apart source_row source_there);
+          other_found = h.apart target_row target_there;
+          same = equal_sizes;
+        };
+      })
 
   abbrev both : List ℕ
   both = id_or 0 t (Some device) ∷ id_or 0 t (Some target) ∷ []
@@ -370,3 +395,14 @@ mirror_command_begins t told c h j r listed other asks =
           (mirror_begins t told h j r c.device c.target a row refl refl refl refl refl refl refl listed);
       run = run_begins t told h j r c.device c.target a row refl refl refl refl refl refl refl refl tt;
     }
+
+-- ---- what backups and mirrors copy to
+
+pub backup_copies : (t : RunTable) (told : Told) (group : Option ℕ) (c : Backup (List ℕ)) → TableStands t → JobsStand t → JobsRun t
+    → is_other c.target c.device ≡ true → NoneHolds t told (backup_rest c) → CopierBegins t (backup_job t group c)
+backup_copies t told group c h j r other asks =
+    copier_begins t told h j r c.device c.target (backup_asked t told c other asks) (backup_job t group c) refl refl
+
+pub mirror_copies : (t : RunTable) (told : Told) (c : Mirror (List ℕ)) → TableStands t → JobsStand t → JobsRun t
+    → is_other c.target c.device ≡ true → NoneHolds t told (mirror_rest c) → CopierBegins t (mirror_job t c)
+mirror_copies t told c h j r other asks = copier_begins t told h j r c.device c.target (mirror_asked t told c other asks) (mirror_job t c) refl refl

@@ -50,7 +50,7 @@ use Rattle.job_tables.proofs.Slots.{lowest_below}
 
 -- ---- numbers
 
-free_below : (t : RunTable) → length t.nodes + 1 ≤ 64 → free_id t < 64
+pub free_below : (t : RunTable) → length t.nodes + 1 ≤ 64 → free_id t < 64
 free_below t room =
     let same : length (node_ids t) ≡ length t.nodes = simp length-map in
     lowest_below 64 (node_ids t) (omega arith)
@@ -294,11 +294,11 @@ conflict_none : (t : RunTable) (found : Option Conflict) → option_map (conflic
 conflict_none t None h = refl
 conflict_none t (Some pair) h = absurd cc
 
-quiet_first : (t : RunTable) → conflict_in t ≡ None → first_conflict (node_ids t) t.edges ≡ None
+pub quiet_first : (t : RunTable) → conflict_in t ≡ None → first_conflict (node_ids t) t.edges ≡ None
 unfolding conflict_in
 quiet_first t quiet = conflict_none t (first_conflict (node_ids t) t.edges) quiet
 
-ruled_by : (t : RunTable) → TableStands t → first_conflict (node_ids t) t.edges ≡ None → KeepsPermissions t.edges
+pub ruled_by : (t : RunTable) → TableStands t → first_conflict (node_ids t) t.edges ≡ None → KeepsPermissions t.edges
 ruled_by t h none = (judged-None (node_ids t) t.edges none children).0 refl
   where
     children : (e : Edge) → Contains t.edges e → Contains (node_ids t) e.child
@@ -328,7 +328,7 @@ inline_small : (found : Option NodeRecord) → AllHaveSmallNumbers (elim found a
 inline_small None = tt
 inline_small (Some row) = (tt, tt)
 
-del_take : (t : RunTable) (found : Option NodeRecord) → AllTakeEdges (of_row (row_gone t) found)
+pub del_take : (t : RunTable) (found : Option NodeRecord) → AllTakeEdges (of_row (row_gone t) found)
 del_take t None = tt
 del_take t (Some row) = uses_take (file_under t row) (change.RemoveNode row.id ∷ with_inline t row.id) (tt, inline_take (find (goes_with_node row.id) t.nodes))
 
@@ -336,7 +336,7 @@ del_small : (t : RunTable) (found : Option NodeRecord) → AllHaveSmallNumbers (
 del_small t None = tt
 del_small t (Some row) = uses_small (file_under t row) (change.RemoveNode row.id ∷ with_inline t row.id) (tt, inline_small (find (goes_with_node row.id) t.nodes))
 
-device_gone_take : (found : Option DeviceRow) → AllTakeEdges (elim found as (λ _. List Change) [ None ↦ [] | Some device ↦ change.RemoveDevice device.number ∷ [] ])
+pub device_gone_take : (found : Option DeviceRow) → AllTakeEdges (elim found as (λ _. List Change) [ None ↦ [] | Some device ↦ change.RemoveDevice device.number ∷ [] ])
 device_gone_take None = tt
 device_gone_take (Some device) = (tt, tt)
 
@@ -344,7 +344,7 @@ device_gone_small : (found : Option DeviceRow) → AllHaveSmallNumbers (elim fou
 device_gone_small None = tt
 device_gone_small (Some device) = (tt, tt)
 
-created_take : (t : RunTable) (options : Created (List ℕ)) → AllTakeEdges (created_change t options)
+pub created_take : (t : RunTable) (options : Created (List ℕ)) → AllTakeEdges (created_change t options)
 created_take t (created.File c) = (tt, tt)
 created_take t (created.Qcow2 c) = (tt, tt)
 created_take t created.Unknown = tt
@@ -354,7 +354,7 @@ created_small t (created.File c) = (tt, tt)
 created_small t (created.Qcow2 c) = (tt, tt)
 created_small t created.Unknown = tt
 
-merges_take : (t : RunTable) (node target : List ℕ) (sources : SeenSources) → AllTakeEdges (merges t node target sources)
+pub merges_take : (t : RunTable) (node target : List ℕ) (sources : SeenSources) → AllTakeEdges (merges t node target sources)
 merges_take t node target [] = tt
 merges_take t node target (s ∷ sources) = (tt, merges_take t node target sources)
 

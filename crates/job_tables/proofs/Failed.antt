@@ -71,7 +71,7 @@ no_more : (a : Option Refusal) (cause : Refusal) → or_else a None ≡ Some cau
 no_more None cause h = h
 no_more (Some other) cause h = h
 
-unmet : (t : RunTable) (told : Told) (c : BlockdevCreate (List ℕ)) (cause : Refusal) → place_of cause ≡ None
+pub unmet : (t : RunTable) (told : Told) (c : BlockdevCreate (List ℕ)) (cause : Refusal) → place_of cause ≡ None
     → refusal_to t told (command.BlockdevCreate c) ≡ Some cause → first_unmet_ask t told (create_asks c) ≡ Some cause
 unfolding refusal_to asks_of
 unmet t told c cause none h = no_more (first_unmet_ask t told (create_asks c)) cause (by_turn t.negotiated h)
@@ -85,7 +85,7 @@ unmet t told c cause none h = no_more (first_unmet_ask t told (create_asks c)) c
 
 -- ---- so what stands for its file has no parent
 
-spoils_free : (t : RunTable) (told : Told) → TableStands t → (c : BlockdevCreate (List ℕ)) (cause : Refusal) → place_of cause ≡ None
+pub spoils_free : (t : RunTable) (told : Told) → TableStands t → (c : BlockdevCreate (List ℕ)) (cause : Refusal) → place_of cause ≡ None
     → first_unmet_ask t told (create_asks c) ≡ Some cause → (options : Created (List ℕ)) → c.options ≡ options
     → (AllLeaveJobs t (spoiled t options)) × (AllLeaveDisks t (spoiled t options))
 spoils_free t told h c cause none unmet created.Unknown is = (tt, tt)

@@ -18,6 +18,9 @@ pub mod Guests
 pub mod RunRows
 pub mod Runs
 pub mod RunStarts
+pub mod TargetEdges
+pub mod Copiers
+pub mod CopierStarts
 pub mod Nobodys
 pub mod Commands
 pub mod Slots
@@ -36,4 +39,6 @@ pub mod EndKeeps
 pub mod EndSuits
 pub mod DrawnChanges
 pub mod DrawnCommands
+pub mod CopierCommands
+pub mod GuestWrites
 pub mod Failed

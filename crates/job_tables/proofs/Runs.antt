@@ -24,7 +24,7 @@ use Rattle.qmp_rules.specs.Chains.{filter_role}
 use Rattle.qmp_rules.specs.Changes.{changed, all_changed, asked_for, ready_for, followed, without_job}
 use Rattle.qmp_rules.specs.Ends.{drops_aside, filter_gone as pulled, overlay_to, parents_to, moves, settle_if, settles_target, settled_by, top_lost, read_only_if, given_back_to, end_edits}
 use Rattle.qmp_rules.specs.Table.{RunTable, node_by_id, child, opening_table}
-use Rattle.flat_machine.specs.Jobs.{writes_target, target_written}
+use Rattle.flat_machine.specs.Jobs.{writes_target, target_written, copied_to}
 use Rattle.flat_machine.specs.Suiting.{IsPlainNode, IsAlone, TableSuits, AllTableSuit}
 use Rattle.flat_machine.specs.Wiring.{LeadsToFile, TableStands}
 use Rattle.flat_machine.proofs.TableRests.{table_keeps}
@@ -389,12 +389,14 @@ pub record WasJob (t : RunTable) (row : JobRecord) : Type 0 where
   pub old : JobRecord
   pub there : Contains t.jobs old
   pub number : row.number ≡ old.number
+  pub slot : row.slot ≡ old.slot
   pub kind : row.kind ≡ old.kind
   pub source : row.source ≡ old.source
   pub written : target_written row ≡ target_written old
+  pub copied : copied_to row row.kind ≡ copied_to old old.kind
 
 same_job : (t : RunTable) (row : JobRecord) → Contains t.jobs row → WasJob t row
-same_job t row there = record { old = row; there = there; number = refl; kind = refl; source = refl; written = refl }
+same_job t row there = record { old = row; there = there; number = refl; slot = refl; kind = refl; source = refl; written = refl; copied = refl }
 
 asked_job : (t : RunTable) (number : ℕ) (new : AskedEnd) (row : JobRecord) → Contains (map (asked_for number new) t.jobs) row → WasJob t row
 asked_job t number new row at =
@@ -406,9 +408,11 @@ asked_job t number new row at =
       old = old;
       there = there;
       number = ap (λ (x : JobRecord). x.number) is;
+      slot = ap (λ (x : JobRecord). x.slot) is;
       kind = ap (λ (x : JobRecord). x.kind) is;
       source = ap (λ (x : JobRecord). x.source) is;
       written = ap target_written is;
+      copied = ap (λ (x : JobRecord). copied_to x x.kind) is;
     }
     by_test old there false is = subst (WasJob t) (sym is) (same_job t old there)
 
@@ -422,9 +426,11 @@ ready_job t number row at =
       old = old;
       there = there;
       number = ap (λ (x : JobRecord). x.number) is;
+      slot = ap (λ (x : JobRecord). x.slot) is;
       kind = ap (λ (x : JobRecord). x.kind) is;
       source = ap (λ (x : JobRecord). x.source) is;
       written = ap target_written is;
+      copied = ap (λ (x : JobRecord). copied_to x x.kind) is;
     }
     by_test old there false is = subst (WasJob t) (sym is) (same_job t old there)
 

@@ -1,5 +1,5 @@
 -- What commands that start jobs are accepted with makes them begin.
-use Rattle.std.proofs.Common.{◌≡◌, List, ◌∷◌, ◌++◌, ℕ, ◌+◌, ◌<◌, ◌≤◌, length, arith, None, refl}
+use Rattle.std.proofs.Common.{◌≡◌, List, ◌∷◌, ◌++◌, ℕ, ◌+◌, ◌<◌, ◌≤◌, length, arith, Some, None, refl}
 use Rattle.std.specs.Prelude.{codes}
 use Rattle.std.proofs.lemmas.List.{length-map}
 use Rattle.qmp_codec.specs.declared.command.Command.TheVariants as command
@@ -18,12 +18,14 @@ use Rattle.qmp_rules.specs.Table.{RunTable}
 use Rattle.flat_machine.specs.Wiring.{TableStands}
 use Rattle.flat_machine.proofs.Asked.{NoneHolds, none-holds, none-behind, good-value, room-left}
 use Rattle.job_tables.specs.Accepted.{IsMet, Begins, JobsAreDrawn}
+use Rattle.job_tables.specs.Copiers.{CopiesGo}
 use Rattle.job_tables.specs.Jobs.{JobsStand, EdgesAreDrawn}
 use Rattle.job_tables.specs.Running.{JobsRun, RunBegins}
 use Rattle.job_tables.specs.Starts.{JobBegins}
 use Rattle.job_tables.proofs.ChainBegins.{stream_begins, commit_job_begins, commit_job_runs}
 use Rattle.job_tables.proofs.CommitOthers.{no_source_unsettled}
-use Rattle.job_tables.proofs.CopyBegins.{backup_asked, mirror_asked, backup_begins, mirror_command_begins}
+use Rattle.job_tables.proofs.CopierStarts.{starts_keep_copies}
+use Rattle.job_tables.proofs.CopyBegins.{backup_asked, mirror_asked, backup_begins, mirror_command_begins, backup_copies, mirror_copies}
 use Rattle.job_tables.proofs.Drawn.{drawn_by}
 use Rattle.job_tables.proofs.DrawnStarts.{starts_drawn, streams_drawn}
 use Rattle.job_tables.proofs.RunStarts.{starts_run}
@@ -54,7 +56,7 @@ met_stream t told c h j r met =
     let asks : NoneHolds t told (ahead ++ stream_rest c) = none-holds t told (asks_of (command.BlockStream c)) met.asks in
     stream_begins t told c h j r (none-behind t told ahead (stream_rest c) asks)
 
-met_commit : (t : RunTable) (told : Told) (c : CommitCommand (List ℕ)) → TableStands t → JobsStand t → JobsRun t → EdgesAreDrawn t
+pub met_commit : (t : RunTable) (told : Told) (c : CommitCommand (List ℕ)) → TableStands t → JobsStand t → JobsRun t → EdgesAreDrawn t
     → IsMet t told (command.BlockCommit c) → JobBegins t (commit_job t c)
 unfolding asks_of
 met_commit t told c h j r d met =
@@ -145,3 +147,35 @@ kept_commit t told c h g met =
     let rest = none-behind t told ahead (commit_rest c) asks in
     start_keeps t (commit_job t c) h g (met_commit_begins t told c h g met)
     (free_small t (room-left t told 1 rest.1.1.1.1.0)) met.behind
+
+-- ---- the targets of backups and mirrors
+
+pub backup_goes : (t : RunTable) (told : Told) (c : Backup (List ℕ)) → TableStands t → JobsStand t → JobsRun t → IsMet t told (command.BlockdevBackup c)
+    → CopiesGo t → CopiesGo (all_changed t (edits_of t told (command.BlockdevBackup c)))
+unfolding asks_of edits_of
+backup_goes t told c h j r met g =
+    let asks : NoneHolds t told (backup_values c ++ backup_names c ++ backup_rest c) = none-holds t told (asks_of (command.BlockdevBackup c)) met.asks in
+    starts_keep_copies t (backup_job t None c) h j (met_backup t told c h j r met).job
+    (backup_copies t told None c h j r (good-value t told (codes "target") (is_other c.target c.device) asks.0)
+    (none-behind t told (backup_values c ++ backup_names c) (backup_rest c) asks)) g
+
+pub mirror_goes : (t : RunTable) (told : Told) (c : Mirror (List ℕ)) → TableStands t → JobsStand t → JobsRun t → EdgesAreDrawn t
+    → IsMet t told (command.BlockdevMirror c) → CopiesGo t → CopiesGo (all_changed t (edits_of t told (command.BlockdevMirror c)))
+unfolding asks_of edits_of
+mirror_goes t told c h j r d met g =
+    let asks : NoneHolds t told (mirror_values c ++ mirror_names c ++ mirror_rest c) = none-holds t told (asks_of (command.BlockdevMirror c)) met.asks in
+    starts_keep_copies t (mirror_job t c) h j (met_mirror t told c h j r d met).job
+    (mirror_copies t told c h j r (good-value t told (codes "target") (is_other c.target c.device) asks.0)
+    (none-behind t told (mirror_values c ++ mirror_names c) (mirror_rest c) asks)) g
+
+pub stream_goes : (t : RunTable) (told : Told) (c : StreamCommand (List ℕ)) → TableStands t → JobsStand t → JobsRun t → IsMet t told (command.BlockStream c)
+    → CopiesGo t → CopiesGo (all_changed t (edits_of t told (command.BlockStream c)))
+unfolding edits_of
+stream_goes t told c h j r met g =
+    starts_keep_copies t (stream_job t c) h j (met_stream t told c h j r met).job (λ target is. absurd (let bad : None ≡ Some target = is in cc bad)) g
+
+pub commit_goes : (t : RunTable) (told : Told) (c : CommitCommand (List ℕ)) → TableStands t → JobsStand t → JobsRun t → EdgesAreDrawn t
+    → IsMet t told (command.BlockCommit c) → CopiesGo t → CopiesGo (all_changed t (edits_of t told (command.BlockCommit c)))
+unfolding edits_of
+commit_goes t told c h j r d met g =
+    starts_keep_copies t (commit_job t c) h j (met_commit t told c h j r d met) (λ target is. absurd (let bad : None ≡ Some target = is in cc bad)) g

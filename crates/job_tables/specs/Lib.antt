@@ -6,4 +6,5 @@ pub mod Starts
 pub mod Running
 pub mod Accepted
 pub mod TargetFiles
+pub mod Copiers
 pub mod Ends

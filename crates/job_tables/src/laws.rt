@@ -8,9 +8,10 @@ ghost use Rattle.qmp_codec.specs.Commands.{Cmd};
 ghost use Rattle.qmp_codec.specs.declared.command.Command.TheVariants.{BlockStream, BlockCommit, BlockdevBackup, BlockdevMirror};
 ghost use Rattle.qmp_codec.specs.declared.command.Command.TheVariants.{BlockdevCreate as BlockdevCreateOf};
 ghost use Rattle.qmp_codec.specs.declared.nodes.BlockdevCreate.{BlockdevCreate};
+ghost use Rattle.qmp_codec.specs.declared.nodes.Created.{Created};
 ghost use Rattle.qmp_rules.specs.declared.refusal.Refusal.{Refusal};
 ghost use Rattle.qmp_rules.specs.Refusals.{place_of};
-ghost use Rattle.qmp_rules.specs.Chains.{is_over, written_under};
+ghost use Rattle.qmp_rules.specs.Chains.{disk_node, is_over, written_under};
 ghost use Rattle.qmp_codec.specs.declared.jobs.Backup.{Backup};
 ghost use Rattle.qmp_codec.specs.declared.jobs.Mirror.{Mirror};
 ghost use Rattle.qmp_codec.specs.declared.jobs.Stream.{Stream};
@@ -43,6 +44,7 @@ ghost use Rattle.job_tables.specs.Changes.{AllLeaveJobs, LeavesBySnapshot};
 ghost use Rattle.job_tables.specs.Starts.{JobBegins};
 ghost use Rattle.job_tables.specs.Running.{JobsRun, AllLeaveDisks, RunBegins};
 ghost use Rattle.job_tables.specs.TargetFiles.{TargetFilesStand};
+ghost use Rattle.job_tables.specs.Copiers.{CopiesGo, CopierBegins, AllLeaveTargets};
 ghost use Rattle.job_tables.specs.Accepted.{IsMet, Begins, JobsAreDrawn};
 ghost use Rattle.job_tables.specs.Ends.{EndSuits};
 
@@ -179,6 +181,14 @@ pub fn failures_and_writes_keep_jobs()
         → JobsRun t → JobsRun (written_under node t) }
 {}
 
+/// No job's source is over what a guest may write: so its writes leave jobs standing and running, with edges that may be drawn.
+pub fn guests_writes_keep_jobs()
+    ensures { (t : RunTable) (writer : Edge) (guest : ℕ) → TableStands t → JobsAreDrawn t
+        → Contains t.edges writer → writer.parent ≡ Guest guest → writer.role ≡ Drive
+        → writer.perm.write ≡ true
+        → JobsAreDrawn (written_under (disk_node t writer.child) t) }
+{}
+
 /// What a command that starts a job is accepted with makes the job of its row begin.
 pub fn accepted_starts_begin()
     ensures backup { (t : RunTable) (told : Told) (c : Backup (List ℕ)) → TableStands t
@@ -237,4 +247,53 @@ pub fn target_files_stand_while_jobs_run()
     ensures ended { (s : State) (number : ℕ) (why : JobEnd) → TableStands s.table
         → JobsStand s.table → TargetFilesStand s
         → TargetFilesStand (ended s (job_at s.table number) why) }
+{}
+
+/// The job's edge alone leads to the target of a backup or mirror, which has the source's size. So it is at the beginning, behind
+/// changes that leave jobs and lead nothing to a target, snapshots that have to do with no job, and behind a creation of which a call
+/// failed and a guest's write.
+pub fn targets_stay_alone()
+    ensures beginning { (guests : List (List ℕ)) → CopiesGo (opening_table guests) }
+    ensures changes { (changes : List Change) (t : RunTable) → TableStands t → JobsStand t
+        → AllTableSuit t changes → AllLeaveJobs t changes → AllLeaveTargets t changes
+        → CopiesGo t → CopiesGo (all_changed t changes) }
+    ensures snapshots { (t : RunTable) (node overlay : ℕ) → JobsStand t
+        → LeavesBySnapshot t node overlay → CopiesGo t
+        → CopiesGo (all_changed t (Attach overlay node ∷ Move node overlay overlay ∷ [])) }
+    ensures failed { (t : RunTable) (options : Created (List ℕ)) → CopiesGo t
+        → CopiesGo (all_changed t (spoiled t options)) }
+    ensures writes { (t : RunTable) (node : ℕ) → CopiesGo t → CopiesGo (written_under node t) }
+{}
+
+/// So it is behind the start of a job, of which the target of a backup or mirror has no parent and the source's size; behind ends,
+/// and behind the note that a job is ready.
+pub fn targets_stay_alone_while_jobs_run()
+    ensures starts { (t : RunTable) (row : JobRecord) → TableStands t → JobsStand t
+        → JobBegins t row → CopierBegins t row → CopiesGo t
+        → CopiesGo (all_changed t (start_edits t row)) }
+    ensures ends { (t : RunTable) (row : JobRecord) (outcome : JobOutcome) → JobsStand t
+        → Contains t.jobs row → CopiesGo t → CopiesGo (all_changed t (end_edits t row outcome)) }
+    ensures noted { (s : State) (number : ℕ) (why : JobEnd) → JobsStand s.table
+        → CopiesGo s.table → CopiesGo (ended s (job_at s.table number) why).table }
+    ensures ready { (s : State) (number : ℕ) → CopiesGo s.table
+        → CopiesGo (readied number s).table }
+{}
+
+/// So it is behind an accepted command, whatever was told of files. A transaction's actions are judged one by one, and aren't spoken of.
+pub fn accepted_commands_leave_targets_alone()
+    ensures commands { (t : RunTable) (told : Told) (c : Cmd) → TableAtRest t → JobsStand t
+        → JobsRun t → EdgesAreDrawn t → CopiesGo t → refusal_to t told c ≡ None
+        → CopiesGo (all_changed t (command_edits t told c)) }
+    ensures backup { (t : RunTable) (told : Told) (c : Backup (List ℕ)) → TableStands t
+        → JobsStand t → JobsRun t → IsMet t told (BlockdevBackup c)
+        → CopiesGo t → CopiesGo (all_changed t (edits_of t told (BlockdevBackup c))) }
+    ensures mirror { (t : RunTable) (told : Told) (c : Mirror (List ℕ)) → TableStands t
+        → JobsStand t → JobsRun t → EdgesAreDrawn t → IsMet t told (BlockdevMirror c)
+        → CopiesGo t → CopiesGo (all_changed t (edits_of t told (BlockdevMirror c))) }
+    ensures stream { (t : RunTable) (told : Told) (c : Stream (List ℕ)) → TableStands t
+        → JobsStand t → JobsRun t → IsMet t told (BlockStream c)
+        → CopiesGo t → CopiesGo (all_changed t (edits_of t told (BlockStream c))) }
+    ensures commit { (t : RunTable) (told : Told) (c : Commit (List ℕ)) → TableStands t
+        → JobsStand t → JobsRun t → EdgesAreDrawn t → IsMet t told (BlockCommit c)
+        → CopiesGo t → CopiesGo (all_changed t (edits_of t told (BlockCommit c))) }
 {}
