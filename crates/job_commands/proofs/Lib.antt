@@ -1,0 +1,17 @@
+pub mod Spared
+pub mod Shapes
+pub mod Copies
+pub mod Failed
+pub mod Uses
+pub mod BitmapCommands
+pub mod Sizes
+pub mod GranuleSizes
+pub mod Copied
+pub mod BegunKept
+pub mod Moving
+pub mod Granules
+pub mod Whole
+pub mod WholeCommands
+pub mod WholeEntries
+pub mod WholeEnds
+pub mod CopyBegun

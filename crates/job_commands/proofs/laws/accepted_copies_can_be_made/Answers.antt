@@ -1,0 +1,8 @@
+use Rattle.job_commands.proofs.Copied.{backup_can, mirror_can}
+use Rattle.job_commands.proofs.laws.accepted_copies_can_be_made.Goals as goal
+
+pub returns-clause-backup : goal.returns-clause-backup
+returns-clause-backup c = backup_can
+
+pub returns-clause-mirror : goal.returns-clause-mirror
+returns-clause-mirror c = mirror_can

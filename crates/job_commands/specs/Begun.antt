@@ -1,0 +1,20 @@
+-- Commands that begin a job.
+use Rattle.std.specs.Prelude.{Option, Some, None}
+use Rattle.qmp_codec.specs.Commands.{Cmd}
+use Rattle.qmp_codec.specs.declared.command.Command.TheVariants as command
+use Rattle.qmp_rules.specs.declared.rows.JobRecord.{JobRecord}
+use Rattle.qmp_rules.specs.Edits.{stream_job, commit_job, mirror_job, backup_job}
+use Rattle.qmp_rules.specs.Table.{RunTable}
+
+-- no transaction, whose actions are judged and done one after another
+abbrev pub IsOneCommand : Cmd → Type 0
+IsOneCommand (command.Transaction c) = ⊥
+IsOneCommand c = Unit {0}
+
+-- the job that one command begins
+abbrev pub job_begun : RunTable → Cmd → Option JobRecord
+job_begun t (command.BlockStream c) = Some (stream_job t c)
+job_begun t (command.BlockCommit c) = Some (commit_job t c)
+job_begun t (command.BlockdevMirror c) = Some (mirror_job t c)
+job_begun t (command.BlockdevBackup c) = Some (backup_job t None c)
+job_begun t c = None

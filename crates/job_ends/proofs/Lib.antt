@@ -1,0 +1,9 @@
+pub mod Rows
+pub mod Commands
+pub mod Histories
+pub mod Ends
+pub mod Spared
+pub mod Others
+pub mod Aside
+pub mod Held
+pub mod Idle

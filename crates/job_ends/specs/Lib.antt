@@ -1,0 +1,5 @@
+pub mod Rows
+pub mod Ended
+pub mod Targets
+pub mod Images
+pub mod Idle
