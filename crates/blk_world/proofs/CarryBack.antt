@@ -4,14 +4,18 @@ use Rattle.blk_bitmaps.specs.declared.row.Bitmap.{Bitmap}
 use Rattle.flat_machine.specs.Bitmaps.{dirty_in}
 use Rattle.std.specs.Prelude.{OnErr, Result, Ok, Err, is_some}
 use Rattle.std.proofs.lemmas.List.Elements.{All-weaker}
+use Rattle.blk_nodes.specs.Contents.{disk_of}
+use Rattle.block_jobs.specs.Ahead.{IsAhead, is_owed}
+use Rattle.block_jobs.specs.Work.{JobWork}
+use Rattle.job_progress.specs.Going.{AreJobsAhead, goal_of, is_due}
 use Rattle.blk_history.specs.declared.event.Event.{Event}
 use Rattle.qmp_codec.specs.Commands.{Cmd}
 use Rattle.qmp_codec.specs.Lines.{Stop}
 use Rattle.qmp_rules.specs.Table.{RunTable}
-use Rattle.flat_machine.specs.State.{State}
+use Rattle.flat_machine.specs.State.{State, bytes_at_node}
 use Rattle.flat_machine.specs.Machine.{replay}
 use Rattle.flat_machine.specs.Opening.{start}
-use Rattle.flat_machine.specs.Comes.{IsHistoryOf, guests_after}
+use Rattle.flat_machine.specs.Comes.{IsHistoryOf, guests_after, jobs_from}
 use Rattle.flat_machine.specs.Final.{bytes_named}
 use Rattle.flat_machine.specs.Imaging.{ImagesAreSound}
 use Rattle.flat_machine.specs.Licence.{AreLicensed, IsBetweenCounts, faults_of}
@@ -22,10 +26,13 @@ use Rattle.flat_machine.proofs.ImagesKept.{sound_same}
 use Rattle.world_parts.specs.Progress.{Progress, ended_in}
 use Rattle.world_parts.specs.Face.{WorldSeen, first_counts, counts_now, contents_of, dirty_of, held}
 use Rattle.world_parts.specs.Comes.{Comes, ShowsState}
+use Rattle.world_parts.specs.Coherent.{AreJobsKept}
+use Rattle.world_parts.specs.Keeping.{AreRises, ShowsJobs, all_faults}
 use Rattle.world_parts.specs.Tabling.{IsTableAfter}
 use Rattle.world_parts.specs.Carrying.{IsPutBack, IsPutBackBy, IsPutBackIn}
 use Rattle.world_additions.proofs.AddQuiet.{quiet-called}
 use Rattle.world_parts.proofs.CountLemmas.{between-on}
+use Rattle.world_parts.proofs.Rises.{rises-on}
 use Rattle.world_parts.proofs.Placed.{put_back, put_back_by, put_back_in}
 
 module _ (w v : WorldSeen) (is : IsPutBack w v) (o : Opening) (comes : Comes o w) where
@@ -63,6 +70,22 @@ module _ (w v : WorldSeen) (is : IsPutBack w v) (o : Opening) (comes : Comes o w
       let quiet = quiet-called w v is.files is.table is.called in
       sound_same w.table v.table (held w) (held v) is.table (λ name. quiet.files name (λ never. never)) (comes.sound (sym is.runs.told ∙ told))
 
+  -- devices were called, and nodes read as before
+  still-ahead : (first : State) (h : List Event) (s : State) (works : List JobWork) → AreJobsAhead first h s (disk_of w.nodes) works
+      → AreJobsAhead first h s (disk_of v.nodes) works
+  still-ahead first h s works ahead row work there copies has met =
+      let was = ahead row work there copies has met in
+      record {
+        begun = was.begun;
+        found_disks = was.found_disks;
+        target = was.target;
+        is_target = was.is_target;
+        ahead =
+            subst (IsAhead (is_due row was.begun) (is_owed row.kind work) (bytes_at_node s row.source) (goal_of s row))
+            (sym (is.called.disks was.target)) was.ahead;
+        copies = was.copies;
+      }
+
   pub put_back_comes : Comes o v
   put_back_comes = record {
     history = record {
@@ -81,6 +104,27 @@ module _ (w v : WorldSeen) (is : IsPutBack w v) (o : Opening) (comes : Comes o w
         let was = sym is.runs.told ∙ told in
         subst (λ (es : List Event). ShowsState o (replay (start o) es) v) (sym same-events) (still-shows was (replay (start o) w.progress.log.events) (comes.shows was));
     sound = still-sound;
+    jobs =
+        subst (λ (t : RunTable). AreJobsKept t v.works v.progress.aside) (sym is.table)
+        (subst (λ (works : List JobWork). AreJobsKept w.table works v.progress.aside) (sym is.works)
+        (subst (λ (p : Progress). AreJobsKept w.table w.works p.aside) (sym is.progress) comes.jobs));
+    kept =
+        subst (λ (works : List JobWork). AreRises (first_counts v) (counts_now v) (all_faults v.progress.log.events works)) (sym is.works)
+        (subst (λ (es : List Event). AreRises (first_counts v) (counts_now v) (all_faults es w.works)) (sym same-events)
+        (rises-on w v is.runs (all_faults w.progress.log.events w.works) comes.kept));
+    going = λ told.
+        let was = comes.going (sym is.runs.told ∙ told) in
+        subst (λ (es : List Event). ShowsJobs o es (replay (start o) es) v) (sym same-events) (record {
+          begun = was.begun;
+          files = was.files;
+          unsure = was.unsure;
+          ahead =
+              subst (AreJobsAhead (start o) w.progress.log.events (replay (start o) w.progress.log.events) (disk_of v.nodes)) (sym is.works)
+              (still-ahead (start o) w.progress.log.events (replay (start o) w.progress.log.events) w.works was.ahead);
+        });
+    names = λ told.
+        ap (λ (p : Progress). p.jobs) is.progress ∙ comes.names (sym is.runs.told ∙ told)
+        ∙ ap (jobs_from (start o)) (sym same-events);
   }
 
 -- an error before anything was called

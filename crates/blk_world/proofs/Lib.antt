@@ -1,1 +1,4 @@
 pub mod CarryBack
+pub mod KeptJobs
+pub mod JobSteps
+pub mod BlockSizes

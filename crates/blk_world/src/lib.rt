@@ -2,9 +2,8 @@
 //! of all that happened. Each call is one event.
 #![tactic(auto)]
 
-mod turned;
 mod world;
 
-pub use turned::Turned;
 pub use world::World;
+pub use world_jobs::Turned;
 pub use world_parts::{Admission, Executed};

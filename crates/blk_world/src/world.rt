@@ -7,13 +7,15 @@ ghost use Rattle.world_parts.specs.Progress.{no_progress};
 mod adding;
 mod changing;
 mod closing;
+mod copying;
 mod counting;
 mod deleting;
 mod execute;
 mod making;
 mod piece;
+mod starting;
+mod turning;
 
-use crate::turned::Turned;
 use blk_base::{Device, Names1, NoMemory, Room, Store};
 use blk_bitmaps::Bitmaps;
 use blk_nodes::Nodes;
@@ -22,6 +24,7 @@ use qmp_rules::Names;
 use std::alloc::Global;
 use std::marker::Model;
 use trace_codec::{Await, Op};
+use world_jobs::RunningJobs;
 use world_parts::{Admission, Drained, Progress, RunStore, is_held, refusal_of, seat_of};
 use world_pieces::Buffer;
 
@@ -35,6 +38,7 @@ pub struct World<S: Store> {
     progress: Progress,
     drained: Drained,
     bitmaps: Bitmaps,
+    works: RunningJobs,
     buffer: Buffer,
 }
 
@@ -45,10 +49,11 @@ impl<S: Store> Model for World<S> {
     ghost Value = { WorldSeen };
 
     ghost view = { λ w. face_of w.store w.first_faults w.nodes w.names.table w.progress w.drained
-        w.bitmaps };
+        w.bitmaps w.works };
 
     ghost invariant = { λ w. IsWholeWorld
-        (face_of w.store w.first_faults w.nodes w.names.table w.progress w.drained w.bitmaps) };
+        (face_of w.store w.first_faults w.nodes w.names.table w.progress w.drained w.bitmaps
+        w.works) };
 }
 
 /// The names of the guests, as the table keeps them.
@@ -68,6 +73,7 @@ struct Parts<D: Device> {
     progress: Progress,
     nodes: Nodes<D>,
     bitmaps: Bitmaps,
+    works: RunningJobs,
     buffer: Buffer,
 }
 
@@ -78,11 +84,13 @@ fn new_parts<D: Device>(alloc: Global, guests: &Names1, room: Room) -> Result<Pa
     ensures progress { IfOk result (λ parts.
         parts.progress ≡ no_progress (length guests.now) room) }
     ensures bitmaps { IfOk result (λ parts. parts.bitmaps ≡ []) }
+    ensures works { IfOk result (λ parts. parts.works ≡ []) }
 {
     Ok(Parts {
         names: Names::new(alloc, names_of(alloc, guests)?)?,
         progress: Progress::new(alloc, guests.len(), room)?,
         bitmaps: Bitmaps::new(alloc)?,
+        works: RunningJobs::new(alloc)?,
         buffer: Buffer::new(alloc)?,
         nodes: Nodes::new(alloc)?,
     })
@@ -94,10 +102,10 @@ impl<S: Store> World<S> {
     ghost use Rattle.blk_history.specs.Fold.{With};
     ghost use Rattle.blk_history.specs.Legal.{IsFlightOver};
     ghost use Rattle.trace_codec.specs.Awaits.{seen_await};
-    ghost use Rattle.qmp_rules.specs.Table.{job_in};
     ghost use Rattle.flat_machine.specs.Legal.{IsMet, IsNotDone, AllDone};
     ghost use Rattle.flat_machine.specs.declared.opening.Opening.{Opening};
     ghost use Rattle.flat_machine.specs.Imaging.{ImagesAreSound};
+    ghost use Rattle.world_parts.specs.Coherent.{AreJobsKept};
     ghost use Rattle.world_parts.specs.Face.{held, seen_state};
     ghost use Rattle.world_parts.specs.Comes.{Comes};
     ghost use Rattle.world_parts.specs.Progress.{IsFree, HasRoomFor, flight_at, answered_in, with_retirement};
@@ -119,6 +127,7 @@ impl<S: Store> World<S> {
                     progress,
                     nodes,
                     bitmaps,
+                    works,
                     buffer,
                 },
             ) => Ok(World {
@@ -129,6 +138,7 @@ impl<S: Store> World<S> {
                 progress,
                 drained: Drained::none(alloc),
                 bitmaps,
+                works,
                 buffer,
             }),
         }
@@ -153,9 +163,11 @@ impl<S: Store> World<S> {
         Self::put_world(alloc, store, guests, room)
     }
 
-    /// Nothing is done: that the images of qcow2 nodes are sound is so between calls.
+    /// Nothing is done: that the images of qcow2 nodes are sound, and that jobs are kept, is so between calls.
     fn images_are_sound(&self)
-        ensures { is_some self.now.files ≡ true → ImagesAreSound self.now.table (held self.now) }
+        ensures sound { is_some self.now.files ≡ true
+            → ImagesAreSound self.now.table (held self.now) }
+        ensures kept { AreJobsKept self.now.table self.now.works self.now.progress.aside }
     {
         let _ = self.nodes.edges();
     }
@@ -253,17 +265,6 @@ impl<S: Store> World<S> {
         ensures comes { (o : Opening) → Comes o self.old → Comes o self.new }
     {
         self.put_wait(line, what)
-    }
-
-    /// Gives a job its turn. No command starts a job yet. Takes no memory.
-    pub fn job_turn(&mut self, slot: u32) -> Turned
-        ensures empty { job_in self.old.table slot ≡ None }
-        ensures kept { self.new ≡ self.old }
-    {
-        match self.names.job_in(slot) {
-            None => Turned::Empty,
-            Some(_) => unreachable!(),
-        }
     }
 
     /// Notes that an actor is done.

@@ -1,6 +1,7 @@
--- Legal histories from an opening leave states that stand. Commands that begin jobs aren't carried out yet, so no job is there.
-use Rattle.std.proofs.Common.{◌≡◌, ℕ, Bool, true, false, List, [], ◌∷◌, ◌++◌, refl, sym, ap, subst, arith, Option, Some, None, Result, Ok, Err}
-use Rattle.std.specs.Prelude.{◌==◌, if◌then◌else◌, map, IsSome}
+-- Legal histories from an opening in which no job begins leave states that stand.
+use Rattle.std.proofs.Common.{◌≡◌, ℕ, Bool, true, false, List, [], ◌∷◌, ◌++◌, refl, sym, ap, subst, ◌∙◌, arith, Option, Some, None, Result, Ok, Err}
+use Rattle.std.specs.Prelude.{◌==◌, if◌then◌else◌, map, All, IsSome}
+use Rattle.std.proofs.lemmas.List.Elements.{All-head, All-tail}
 use Rattle.std.specs.List.{find}
 use Rattle.blk_base.specs.Pieces.{Extent}
 use Rattle.blk_base.specs.declared.fault.Outcome.{Outcome}
@@ -22,14 +23,17 @@ use Rattle.qmp_rules.specs.declared.change.Change.{Change}
 use Rattle.qmp_rules.specs.declared.change.Change.TheVariants as change
 use Rattle.qmp_rules.specs.declared.refusal.Refusal.{Refusal}
 use Rattle.qmp_rules.specs.declared.rows.NodeRecord.{NodeRecord}
+use Rattle.qmp_rules.specs.declared.rows.AskedEnd.{AskedEnd}
 use Rattle.qmp_rules.specs.declared.rows.DeviceRow.{DeviceRow}
+use Rattle.qmp_rules.specs.declared.rows.JobRecord.{JobRecord}
 use Rattle.qmp_rules.specs.declared.told.Told.{Told}
-use Rattle.qmp_rules.specs.Table.{RunTable, device_named, node_named, job_at}
+use Rattle.qmp_rules.specs.Table.{RunTable, device_named, job_named, node_named, job_at}
 use Rattle.qmp_rules.specs.Chains.{disk_node, written_under}
-use Rattle.qmp_rules.specs.Changes.{changed, all_changed}
+use Rattle.qmp_rules.specs.Changes.{asked_for, changed, all_changed}
 use Rattle.qmp_rules.specs.Refusals.{refusal_text, refusal_class}
 use Rattle.qmp_asks.specs.NodeAsks.{is_read_only, backing_name}
-use Rattle.qmp_rules.specs.Edits.{edits_of, file_uses, file_under, with_inline, goes_with_node, row_gone, of_row, created_change, spoiled, raw_edits, qcow2_edits, added_edits, new_device, device_uses, merges}
+use Rattle.qmp_asks.specs.Values.{flag_or_false}
+use Rattle.qmp_rules.specs.Edits.{edits_of, file_uses, file_under, with_inline, goes_with_node, row_gone, of_row, created_change, spoiled, raw_edits, qcow2_edits, added_edits, new_device, device_uses, merges, asked_by_cancel}
 use Rattle.qmp_rules.specs.Asks.{is_file}
 use Rattle.qmp_rules.specs.Answers.{unbuilt, refusal_to, command_edits, answer, answer_by, answer_for, line_answer, line_text, answer_data}
 use Rattle.blk_history.specs.Fold.{With}
@@ -37,13 +41,13 @@ use Rattle.blk_history.specs.Disk.{piece, done_in}
 use Rattle.blk_history.specs.Machine.{Flight, done_by}
 use Rattle.blk_history.specs.declared.event.Event.{Event}
 use Rattle.blk_history.specs.declared.event.Event.TheVariants.{Admit, Refuse, Piece, Retire, Reply, Reached, Start, Ready, End, Done}
-use Rattle.blk_history.proofs.Verbs.{IsOfNoJob}
 use Rattle.flat_machine.specs.State.{State, drive_of}
 use Rattle.flat_machine.specs.Machine.{after, replay, with_part, with_piece, with_disk, node_written, flight_of, path, note, noted, is_noted, read_through, copies_through}
 use Rattle.flat_machine.specs.Sights.{expected}
-use Rattle.flat_machine.specs.Replies.{edits_by, failed_edits, is_accepted, tells_failure, IsAnswer}
+use Rattle.flat_machine.specs.Replies.{begins_job, command_read, edits_by, failed_edits, is_accepted, tells_failure, IsAnswer}
 use Rattle.flat_machine.specs.Jobs.{unsure, can_be_ready}
 use Rattle.flat_machine.specs.Legal.{CanEnd, Fits, Legal}
+use Rattle.flat_machine.specs.Entries.{BeginsNoJob}
 use Rattle.flat_machine.specs.Opening.{start}
 use Rattle.flat_machine.specs.Standing.{StandsAtRest}
 use Rattle.flat_machine.specs.declared.opening.Opening.{Opening}
@@ -60,7 +64,6 @@ pub record NoJobs (t : RunTable) : Type 0 where
 
 abbrev IsPlain : Change → Type 0
 IsPlain (change.StartJob row) = ⊥
-IsPlain (change.AskJob number asked) = ⊥
 IsPlain (change.ReadyJob number) = ⊥
 IsPlain (change.EndJob number slot drops) = ⊥
 IsPlain c = Unit {0}
@@ -76,7 +79,7 @@ plain_append (c ∷ xs) ys h k = (h.0, plain_append xs ys h.1 k)
 plain_keeps : (t : RunTable) (c : Change) → IsPlain c → NoJobs t → NoJobs (changed t c)
 unfolding changed
 plain_keeps t (change.StartJob row) plain h = absurd plain
-plain_keeps t (change.AskJob number asked) plain h = absurd plain
+plain_keeps t (change.AskJob number new) plain h = record { jobs = ap (map (asked_for number new)) h.jobs; started = h.started }
 plain_keeps t (change.ReadyJob number) plain h = absurd plain
 plain_keeps t (change.EndJob number slot drops) plain h = absurd plain
 plain_keeps t (change.PullFilter filter) plain h = record { jobs = h.jobs; started = h.started }
@@ -173,29 +176,35 @@ plain_added t exp name read_only (added.Qcow2 image) = plain_qcow2 t exp name re
 plain_added t exp name read_only (added.CopyOnRead file) = (tt, tt)
 plain_added t exp name read_only added.Unknown = tt
 
+plain_asked : (ask : JobRecord → AskedEnd) (found : Option JobRecord)
+    → ArePlain (elim found as (λ _. List Change) [ None ↦ [] | Some job ↦ change.AskJob job.number (ask job) ∷ [] ])
+plain_asked ask None = tt
+plain_asked ask (Some job) = (tt, tt)
+
 plain_merges : (t : RunTable) (node target : List ℕ) (sources : SeenSources) → ArePlain (merges t node target sources)
 plain_merges t node target [] = tt
 plain_merges t node target (source ∷ sources) = (tt, plain_merges t node target sources)
 
-plain_command : (t : RunTable) (exp : Told) (c : Cmd) → unbuilt c ≡ None → ArePlain (command_edits t exp c)
+plain_command : (t : RunTable) (exp : Told) (c : Cmd) → begins_job c ≡ false → unbuilt c ≡ None → ArePlain (command_edits t exp c)
 unfolding edits_of
-plain_command t exp (command.Capabilities enable) is = (tt, tt)
-plain_command t exp (command.BlockdevCreate c) is = (tt, plain_created t c.options)
-plain_command t exp (command.JobDismiss id) is = (tt, tt)
-plain_command t exp (command.BlockdevAdd c) is = plain_added t exp c.node_name (is_read_only c.options) c.driver
-plain_command t exp (command.BlockdevDel name) is = plain_del t (node_named t name)
-plain_command t exp (command.DeviceAdd c) is = plain_device t c (node_named t c.drive)
-plain_command t exp (command.BlockdevSnapshot c) is = (tt, (tt, tt))
-plain_command t exp (command.DeviceDel id) is = plain_gone (device_named t id)
-plain_command t exp command.QueryBlockJobs is = tt
-plain_command t exp (command.QueryNamedBlockNodes flat) is = tt
-plain_command t exp (command.BitmapAdd c) is = (tt, tt)
-plain_command t exp (command.BitmapRemove c) is = (tt, tt)
-plain_command t exp (command.BitmapClear c) is = (tt, tt)
-plain_command t exp (command.BitmapEnable c) is = (tt, tt)
-plain_command t exp (command.BitmapDisable c) is = (tt, tt)
-plain_command t exp (command.BitmapMerge c) is = plain_merges t c.node c.target c.bitmaps
-plain_command t exp _ is = absurd cc
+plain_command t exp (command.Capabilities enable) begins is = (tt, tt)
+plain_command t exp (command.BlockdevCreate c) begins is = (tt, plain_created t c.options)
+plain_command t exp (command.JobDismiss id) begins is = (tt, tt)
+plain_command t exp (command.BlockdevAdd c) begins is = plain_added t exp c.node_name (is_read_only c.options) c.driver
+plain_command t exp (command.BlockdevDel name) begins is = plain_del t (node_named t name)
+plain_command t exp (command.DeviceAdd c) begins is = plain_device t c (node_named t c.drive)
+plain_command t exp (command.BlockdevSnapshot c) begins is = (tt, (tt, tt))
+plain_command t exp (command.DeviceDel id) begins is = plain_gone (device_named t id)
+plain_command t exp (command.BlockJobCancel job force) begins is = plain_asked (asked_by_cancel (flag_or_false force)) (job_named t job)
+plain_command t exp command.QueryBlockJobs begins is = tt
+plain_command t exp (command.QueryNamedBlockNodes flat) begins is = tt
+plain_command t exp (command.BitmapAdd c) begins is = (tt, tt)
+plain_command t exp (command.BitmapRemove c) begins is = (tt, tt)
+plain_command t exp (command.BitmapClear c) begins is = (tt, tt)
+plain_command t exp (command.BitmapEnable c) begins is = (tt, tt)
+plain_command t exp (command.BitmapDisable c) begins is = (tt, tt)
+plain_command t exp (command.BitmapMerge c) begins is = plain_merges t c.node c.target c.bitmaps
+plain_command t exp _ begins is = absurd cc
 
 plain_failed : (t : RunTable) (c : Cmd) → ArePlain (failed_edits t c)
 plain_failed t (command.BlockdevCreate c) = plain_spoiled t c.options
@@ -203,16 +212,25 @@ plain_failed t c = tt
 
 -- ---- replies
 
+-- a line's command begins no job
+by_reading : (line : ℕ) (given : List ℕ) (command : Option Cmd) (text : List ℕ) (c : Result Cmd Stop) → command ≡ command_read c
+    → BeginsNoJob (Reply line given command text) → (d : Cmd) → c ≡ Ok d → begins_job d ≡ false
+by_reading line given None text c is none d read = absurd (let bad : None ≡ Some d = is ∙ ap command_read read in cc)
+by_reading line given (Some x) text c is none d read =
+    let both : Some x ≡ Some d = is ∙ ap command_read read in
+    let same : x ≡ d = cc in
+    subst (λ (y : Cmd). begins_job y ≡ false) same none
+
 plain_answer : (s : State) (given : List ℕ) (command : Option Cmd) (text : List ℕ) → IsAnswer s given command text
-    → ArePlain (edits_by s text (command_at given))
+    → ((c : Cmd) → command_at given ≡ Ok c → begins_job c ≡ false) → ArePlain (edits_by s text (command_at given))
 unfolding line_text line_answer answer refusal_to
-plain_answer s given command text a = by_line (command_at given) a.answered
+plain_answer s given command text a none = by_line (command_at given) none a.answered
   where
-    by_flags : (c : Cmd) (b : Bool) → (b ≡ true → unbuilt c ≡ None) → (failed : Bool)
+    by_flags : (c : Cmd) (b : Bool) → begins_job c ≡ false → (b ≡ true → unbuilt c ≡ None) → (failed : Bool)
         → ArePlain (if b then command_edits s.table (expected s c) c else if failed then failed_edits s.table c else [])
-    by_flags c true built failed = plain_command s.table (expected s c) c (built refl)
-    by_flags c false built true = plain_failed s.table c
-    by_flags c false built false = tt
+    by_flags c true begins built failed = plain_command s.table (expected s c) c begins (built refl)
+    by_flags c false begins built true = plain_failed s.table c
+    by_flags c false begins built false = tt
 
     built : (c : Cmd) (cause : Option Refusal) → refusal_to s.table a.told c ≡ cause
         → text ≡ compact_text (answer_data (id_at given) (answer_by s.table a.told c cause).reply) → is_accepted text ≡ true → unbuilt c ≡ None
@@ -222,10 +240,10 @@ plain_answer s given command text a = by_line (command_at given) a.answered
         let yes = subst (λ t. is_accepted t ≡ true) is accepted in
         absurd cc
 
-    by_line : (c : Result Cmd Stop) → text ≡ compact_text (answer_data (id_at given) (answer_for s.table a.told given c).reply)
-        → ArePlain (edits_by s text c)
-    by_line (Err why) is = tt
-    by_line (Ok c) is = by_flags c (is_accepted text) (built c (refusal_to s.table a.told c) refl is) (tells_failure text)
+    by_line : (c : Result Cmd Stop) → ((d : Cmd) → c ≡ Ok d → begins_job d ≡ false)
+        → text ≡ compact_text (answer_data (id_at given) (answer_for s.table a.told given c).reply) → ArePlain (edits_by s text c)
+    by_line (Err why) none is = tt
+    by_line (Ok c) none is = by_flags c (is_accepted text) (none c refl) (built c (refusal_to s.table a.told c) refl is) (tells_failure text)
 
 -- ---- pieces
 
@@ -284,42 +302,34 @@ piece_runs s (Some drive) (Some f) k outcome h = record {
 piece_runs s (Some drive) None k outcome h = h
 piece_runs s None flight k outcome h = h
 
-pub entry_runs : (s : State) (e : Event) → Fits s e → Runs s → Runs (after s e)
-entry_runs s (Admit g r op) fits h = beside_runs s (after s (Admit g r op)) refl refl refl refl refl h
-entry_runs s (Refuse g r op why) fits h = beside_runs s (after s (Refuse g r op why)) refl refl refl refl refl h
-entry_runs s (Piece g r k outcome got) fits h =
+pub entry_runs : (s : State) (e : Event) → BeginsNoJob e → Fits s e → Runs s → Runs (after s e)
+entry_runs s (Admit g r op) none fits h = beside_runs s (after s (Admit g r op)) refl refl refl refl refl h
+entry_runs s (Refuse g r op why) none fits h = beside_runs s (after s (Refuse g r op why)) refl refl refl refl refl h
+entry_runs s (Piece g r k outcome got) none fits h =
     beside_runs (with_piece (drive_of s.table g) (flight_of s g) k outcome s) (after s (Piece g r k outcome got)) refl refl refl refl refl
     (piece_runs s (drive_of s.table g) (flight_of s g) k outcome h)
-entry_runs s (Retire g r) fits h = beside_runs s (after s (Retire g r)) refl refl refl refl refl h
-entry_runs s (Reply line given command text) fits h = record {
-  rests = answer_rests s given command text h.rests fits.1.1;
+entry_runs s (Retire g r) none fits h = beside_runs s (after s (Retire g r)) refl refl refl refl refl h
+entry_runs s (Reply line given command text) none fits h = record {
+  rests = answer_rests s given command text h.rests fits.1.1 (λ c read begins quiet. let none = begins_none c read in absurd cc);
   none = subst NoJobs (sym (stepped_table (edits_by s text (command_at given)) s))
-      (all_plain (edits_by s text (command_at given)) s.table (plain_answer s given command text fits.1.1) h.none);
+      (all_plain (edits_by s text (command_at given)) s.table (plain_answer s given command text fits.1.1 begins_none) h.none);
 }
-entry_runs s (Reached line what) fits h = h
-entry_runs s (Start job) fits h = absurd (let few = fits.0.1 in let none = h.none.started in omega arith)
-entry_runs s (Ready job) fits h = absurd (subst (λ row. With row (λ r. (can_be_ready r r.kind ≡ true) × (r.is_ready ≡ false))) (no_job_at s.table h.none job) fits.1)
-entry_runs s (End job outcome offset) fits h = absurd (subst (λ row. With row (CanEnd s outcome offset)) (no_job_at s.table h.none job) fits.1)
-entry_runs s (Done actor) fits h = beside_runs s (after s (Done actor)) refl refl refl refl refl h
+  where
+    begins_none : (c : Cmd) → command_at given ≡ Ok c → begins_job c ≡ false
+    begins_none = by_reading line given command text (command_at given) fits.1.1.understood none
+entry_runs s (Reached line what) none fits h = h
+entry_runs s (Start job) none fits h = absurd (let few = fits.0.1 in let none = h.none.started in omega arith)
+entry_runs s (Ready job) none fits h = absurd (subst (λ row. With row (λ r. (can_be_ready r r.kind ≡ true) × (r.is_ready ≡ false))) (no_job_at s.table h.none job) fits.1)
+entry_runs s (End job outcome offset) none fits h = absurd (subst (λ row. With row (CanEnd s outcome offset)) (no_job_at s.table h.none job) fits.1)
+entry_runs s (Done actor) none fits h = beside_runs s (after s (Done actor)) refl refl refl refl refl h
 
-pub of_no_job : (s : State) (e : Event) → Fits s e → Runs s → IsOfNoJob e
-of_no_job s (Start job) fits h = let few = fits.0.1 in let none = h.none.started in omega arith
-of_no_job s (Ready job) fits h = subst (λ row. With row (λ r. (can_be_ready r r.kind ≡ true) × (r.is_ready ≡ false))) (no_job_at s.table h.none job) fits.1
-of_no_job s (End job outcome offset) fits h = subst (λ row. With row (CanEnd s outcome offset)) (no_job_at s.table h.none job) fits.1
-of_no_job s (Admit g r op) fits h = tt
-of_no_job s (Refuse g r op why) fits h = tt
-of_no_job s (Piece g r k outcome got) fits h = tt
-of_no_job s (Retire g r) fits h = tt
-of_no_job s (Reply line given command text) fits h = tt
-of_no_job s (Reached line what) fits h = tt
-of_no_job s (Done actor) fits h = tt
-
-all_run : (h : List Event) (s : State) → Legal s h → Runs s → Runs (replay s h)
-all_run [] s legal runs = runs
-all_run (e ∷ es) s legal runs = all_run es (after s e) legal.1 (entry_runs s e legal.0 runs)
+all_run : (h : List Event) (s : State) → All BeginsNoJob h → Legal s h → Runs s → Runs (replay s h)
+all_run [] s none legal runs = runs
+all_run (e ∷ es) s none legal runs =
+    all_run es (after s e) (All-tail BeginsNoJob e es none) legal.1 (entry_runs s e (All-head BeginsNoJob e es none) legal.0 runs)
 
 pub start_runs : (o : Opening) → Runs (start o)
 start_runs o = record { rests = start_rests o; none = record { jobs = refl; started = refl } }
 
-pub history_rests : (o : Opening) (h : List Event) → Legal (start o) h → StandsAtRest (replay (start o) h)
-history_rests o h legal = (all_run h (start o) legal (start_runs o)).rests
+pub history_rests : (o : Opening) (h : List Event) → All BeginsNoJob h → Legal (start o) h → StandsAtRest (replay (start o) h)
+history_rests o h none legal = (all_run h (start o) none legal (start_runs o)).rests

@@ -2,6 +2,7 @@ pub mod Finds
 pub mod Agreeing
 pub mod Kept
 pub mod Fresh
+pub mod CopyStarts
 pub mod Asked
 pub mod Accepted
 pub mod OwnNames

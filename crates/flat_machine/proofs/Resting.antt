@@ -41,7 +41,7 @@ use Rattle.flat_machine.specs.Changed.{stepped, all_stepped}
 use Rattle.flat_machine.specs.Machine.{disk_changed, with_disk, node_written, with_part, note, noted, is_noted, path, read_through, copies_through}
 use Rattle.flat_machine.specs.Jobs.{unsure}
 use Rattle.flat_machine.specs.Sights.{IsTold, told_for, MayStop, expected}
-use Rattle.flat_machine.specs.Replies.{replied, edits_by, failed_edits, is_accepted, tells_failure, desc_of, is_failed_call, command_read, IsToldOf, IsAnswer}
+use Rattle.flat_machine.specs.Replies.{begins_job, replied, edits_by, failed_edits, is_accepted, tells_failure, desc_of, is_failed_call, command_read, IsToldOf, IsAnswer}
 use Rattle.flat_machine.specs.Writing.{IsGuestWritable, CanWrite}
 use Rattle.flat_machine.specs.Wiring.{StandsFor, IsUnder, InlineAreUnder, TableStands, TableAtRest}
 use Rattle.flat_machine.specs.Standing.{HasBytes, IsLostBy, IsOfState, IsUsedUp, MayGuestWrite, Stands, StandsAtRest}
@@ -69,22 +69,28 @@ stepped_table (c ∷ changes) s = stepped_table changes (stepped s c)
 table_rests : (s : State) → StandsAtRest s → TableAtRest s.table
 table_rests s h = record { stands = h.stands.table; inline = h.inline }
 
-pub accepted_rests : (s : State) (told exp : Told) (c : Cmd) → StandsAtRest s → MayStop s c (told_for s c).stopped told.stopped
+pub accepted_rests : (s : State) (told exp : Told) (c : Cmd) → begins_job c ≡ false → StandsAtRest s → MayStop s c (told_for s c).stopped told.stopped
     → refusal_to s.table told c ≡ None → StandsAtRest (all_stepped s (command_edits s.table exp c))
-accepted_rests s told exp c h may quiet = record {
-  stands = all_stand (command_edits s.table exp c) s (accepted_suits s told exp c h may quiet) h.stands;
+accepted_rests s told exp c begins h may quiet = record {
+  stands = all_stand (command_edits s.table exp c) s (accepted_suits s told exp c begins h may quiet) h.stands;
   inline = subst InlineAreUnder (sym (stepped_table (command_edits s.table exp c) s))
-      (command_rests s.table told exp c (table_rests s h) quiet).1.inline;
+      (command_rests s.table told exp c begins (table_rests s h) quiet).1.inline;
 }
 
--- that of an accepted command
-pub reply_rests : (s : State) (told : Told) (c : Cmd) (given text : List ℕ) (id : Option Data) (d : Data) → command_at given ≡ Ok c
-    → StandsAtRest s → IsTold s c told → refusal_to s.table told c ≡ None → read text ≡ Some (returned_data id d)
+-- that of an accepted command, by what its changes leave
+pub read_rests_by : (s : State) (told : Told) (c : Cmd) (given text : List ℕ) (id : Option Data) (d : Data) → command_at given ≡ Ok c
+    → IsTold s c told → read text ≡ Some (returned_data id d) → StandsAtRest (all_stepped s (command_edits s.table told c))
     → StandsAtRest (replied s given text)
-reply_rests s told c given text id d line h is_told quiet reads =
+read_rests_by s told c given text id d line is_told reads left =
     let edits : edits_by s text (command_at given) ≡ command_edits s.table told c =
     ap (edits_by s text) line ∙ accepted_edits s told c text id d is_told reads in
-    subst (λ changes. StandsAtRest (all_stepped s changes)) (sym edits) (accepted_rests s told told c h is_told.refusal quiet)
+    subst (λ changes. StandsAtRest (all_stepped s changes)) (sym edits) left
+
+pub reply_rests : (s : State) (told : Told) (c : Cmd) (given text : List ℕ) (id : Option Data) (d : Data) → command_at given ≡ Ok c
+    → begins_job c ≡ false → StandsAtRest s → IsTold s c told → refusal_to s.table told c ≡ None → read text ≡ Some (returned_data id d)
+    → StandsAtRest (replied s given text)
+reply_rests s told c given text id d line begins h is_told quiet reads =
+    read_rests_by s told c given text id d line is_told reads (accepted_rests s told told c begins h is_told.refusal quiet)
 
 failed_rests : (s : State) (c : Cmd) → StandsAtRest s → StandsAtRest (all_stepped s (failed_edits s.table c))
 failed_rests s (command.BlockdevCreate c) h = by_options c.options
@@ -120,11 +126,16 @@ refused_rests s c given text id class desc line h reads =
 pub no_command : (s : State) (given text : List ℕ) (why : Stop) → command_at given ≡ Err why → replied s given text ≡ s
 no_command s given text why line = ap (λ c. all_stepped s (edits_by s text c)) line
 
+-- what the changes of a line's command leave that nothing refuses and that begins a job
+abbrev pub RestsBehindStart : State → List ℕ → Told → Type 0
+RestsBehindStart s given told = (c : Cmd) → command_at given ≡ Ok c → begins_job c ≡ true → refusal_to s.table told c ≡ None
+    → StandsAtRest (all_stepped s (command_edits s.table (expected s c) c))
+
 -- That of any line, where the text is its answer.
-pub answer_rests : (s : State) (given : List ℕ) (command : Option Cmd) (text : List ℕ) → StandsAtRest s → IsAnswer s given command text
-    → StandsAtRest (replied s given text)
+pub answer_rests : (s : State) (given : List ℕ) (command : Option Cmd) (text : List ℕ) → StandsAtRest s → (a : IsAnswer s given command text)
+    → RestsBehindStart s given a.told → StandsAtRest (replied s given text)
 unfolding line_text line_answer answer
-answer_rests s given command text h a = by_line (command_at given) refl a.is_told a.answered
+answer_rests s given command text h a start = by_line (command_at given) refl a.is_told a.answered
   where
     -- one that isn't read as a result stands for no more than a failed call's changes
     unread : (c : Cmd) → is_accepted text ≡ false → StandsAtRest (all_stepped s (edits_by s text (Ok c)))
@@ -142,11 +153,14 @@ answer_rests s given command text h a = by_line (command_at given) refl a.is_tol
         → text ≡ compact_text (answer_data (id_at given) (answer_by s.table a.told c cause).reply)
         → StandsAtRest (all_stepped s (edits_by s text (Ok c)))
     by_refusal c line is_told false e cause quiet is = unread c e
-    by_refusal c line is_told true e None quiet is =
-        subst (λ b. StandsAtRest (all_stepped s (edits b))) (sym e) (accepted_rests s a.told (expected s c) c h is_told.refusal quiet)
+    by_refusal c line is_told true e None quiet is = subst (λ b. StandsAtRest (all_stepped s (edits b))) (sym e) (by_start (begins_job c) refl)
       where
         edits : Bool → List Change
         edits b = if b then command_edits s.table (expected s c) c else if tells_failure text then failed_edits s.table c else []
+
+        by_start : (b : Bool) → begins_job c ≡ b → StandsAtRest (all_stepped s (command_edits s.table (expected s c) c))
+        by_start true begins = start c line begins quiet
+        by_start false begins = accepted_rests s a.told (expected s c) c begins h is_told.refusal quiet
     by_refusal c line is_told true e (Some cause) quiet is =
         let no = not_accepted given (refusal_class cause) (refusal_text cause) in
         let yes = subst (λ t. is_accepted t ≡ true) is e in

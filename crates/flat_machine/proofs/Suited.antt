@@ -31,16 +31,19 @@ use Rattle.qmp_asks.specs.declared.ask.Ask.TheVariants as ask
 use Rattle.qmp_asks.specs.declared.ask.Drivers.TheVariants as drivers
 use Rattle.qmp_rules.specs.declared.change.Change.{Change}
 use Rattle.qmp_rules.specs.declared.change.Change.TheVariants as change
+use Rattle.qmp_rules.specs.declared.rows.JobRecord.{JobRecord}
 use Rattle.qmp_rules.specs.declared.rows.NodeRecord.{NodeRecord}
 use Rattle.qmp_rules.specs.declared.rows.DeviceRow.{DeviceRow}
+use Rattle.qmp_rules.specs.declared.rows.AskedEnd.{AskedEnd}
 use Rattle.qmp_rules.specs.declared.rows.FileState.{FileState}
 use Rattle.qmp_rules.specs.declared.rows.FileState.TheVariants.{Used}
 use Rattle.qmp_rules.specs.declared.told.Told.{Told}
-use Rattle.qmp_rules.specs.Table.{RunTable, node_by_id, node_named, device_by_number, device_named, file_state, child, kinds_of}
+use Rattle.qmp_rules.specs.Table.{RunTable, node_by_id, node_named, device_by_number, device_named, job_named, file_state, child, kinds_of}
+use Rattle.qmp_asks.specs.Values.{flag_or_false}
 use Rattle.qmp_asks.specs.Naming.{is_file_name, is_name}
 use Rattle.qmp_rules.specs.Chains.{filter_role, disk_node}
 use Rattle.qmp_rules.specs.Changes.{changed, without_record}
-use Rattle.qmp_rules.specs.Edits.{place_from, unused_from, device_number, inline_row, raw_edits, qcow2_edits, added_edits, add_edits, length_told, edits_of, file_uses, file_under, name_of_file_at, goes_with_node, with_inline, created_change, file_of_node, del_edits, new_device, device_add_edits, merges}
+use Rattle.qmp_rules.specs.Edits.{place_from, unused_from, device_number, inline_row, raw_edits, qcow2_edits, added_edits, add_edits, length_told, edits_of, file_uses, file_under, name_of_file_at, goes_with_node, with_inline, created_change, file_of_node, del_edits, new_device, device_add_edits, merges, asked_by_cancel}
 use Rattle.qmp_asks.specs.NodeAsks.{create_values, create_names, create_rest, del_asks, device_add_asks, add_asks, option_values, added_values, added_names, file_names, is_read_only, added_rest, raw_rest, qcow2_rest, is_added, backing_name}
 use Rattle.qmp_rules.specs.Looks.{is_unopened}
 use Rattle.qmp_asks.specs.Asking.{Asking}
@@ -51,6 +54,7 @@ use Rattle.qmp_rules.specs.Answers.{unbuilt, out_of_turn, refusal_to, command_ed
 use Rattle.blk_history.specs.Fold.{With}
 use Rattle.flat_machine.specs.State.{State, Unknown, content_in}
 use Rattle.flat_machine.specs.Changed.{stepped}
+use Rattle.flat_machine.specs.Replies.{begins_job}
 use Rattle.flat_machine.specs.Sights.{told_for, MayStop}
 use Rattle.flat_machine.specs.Performing.{IsWholly}
 use Rattle.flat_machine.specs.Wiring.{LeadsToFile, IsNumberBy, IsInline, InlineAreUnder, TableStands}
@@ -668,37 +672,45 @@ merges-suit t node target (source ∷ sources) s =
     let one : Change = change.MergeBitmap (id_or 0 t (Some node)) target (id_or 0 t (Some (source_node node source))) (source_name source) in
     (tt, merges-suit t node target sources (stepped s one))
 
+-- ---- jobs
+
+asked_suits : (s : State) (ask : JobRecord → AskedEnd) (found : Option JobRecord)
+    → AllSuit s (elim found as (λ _. List Change) [ None ↦ [] | Some job ↦ change.AskJob job.number (ask job) ∷ [] ])
+asked_suits s ask None = tt
+asked_suits s ask (Some job) = (tt, tt)
+
 -- ---- every command
 
--- Where nothing refuses a command that is carried out, its changes leave what holds of all states.
-pub accepted_suits : (s : State) (told exp : Told) (c : Cmd) → StandsAtRest s → MayStop s c (told_for s c).stopped told.stopped
+-- Where nothing refuses a command that is carried out and begins no job, its changes leave what holds of all states.
+pub accepted_suits : (s : State) (told exp : Told) (c : Cmd) → begins_job c ≡ false → StandsAtRest s → MayStop s c (told_for s c).stopped told.stopped
     → refusal_to s.table told c ≡ None → AllSuit s (command_edits s.table exp c)
 unfolding refusal_to asks_of edits_of
-accepted_suits s told exp c rests may h =
+accepted_suits s told exp c begins rests may h =
     let known = none-both (unbuilt c) _ h in
     let turn = none-both (out_of_turn (negotiates c) s.table.negotiated) _ known.1 in
     let asks = none-both (first_unmet_ask s.table told (asks_of c)) _ turn.1 in
-    by_command c may known.0 (none-holds s.table told (asks_of c) asks.0)
+    by_command c begins may known.0 (none-holds s.table told (asks_of c) asks.0)
   where
-    by_command : (c : Cmd) → MayStop s c (told_for s c).stopped told.stopped → unbuilt c ≡ None
+    by_command : (c : Cmd) → begins_job c ≡ false → MayStop s c (told_for s c).stopped told.stopped → unbuilt c ≡ None
         → NoneHolds s.table told (asks_of c) → AllSuit s (command_edits s.table exp c)
-    by_command (command.Capabilities enable) may is asks = (tt, tt)
-    by_command (command.BlockdevCreate c) may is asks =
+    by_command (command.Capabilities enable) begins may is asks = (tt, tt)
+    by_command (command.BlockdevCreate c) begins may is asks =
         create_suits s told c.job_id c.options rests.stands
         (none-behind s.table told
         (create_values c.options ++ ask.Named (codes "job-id") (Some c.job_id) ∷ create_names c.options) (create_rest c.job_id c.options) asks)
-    by_command (command.JobDismiss id) may is asks = (tt, tt)
-    by_command (command.BlockdevAdd c) may is asks = add_suits s told exp c rests.stands may asks
-    by_command (command.BlockdevDel name) may is asks = del_suits s told name rests asks
-    by_command (command.DeviceAdd c) may is asks = device_suits s told c rests.stands asks
-    by_command (command.BlockdevSnapshot c) may is asks = snapshot_suits s told c rests.stands asks
-    by_command (command.DeviceDel id) may is asks = device_gone_suits s (device_named s.table id)
-    by_command command.QueryBlockJobs may is asks = tt
-    by_command (command.QueryNamedBlockNodes flat) may is asks = tt
-    by_command (command.BitmapAdd c) may is asks = (tt, tt)
-    by_command (command.BitmapRemove c) may is asks = (tt, tt)
-    by_command (command.BitmapClear c) may is asks = (tt, tt)
-    by_command (command.BitmapEnable c) may is asks = (tt, tt)
-    by_command (command.BitmapDisable c) may is asks = (tt, tt)
-    by_command (command.BitmapMerge c) may is asks = merges-suit s.table c.node c.target c.bitmaps s
-    by_command _ may is asks = absurd cc
+    by_command (command.JobDismiss id) begins may is asks = (tt, tt)
+    by_command (command.BlockdevAdd c) begins may is asks = add_suits s told exp c rests.stands may asks
+    by_command (command.BlockdevDel name) begins may is asks = del_suits s told name rests asks
+    by_command (command.DeviceAdd c) begins may is asks = device_suits s told c rests.stands asks
+    by_command (command.BlockdevSnapshot c) begins may is asks = snapshot_suits s told c rests.stands asks
+    by_command (command.DeviceDel id) begins may is asks = device_gone_suits s (device_named s.table id)
+    by_command (command.BlockJobCancel job force) begins may is asks = asked_suits s (asked_by_cancel (flag_or_false force)) (job_named s.table job)
+    by_command command.QueryBlockJobs begins may is asks = tt
+    by_command (command.QueryNamedBlockNodes flat) begins may is asks = tt
+    by_command (command.BitmapAdd c) begins may is asks = (tt, tt)
+    by_command (command.BitmapRemove c) begins may is asks = (tt, tt)
+    by_command (command.BitmapClear c) begins may is asks = (tt, tt)
+    by_command (command.BitmapEnable c) begins may is asks = (tt, tt)
+    by_command (command.BitmapDisable c) begins may is asks = (tt, tt)
+    by_command (command.BitmapMerge c) begins may is asks = merges-suit s.table c.node c.target c.bitmaps s
+    by_command _ begins may is asks = absurd cc

@@ -27,17 +27,21 @@ use Rattle.qmp_codec.specs.declared.nodes.DeviceAdd.{DeviceAdd}
 use Rattle.qmp_rules.specs.declared.change.Change.{Change}
 use Rattle.qmp_rules.specs.declared.change.Change.TheVariants as change
 use Rattle.qmp_rules.specs.declared.rows.NodeRecord.{NodeRecord}
+use Rattle.qmp_rules.specs.declared.rows.AskedEnd.{AskedEnd}
 use Rattle.qmp_rules.specs.declared.rows.DeviceRow.{DeviceRow}
+use Rattle.qmp_rules.specs.declared.rows.JobRecord.{JobRecord}
 use Rattle.qmp_rules.specs.declared.told.Told.{Told}
-use Rattle.qmp_rules.specs.Table.{RunTable, device_named, node_by_id, node_named, id_named, child, kinds_of}
+use Rattle.qmp_rules.specs.Table.{RunTable, device_named, job_named, node_by_id, node_named, id_named, child, kinds_of}
 use Rattle.qmp_rules.specs.Changes.{changed, all_changed, node_changed, unsettled, lost_with, with_unsettled, without_record, with_format_edges}
-use Rattle.qmp_rules.specs.Edits.{file_of_node, next_free_id, raw_record, image_row, length_told, goes_with, goes_with_node, with_inline, file_uses, file_under, del_edits, added_edits, raw_edits, qcow2_edits, add_edits, inline_row, edits_of, created_change, spoiled, device_add_edits, new_device, device_uses, of_row, bitmap_add_edits, bitmap_remove_edits, bitmap_clear_edits, bitmap_turn_edits, merges, merge_edits}
+use Rattle.qmp_rules.specs.Edits.{file_of_node, next_free_id, raw_record, image_row, length_told, goes_with, goes_with_node, with_inline, file_uses, file_under, del_edits, added_edits, raw_edits, qcow2_edits, add_edits, inline_row, edits_of, created_change, spoiled, device_add_edits, new_device, device_uses, of_row, bitmap_add_edits, bitmap_remove_edits, bitmap_clear_edits, bitmap_turn_edits, merges, merge_edits, asked_by_cancel}
+use Rattle.qmp_asks.specs.Values.{flag_or_false}
 use Rattle.qmp_asks.specs.Naming.{inline_name}
 use Rattle.qmp_asks.specs.NodeAsks.{add_asks, del_asks, device_add_asks, is_read_only, backing_name}
 use Rattle.qmp_rules.specs.Asks.{first_unmet_ask, is_file}
 use Rattle.qmp_asks.specs.CommandAsks.{asks_of, negotiates}
 use Rattle.qmp_rules.specs.Answers.{unbuilt, out_of_turn, refusal_to, command_edits}
 use Rattle.qmp_rules.specs.Chains.{filter_role, written_under, unsettled_over}
+use Rattle.flat_machine.specs.Replies.{begins_job}
 use Rattle.flat_machine.specs.Wiring.{LeadsToFile, IsInline, InlineAreUnder, TableStands, TableAtRest}
 use Rattle.flat_machine.specs.Suiting.{IsThere, IsAlone, TableSuits, AllTableSuit}
 use Rattle.flat_machine.proofs.Fresh.{no-found}
@@ -184,6 +188,7 @@ MakesNone Q (change.MakeFile name size) = Unit {0}
 MakesNone Q (change.FormatFile node name size backing_file backing_fmt) = Unit {0}
 MakesNone Q (change.SpoilFile name) = Unit {0}
 MakesNone Q (change.UseFile name) = Unit {0}
+MakesNone Q (change.AskJob number asked) = Unit {0}
 MakesNone Q (change.AddDevice device node) = Unit {0}
 MakesNone Q (change.RemoveDevice number) = Unit {0}
 MakesNone Q (change.AddBitmap row) = Unit {0}
@@ -228,6 +233,8 @@ inline_keeps Q t (change.AddFilter row child) made suits h inline =
     inline_stays t now (λ r. r ≡ row) (IsNewFilterEdge t now row child suits refl kinds refl h)
     (filter_grow t now row child suits refl kinds refl h) Q h
     (λ r over is with. absurd (let none = ap (λ x. x.made_with) is ∙ made in cc)) inline
+inline_keeps Q t (change.AskJob number asked) made suits h inline =
+    inline_rows Q t (changed t (change.AskJob number asked)) (rows-same t (changed t (change.AskJob number asked)) refl h.apart) refl h inline
 inline_keeps Q t (change.AddDevice device node) made suits h inline =
     let now : RunTable = changed t (change.AddDevice device node) in
     inline_stays t now NoRow (IsDriveEdge t now device node suits refl (kinds_of t.nodes) refl h)
@@ -577,35 +584,41 @@ merges-table : (t : RunTable) (node target : List ℕ) (sources : SeenSources) (
 merges-table t node target [] now = tt
 merges-table t node target (s ∷ sources) now = (tt, merges-table t node target sources (changed now _))
 
--- An accepted command leaves the table as it is to be between events, whatever was told.
-pub command_rests : (t : RunTable) (told exp : Told) (c : Cmd) → TableAtRest t → refusal_to t told c ≡ None
+asked_rests : (t : RunTable) (ask : JobRecord → AskedEnd) (found : Option JobRecord) → TableAtRest t
+    → BothRest t (elim found as (λ _. List Change) [ None ↦ [] | Some job ↦ change.AskJob job.number (ask job) ∷ [] ])
+asked_rests t ask None h = (tt, h)
+asked_rests t ask (Some job) h = both_rest t (change.AskJob job.number (ask job) ∷ []) (tt, tt) (tt, tt) h
+
+-- An accepted command that begins no job leaves the table as it is to be between events, whatever was told.
+pub command_rests : (t : RunTable) (told exp : Told) (c : Cmd) → begins_job c ≡ false → TableAtRest t → refusal_to t told c ≡ None
     → AllTableSuit t (command_edits t exp c) × TableAtRest (all_changed t (command_edits t exp c))
 unfolding refusal_to asks_of edits_of
-command_rests t told exp c rests h =
+command_rests t told exp c begins rests h =
     let known = none-both (unbuilt c) _ h in
     let turn = none-both (out_of_turn (negotiates c) t.negotiated) _ known.1 in
     let asks = none-both (first_unmet_ask t told (asks_of c)) _ turn.1 in
-    by_command c rests known.0 (none-holds t told (asks_of c) asks.0)
+    by_command c begins rests known.0 (none-holds t told (asks_of c) asks.0)
   where
-    by_command : (c : Cmd) → TableAtRest t → unbuilt c ≡ None → NoneHolds t told (asks_of c) → BothRest t (command_edits t exp c)
-    by_command (command.Capabilities enable) h is asks = both_rest t (change.Negotiate ∷ []) (tt, tt) (tt, tt) h
-    by_command (command.BlockdevCreate c) h is asks = create_rests t c.job_id c.options h
-    by_command (command.JobDismiss id) h is asks = both_rest t (change.DropId id ∷ []) (tt, tt) (tt, tt) h
-    by_command (command.BlockdevAdd c) h is asks = add_rests t told exp c asks h
-    by_command (command.BlockdevDel name) h is asks = del_rests t told name asks h
-    by_command (command.DeviceAdd c) h is asks = device_rests t told c asks h
-    by_command (command.BlockdevSnapshot c) h is asks = snapshot_rests t told c asks h
-    by_command (command.DeviceDel id) h is asks = device_gone_rests t (device_named t id) h
-    by_command command.QueryBlockJobs h is asks = (tt, h)
-    by_command (command.QueryNamedBlockNodes flat) h is asks = (tt, h)
-    by_command (command.BitmapAdd c) h is asks = both_rest t (bitmap_add_edits t c) (tt, tt) (tt, tt) h
-    by_command (command.BitmapRemove c) h is asks = both_rest t (bitmap_remove_edits t c) (tt, tt) (tt, tt) h
-    by_command (command.BitmapClear c) h is asks = both_rest t (bitmap_clear_edits t c) (tt, tt) (tt, tt) h
-    by_command (command.BitmapEnable c) h is asks = both_rest t (bitmap_turn_edits t true c) (tt, tt) (tt, tt) h
-    by_command (command.BitmapDisable c) h is asks = both_rest t (bitmap_turn_edits t false c) (tt, tt) (tt, tt) h
-    by_command (command.BitmapMerge c) h is asks =
+    by_command : (c : Cmd) → begins_job c ≡ false → TableAtRest t → unbuilt c ≡ None → NoneHolds t told (asks_of c) → BothRest t (command_edits t exp c)
+    by_command (command.Capabilities enable) begins h is asks = both_rest t (change.Negotiate ∷ []) (tt, tt) (tt, tt) h
+    by_command (command.BlockdevCreate c) begins h is asks = create_rests t c.job_id c.options h
+    by_command (command.JobDismiss id) begins h is asks = both_rest t (change.DropId id ∷ []) (tt, tt) (tt, tt) h
+    by_command (command.BlockdevAdd c) begins h is asks = add_rests t told exp c asks h
+    by_command (command.BlockdevDel name) begins h is asks = del_rests t told name asks h
+    by_command (command.DeviceAdd c) begins h is asks = device_rests t told c asks h
+    by_command (command.BlockdevSnapshot c) begins h is asks = snapshot_rests t told c asks h
+    by_command (command.DeviceDel id) begins h is asks = device_gone_rests t (device_named t id) h
+    by_command (command.BlockJobCancel job force) begins h is asks = asked_rests t (asked_by_cancel (flag_or_false force)) (job_named t job) h
+    by_command command.QueryBlockJobs begins h is asks = (tt, h)
+    by_command (command.QueryNamedBlockNodes flat) begins h is asks = (tt, h)
+    by_command (command.BitmapAdd c) begins h is asks = both_rest t (bitmap_add_edits t c) (tt, tt) (tt, tt) h
+    by_command (command.BitmapRemove c) begins h is asks = both_rest t (bitmap_remove_edits t c) (tt, tt) (tt, tt) h
+    by_command (command.BitmapClear c) begins h is asks = both_rest t (bitmap_clear_edits t c) (tt, tt) (tt, tt) h
+    by_command (command.BitmapEnable c) begins h is asks = both_rest t (bitmap_turn_edits t true c) (tt, tt) (tt, tt) h
+    by_command (command.BitmapDisable c) begins h is asks = both_rest t (bitmap_turn_edits t false c) (tt, tt) (tt, tt) h
+    by_command (command.BitmapMerge c) begins h is asks =
         both_rest t (merge_edits t c) (merges-made t c.node c.target c.bitmaps) (merges-table t c.node c.target c.bitmaps t) h
-    by_command _ h is asks = absurd cc
+    by_command _ begins h is asks = absurd cc
 
 -- so does a creation of which a call failed
 pub spoiled_file_rests : (t : RunTable) (name : List ℕ) → TableAtRest t → TableAtRest (changed t (change.SpoilFile name))

@@ -1,10 +1,10 @@
 -- Which entries one event makes.
-use Rattle.std.specs.Prelude.{◌≡◌, ℕ, ◌-◌, if◌then◌else◌, List, [], ◌∷◌, ◌++◌, filter, map, Option, Some, None}
+use Rattle.std.specs.Prelude.{◌≡◌, ℕ, false, ◌-◌, if◌then◌else◌, List, [], ◌∷◌, ◌++◌, filter, map, Option, Some, None}
 use Rattle.std.specs.List.{range_with_len}
 use Rattle.qmp_rules.specs.Table.{RunTable, job_at}
 use Rattle.blk_history.specs.Fold.{With}
 use Rattle.flat_machine.specs.State.{State}
-use Rattle.flat_machine.specs.Replies.{replied, is_accepted}
+use Rattle.flat_machine.specs.Replies.{begins_job, replied, is_accepted}
 use Rattle.flat_machine.specs.Jobs.{in_group}
 use Rattle.flat_machine.specs.Machine.{replay}
 use Rattle.blk_history.specs.declared.event.Event.{Event}
@@ -19,6 +19,11 @@ abbrev pub starts_of : State → List ℕ → List ℕ → List Event
 starts_of s given text =
     if is_accepted text then map Start (range_with_len s.table.started (new_jobs s given text))
     else []
+
+-- it is no answer to a command that begins a job
+abbrev pub BeginsNoJob : Event → Type 0
+BeginsNoJob (Reply line given (Some command) text) = begins_job command ≡ false
+BeginsNoJob e = Unit {0}
 
 abbrev pub ended_job : Event → Option ℕ
 ended_job (End job outcome offset) = Some job

@@ -1,11 +1,12 @@
 -- Answers to lines of the script: which one fits, and what it does.
-use Rattle.std.specs.Prelude.{◌≡◌, ℕ, Bool, false, ◌||◌, if◌then◌else◌, List, [], codes, nat_eq, Option, Some, None, is_some, option_and_then, Result, Ok, Err}
-use Rattle.std.specs.List.{starts_with}
+use Rattle.std.specs.Prelude.{◌≡◌, ℕ, Bool, true, false, ◌||◌, if◌then◌else◌, List, [], codes, nat_eq, Option, Some, None, is_some, option_and_then, Result, Ok, Err}
+use Rattle.std.specs.List.{starts_with, list_any}
 use Rattle.std.specs.Option.{option_map_or}
 use Rattle.serde_json.specs.Read.{read}
 use Rattle.serde_json.specs.Find.{get, as_str}
-use Rattle.qmp_codec.specs.Commands.{Cmd}
+use Rattle.qmp_codec.specs.Commands.{Act, Cmd}
 use Rattle.qmp_codec.specs.Lines.{Stop, command_at}
+use Rattle.qmp_codec.specs.declared.command.Action.TheVariants as action
 use Rattle.qmp_codec.specs.declared.command.Command.TheVariants as command
 use Rattle.qmp_rules.specs.declared.change.Change.{Change}
 use Rattle.qmp_rules.specs.declared.told.Told.{Told}
@@ -39,6 +40,19 @@ abbrev pub tells_failure : List ℕ → Bool
 tells_failure text = option_map_or is_failed_call (desc_of text) false
 
 -- ---- what it does
+
+-- an action, and a command, that begins a job once it is accepted
+abbrev pub backs_up : Act → Bool
+backs_up (action.Backup c) = true
+backs_up act = false
+
+abbrev pub begins_job : Cmd → Bool
+begins_job (command.BlockStream c) = true
+begins_job (command.BlockCommit c) = true
+begins_job (command.BlockdevMirror c) = true
+begins_job (command.BlockdevBackup c) = true
+begins_job (command.Transaction c) = list_any backs_up c.actions
+begins_job c = false
 
 -- of the commands of which a call failed a creation alone leaves something: its file used, and a file node unsettled
 abbrev pub failed_edits : RunTable → Cmd → List Change

@@ -1,12 +1,12 @@
 //! What follows from the definitions, each law the contract of a function that does nothing.
 
-ghost use Rattle.std.specs.Prelude.{◌≡◌, ℕ, List, [], Option, Some, None, Ok, Err, true, false};
+ghost use Rattle.std.specs.Prelude.{◌≡◌, ℕ, All, List, [], Option, Some, None, Ok, Err, true, false};
 ghost use Rattle.serde_json.specs.Data.{Data};
 ghost use Rattle.serde_json.specs.Read.{read};
 ghost use Rattle.qmp_codec.specs.Lines.{Stop, command_at};
 ghost use Rattle.qmp_codec.specs.Replies.{returned_data, refused_data};
 ghost use Rattle.qmp_codec.specs.declared.reply.Class.{Class};
-ghost use Rattle.flat_machine.specs.Replies.{replied, edits_by, failed_edits, is_failed_call, IsAnswer};
+ghost use Rattle.flat_machine.specs.Replies.{begins_job, replied, edits_by, failed_edits, is_failed_call};
 ghost use Rattle.blk_base.specs.Pieces.{Extent};
 ghost use Rattle.blk_base.specs.declared.fault.Outcome.{Outcome};
 ghost use Rattle.trace_codec.specs.declared.op.Op.{Op};
@@ -33,6 +33,7 @@ ghost use Rattle.qmp_rules.specs.declared.rows.JobRecord.{JobRecord};
 ghost use Rattle.flat_machine.specs.Jobs.{changes_at_end, noted_end};
 ghost use Rattle.flat_machine.specs.Changed.{stepped, all_stepped};
 ghost use Rattle.flat_machine.specs.Sights.{IsTold, expected};
+ghost use Rattle.flat_machine.specs.Entries.{BeginsNoJob};
 ghost use Rattle.flat_machine.specs.Machine.{with_part, replay};
 ghost use Rattle.flat_machine.specs.Legal.{Legal};
 ghost use Rattle.flat_machine.specs.Unique.{HaveOneHistory};
@@ -70,16 +71,17 @@ pub fn accepted_changes_can_be_made()
 {}
 
 /// What holds of states between events holds at the beginning, and changes that suit a state or a table leave what each is to leave.
-/// What is asked of a change is said by its kind, of the state before it. What holds of the table alone an accepted command leaves
-/// whatever was told of files, and so do a creation of which a call failed and a guest's write.
+/// What is asked of a change is said by its kind, of the state before it. What holds of the table alone an accepted command that begins
+/// no job leaves whatever was told of files, and so do a creation of which a call failed and a guest's write.
 pub fn tables_stand()
     ensures beginning { (o : Opening) → StandsAtRest (start o) }
     ensures changes { (changes : List Change) (s : State)
         → AllSuit s changes → Stands s → Stands (all_stepped s changes) }
     ensures tables { (changes : List Change) (t : RunTable)
         → AllTableSuit t changes → TableStands t → TableStands (all_changed t changes) }
-    ensures commands { (t : RunTable) (told : Told) (c : Cmd) → TableAtRest t
-        → refusal_to t told c ≡ None → TableAtRest (all_changed t (command_edits t told c)) }
+    ensures commands { (t : RunTable) (told : Told) (c : Cmd) → begins_job c ≡ false
+        → TableAtRest t → refusal_to t told c ≡ None
+        → TableAtRest (all_changed t (command_edits t told c)) }
     ensures failures { (t : RunTable) (options : Created (List ℕ)) → TableAtRest t
         → TableAtRest (all_changed t (spoiled t options)) }
     ensures writes { (t : RunTable) (node : ℕ) → TableAtRest t
@@ -92,22 +94,21 @@ pub fn inline_names_are_free()
         → node_named t name ≡ None → node_named t (inline_name name None) ≡ None }
 {}
 
-/// What holds of states between events holds behind a reply: to an accepted command, whose changes suit the state, and to a
-/// refused one, whether or not a call of it failed. A reply to a line that is no command changes nothing.
+/// What holds of states between events holds behind a reply: to an accepted command that begins no job, whose changes suit the state,
+/// and to a refused one, whether or not a call of it failed. A reply to a line that is no command changes nothing.
 pub fn replies_keep_standing()
-    ensures suits { (s : State) (told : Told) (c : Cmd) → StandsAtRest s → IsTold s c told
-        → refusal_to s.table told c ≡ None → AllSuit s (command_edits s.table told c) }
+    ensures suits { (s : State) (told : Told) (c : Cmd) → begins_job c ≡ false → StandsAtRest s
+        → IsTold s c told → refusal_to s.table told c ≡ None
+        → AllSuit s (command_edits s.table told c) }
     ensures accepted { (s : State) (told : Told) (c : Cmd) (given text : List ℕ) (id : Option Data)
-        (d : Data) → command_at given ≡ Ok c → StandsAtRest s → IsTold s c told
-        → refusal_to s.table told c ≡ None → read text ≡ Some (returned_data id d)
-        → StandsAtRest (replied s given text) }
+        (d : Data) → command_at given ≡ Ok c → begins_job c ≡ false → StandsAtRest s
+        → IsTold s c told → refusal_to s.table told c ≡ None
+        → read text ≡ Some (returned_data id d) → StandsAtRest (replied s given text) }
     ensures refused { (s : State) (c : Cmd) (given text : List ℕ) (id : Option Data) (class : Class)
         (desc : List ℕ) → command_at given ≡ Ok c → StandsAtRest s
         → read text ≡ Some (refused_data id class desc) → StandsAtRest (replied s given text) }
     ensures others { (s : State) (given text : List ℕ) (why : Stop) → command_at given ≡ Err why
         → replied s given text ≡ s }
-    ensures answers { (s : State) (given : List ℕ) (command : Option Cmd) (text : List ℕ)
-        → StandsAtRest s → IsAnswer s given command text → StandsAtRest (replied s given text) }
 {}
 
 /// What holds of states between events holds behind a piece of any request, whatever its outcome.
@@ -116,9 +117,9 @@ pub fn pieces_keep_standing()
         → StandsAtRest s → StandsAtRest (with_part drive op outcome part s) }
 {}
 
-/// What holds of states between events holds after each legal history of an opening.
+/// What holds of states between events holds after each legal history of an opening in which no command begins a job.
 pub fn histories_keep_standing()
-    ensures { (o : Opening) (h : List Event) → Legal (start o) h
+    ensures { (o : Opening) (h : List Event) → All BeginsNoJob h → Legal (start o) h
         → StandsAtRest (replay (start o) h) }
 {}
 

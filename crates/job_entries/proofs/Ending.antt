@@ -29,6 +29,7 @@ use Rattle.flat_machine.specs.Jobs.{outcome_of, changes_at_end}
 use Rattle.flat_machine.specs.Agreement.{Contents, HasDisk}
 use Rattle.flat_machine.specs.Performing.{CanRewrite, AllCan, AllPerformed}
 use Rattle.flat_machine.specs.Wiring.{TableStands}
+use Rattle.flat_machine.proofs.CopyStarts.{can-append}
 use Rattle.job_edges.specs.Held.{is_job_filter}
 use Rattle.job_tables.specs.Ends.{rebased_by}
 use Rattle.job_tables.specs.Rows.{nodes_of_job}
@@ -38,7 +39,7 @@ use Rattle.job_tables.proofs.RowEdges.{in_left, in_right, holds_source}
 use Rattle.job_entries.specs.Ends.{renamed, copies_source, RestsToEnd, ReadsAsMade, ShowsEnd}
 use Rattle.job_entries.proofs.Files.{IsOwn, IsNoFile, free_no_file, filter_no_file, AreSteady, steady_then, steady_file, steady_ended, found_pulled, steady_pulled, no_file_ended, no_file_pulled}
 use Rattle.job_entries.proofs.Steps.{AllSteps, steps-append, steps-three}
-use Rattle.job_entries.proofs.InTurn.{can-append, can-three, quiet_self, AllStill, still-append, still-three, still_quiet}
+use Rattle.job_entries.proofs.InTurn.{can-three, quiet_self, AllStill, still-append, still-three, still_quiet}
 
 -- ---- what rests on nothing
 

@@ -5,10 +5,7 @@ use Rattle.flat_machine.specs.State.{State}
 use Rattle.flat_machine.specs.Changed.{stepped, all_stepped}
 use Rattle.flat_machine.specs.Agreement.{Contents}
 use Rattle.flat_machine.specs.Performing.{IsQuiet, Performed, AllCan, AllPerformed}
-
-pub can-append : (a b : List Change) (s : State) → AllCan s a → AllCan (all_stepped s a) b → AllCan s (a ++ b)
-can-append [] b s h k = k
-can-append (c ∷ a) b s h k = (h.0, can-append a b (stepped s c) h.1 k)
+use Rattle.flat_machine.proofs.CopyStarts.{can-append}
 
 -- three lists, as they stand one behind another
 pub can-three : (a b c : List Change) (s : State) → AllCan s a → AllCan (all_stepped s a) b → AllCan (all_stepped (all_stepped s a) b) c → AllCan s (a ++ b ++ c)

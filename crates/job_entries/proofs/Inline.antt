@@ -87,7 +87,7 @@ carries_then a b c ab bc = record {
       };
 }
 
-inline_carried : (t now : RunTable) → TableStands t → Carries t now → InlineAreUnder t → InlineAreUnder now
+pub inline_carried : (t now : RunTable) → TableStands t → Carries t now → InlineAreUnder t → InlineAreUnder now
 inline_carried t now h c inline later over there made = by_found (node_by_id t over) refl
   where
     was : RowWas t later
@@ -272,7 +272,7 @@ step_carries t (change.Move from to but) h =
     same_carries t (changed t (change.Move from to but)) refl (λ n o. child_gone_over t from to but n (h n o))
 step_carries t c h = absurd h
 
-steps_carry : (changes : List Change) (s : State) → AllSteps s changes → Carries s.table (all_stepped s changes).table
+pub steps_carry : (changes : List Change) (s : State) → AllSteps s changes → Carries s.table (all_stepped s changes).table
 steps_carry [] s h = carries_self s.table
 steps_carry (c ∷ changes) s h =
     carries_then s.table (changed s.table c) (all_stepped (stepped s c) changes).table (step_carries s.table c h.0) (steps_carry changes (stepped s c) h.1)

@@ -11,3 +11,4 @@ pub mod Alike
 pub mod CommitSuits
 pub mod StartSuits
 pub mod Headers
+pub mod Commands

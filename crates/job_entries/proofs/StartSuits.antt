@@ -29,7 +29,6 @@ use Rattle.qmp_rules.specs.Edits.{free_id, of_row, device_uses, file_uses, filte
 use Rattle.qmp_rules.specs.Table.{RunTable, node_by_id, child, file_state, kinds_of}
 use Rattle.flat_machine.specs.State.{State}
 use Rattle.flat_machine.specs.Changed.{stepped, all_stepped}
-use Rattle.flat_machine.specs.Standing.{Stands}
 use Rattle.flat_machine.specs.Suiting.{IsPlainNode, SuitsPut, UnsettleSuits, AllSuit}
 use Rattle.flat_machine.specs.Wiring.{StandsFor, TableStands}
 use Rattle.flat_machine.proofs.Resting.{stepped_table}
@@ -171,7 +170,7 @@ module _ (s : State) (h : TableStands s.table) (target : ℕ) where
 
 -- ---- a filter over the source
 
-module _ (s : State) (h : Stands s) (j : JobsStand s.table) (d : EdgesAreDrawn s.table) (row : JobRecord) (b : JobBegins s.table row) where
+module _ (s : State) (h : TableStands s.table) (j : JobsStand s.table) (d : EdgesAreDrawn s.table) (row : JobRecord) (b : JobBegins s.table row) where
   abbrev plain : IsPlainNode s.table row.source
   plain = source_plain s row b
 
@@ -204,12 +203,12 @@ module _ (s : State) (h : Stands s) (j : JobsStand s.table) (d : EdgesAreDrawn s
       over f from (Some node) e some =
           let here = find-Some (λ (r : NodeRecord). r.id == f) s.table.nodes node e in
           let from_node : edge.parent ≡ Node node.id = from ∙ ap Node (sym (eqb-true node.id f here.1)) in
-          let has = subst (λ r. has_role node.kind r ≡ true) role (h.table.roles edge node there here.0 from_node) in
+          let has = subst (λ r. has_role node.kind r ≡ true) role (h.roles edge node there here.0 from_node) in
           let of = j.filters node here.0 (of_job_by node.kind has) in
           let stands = j.each of.row of.there in
           let filter = filter_of s.table of.row of.row.kind stands.shape node.id of.filter in
           let leads : edge.child ≡ of.row.source
-          = child_is s.table h.table j d edge node.id of.row.source Filtered there from_node role (λ bad. (let no : Filtered ≡ Between = bad in cc))
+          = child_is s.table h j d edge node.id of.row.source Filtered there from_node role (λ bad. (let no : Filtered ≡ Between = bad in cc))
           (subst (λ n. child s.table n Filtered ≡ Some of.row.source) filter.3 filter.2.over) in
           let same : of.row.source ≡ row.source = sym leads ∙ at in
           b.holds of.row row.source of.there source_held
@@ -218,7 +217,7 @@ module _ (s : State) (h : Stands s) (j : JobsStand s.table) (d : EdgesAreDrawn s
       by_parent : (p : Parent) → edge.parent ≡ p → IsOf (kinds_of s.table.nodes) edge p → ⊥
       by_parent (Guest g) from of = (let bad : Drive ≡ Filtered = sym (ap (λ (e : Edge). e.role) of.is) ∙ role in cc)
       by_parent (Job slot) from of = no_use of.what (sym (ap (λ (e : Edge). e.role) of.is) ∙ role)
-      by_parent (Node f) from of = over f from (node_by_id s.table f) refl ((h.table.edges edge there).parent f from)
+      by_parent (Node f) from of = over f from (node_by_id s.table f) refl ((h.edges edge there).parent f from)
 
   module _ (pre : List Change) (early : AreBefore pre) where
     abbrev ready : State
@@ -268,7 +267,7 @@ module _ (s : State) (h : Stands s) (j : JobsStand s.table) (d : EdgesAreDrawn s
       plain_behind : (n : ℕ) → IsPlainNode s.table n → IsPlainNode (stepped (stepped ready put) (change.StartJob row)).table n
       plain_behind n p =
           plain_started (changed ready.table put) row n
-          (plain_put ready.table new plain.row.id (like.absent (free_id s.table) f.fresh) (like.ends h.table.edges) n (like.plain n p))
+          (plain_put ready.table new plain.row.id (like.absent (free_id s.table) f.fresh) (like.ends h.edges) n (like.plain n p))
 
   module _ (target : ℕ) (held : Contains (nodes_of_job row) target) (kind : Kind) (of_job : is_job_filter kind ≡ true) (f : IsToFilter s.table row) where
     abbrev lost : List Change
@@ -276,7 +275,7 @@ module _ (s : State) (h : Stands s) (j : JobsStand s.table) (d : EdgesAreDrawn s
 
     copy_suits : AllSuit s (target_edits s.table (Some target) ++ filter_edits s.table kind row ++ change.StartJob row ∷ uses_target row (Some target))
     copy_suits = subst (AllSuit s) (sym (filter_list s.table row kind plain lost (change.StartJob row ∷ uses_target row (Some target))))
-        (suit_append lost (put lost early kind of_job f ∷ change.StartJob row ∷ uses_target row (Some target)) s (target_suits s h.table target)
+        (suit_append lost (put lost early kind of_job f ∷ change.StartJob row ∷ uses_target row (Some target)) s (target_suits s h target)
         (put_suits lost early kind of_job f, (tt, (plain_behind lost early kind of_job f target (b.plain target held), tt))))
       where
         early : AreBefore lost
@@ -287,7 +286,7 @@ module _ (s : State) (h : Stands s) (j : JobsStand s.table) (d : EdgesAreDrawn s
   commit_suits : row.kind ≡ Commit → (x : CommitBegins s.table row) → row.made_writable ≡ to_be_written s.table row.target → AllSuit s (edits_by_kind s.table row Commit)
   commit_suits is x lends =
       subst (AllSuit s) (sym (filter_list s.table row driver.Commit plain first behind))
-      (suit_append first (put first early driver.Commit refl x.filter ∷ behind) s (lent_suits s h.table row x (b.plain x.base base_held) lends)
+      (suit_append first (put first early driver.Commit refl x.filter ∷ behind) s (lent_suits s h row x (b.plain x.base base_held) lends)
       (put_suits first early driver.Commit refl x.filter, (tt, (top row.source plain, commit_uses_suit (under_top row) (stepped started (change.UseNode row.slot CommitTop row.source)) below))))
     where
       first : List Change

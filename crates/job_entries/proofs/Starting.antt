@@ -32,6 +32,7 @@ use Rattle.flat_machine.specs.Agreement.{Contents, Agrees}
 use Rattle.flat_machine.specs.Performing.{Can, Performed, AllCan, AllPerformed}
 use Rattle.flat_machine.specs.Suiting.{IsPlainNode}
 use Rattle.flat_machine.specs.Wiring.{TableStands}
+use Rattle.flat_machine.proofs.CopyStarts.{can-append}
 use Rattle.flat_machine.proofs.Kept.{changes_keep}
 use Rattle.job_tables.specs.Jobs.{JobsStand}
 use Rattle.job_tables.specs.Starts.{IsToFilter, BeginsByKind, JobBegins}
@@ -41,7 +42,7 @@ use Rattle.job_entries.specs.Starts.{ShowsFilter}
 use Rattle.job_entries.proofs.Files.{IsOwn, IsNoFile, free_no_file, no_file_kept}
 use Rattle.job_entries.proofs.Sources.{HaveOtherSources, SparesSources, AllSpare, changes_spare, spare-append, new_others}
 use Rattle.job_entries.proofs.Steps.{IsStep, AllSteps, steps-append}
-use Rattle.job_entries.proofs.InTurn.{can-append, quiet_self, AllStill, still_quiet, still_then}
+use Rattle.job_entries.proofs.InTurn.{quiet_self, AllStill, still_quiet, still_then}
 
 -- ---- what of a start isn't seen in nodes and files
 

@@ -1,5 +1,16 @@
 //! Laws of the entries of jobs, each the contract of a function that does nothing.
-ghost use Rattle.std.specs.Prelude.{◌≡◌, ◌<◌, ◌≤◌, ℕ, true, List, [], ◌∷◌, Contains, Option, Some, None};
+ghost use Rattle.std.specs.Prelude.{◌≡◌, ◌<◌, ◌≤◌, ℕ, true, List, [], ◌∷◌, Contains, Option, Some, None, Ok};
+ghost use Rattle.serde_json.specs.Data.{Data};
+ghost use Rattle.serde_json.specs.Read.{read};
+ghost use Rattle.qmp_codec.specs.Commands.{Cmd};
+ghost use Rattle.qmp_codec.specs.Lines.{command_at};
+ghost use Rattle.qmp_codec.specs.Replies.{returned_data};
+ghost use Rattle.qmp_rules.specs.declared.told.Told.{Told};
+ghost use Rattle.qmp_rules.specs.Answers.{refusal_to, command_edits};
+ghost use Rattle.qmp_rules.specs.Changes.{all_changed};
+ghost use Rattle.qmp_rules.specs.Table.{RunTable};
+ghost use Rattle.flat_machine.specs.Replies.{replied, IsAnswer};
+ghost use Rattle.flat_machine.specs.Sights.{IsTold};
 ghost use Rattle.qmp_rules.specs.declared.change.Change.{Change};
 ghost use Rattle.qmp_rules.specs.declared.change.Change.TheVariants.{Attach, Move};
 ghost use Rattle.qmp_rules.specs.declared.rows.JobRecord.{JobRecord};
@@ -12,13 +23,14 @@ ghost use Rattle.flat_machine.specs.Changed.{all_stepped};
 ghost use Rattle.flat_machine.specs.Agreement.{Contents, Agrees};
 ghost use Rattle.flat_machine.specs.Imaging.{ShowsImages, AllKeepImages};
 ghost use Rattle.flat_machine.specs.Performing.{AllCan, AllPerformed};
-ghost use Rattle.flat_machine.specs.Wiring.{TableStands};
+ghost use Rattle.flat_machine.specs.Wiring.{TableStands, TableAtRest};
 ghost use Rattle.flat_machine.specs.Standing.{Stands, StandsAtRest};
 ghost use Rattle.flat_machine.specs.Suiting.{AllTableSuit, AllSuit};
 ghost use Rattle.flat_machine.specs.Legal.{IsAtRest};
 ghost use Rattle.flat_machine.specs.Machine.{after};
 ghost use Rattle.flat_machine.specs.Opening.{start};
 ghost use Rattle.flat_machine.specs.declared.opening.Opening.{Opening};
+ghost use Rattle.job_tables.specs.Accepted.{JobsAreDrawn};
 ghost use Rattle.job_tables.specs.Changes.{AllLeaveJobs};
 ghost use Rattle.job_tables.specs.Jobs.{JobsStand, EdgesAreDrawn};
 ghost use Rattle.job_tables.specs.Ends.{EndSuits, rebased_by};
@@ -119,6 +131,23 @@ pub fn starts_keep_standing()
         → AllSuit s (start_edits s.table row) → ShowsFilter row old new
         → Agrees opening s old → ShowsImages s old
         → ShowsImages (all_stepped s (start_edits s.table row)) new }
+{}
+
+/// What holds between events holds behind each accepted command, whatever was told of files, and of states behind its reply: its changes
+/// suit the state, also where they begin a job.
+pub fn accepted_commands_keep_standing()
+    ensures tables { (t : RunTable) (told : Told) (c : Cmd) → TableAtRest t → JobsAreDrawn t
+        → refusal_to t told c ≡ None → TableAtRest (all_changed t (command_edits t told c)) }
+    ensures suit { (s : State) (told : Told) (c : Cmd) → StandsAtRest s → JobsAreDrawn s.table
+        → IsTold s c told → refusal_to s.table told c ≡ None
+        → AllSuit s (command_edits s.table told c) }
+    ensures replies { (s : State) (told : Told) (c : Cmd) (given text : List ℕ) (id : Option Data)
+        (d : Data) → command_at given ≡ Ok c → StandsAtRest s → JobsAreDrawn s.table
+        → IsTold s c told → refusal_to s.table told c ≡ None
+        → read text ≡ Some (returned_data id d) → StandsAtRest (replied s given text) }
+    ensures answers { (s : State) (given : List ℕ) (command : Option Cmd) (text : List ℕ)
+        → StandsAtRest s → JobsAreDrawn s.table → IsAnswer s given command text
+        → StandsAtRest (replied s given text) }
 {}
 
 /// What holds between events holds behind the end of a job, where the state has what the end needs.

@@ -1,4 +1,4 @@
--- The changes of an accepted command that starts no job leave jobs standing and running.
+-- The changes of an accepted command leave jobs standing and running.
 use Rattle.std.proofs.Common.{◌≡◌, ℕ, Bool, true, false, cond, List, [], ◌∷◌, ◌++◌, refl, sym, ap, subst, Option, Some, None, ◌⊎◌, inl, inr}
 use Rattle.std.specs.Prelude.{codes}
 use Rattle.std.specs.List.{find, Contains}
@@ -17,18 +17,22 @@ use Rattle.qmp_codec.specs.declared.nodes.Snapshot.{Snapshot}
 use Rattle.qmp_asks.specs.declared.ask.Ask.TheVariants as ask
 use Rattle.qmp_asks.specs.CommandAsks.{asks_of, negotiates}
 use Rattle.qmp_asks.specs.Naming.{is_name}
+use Rattle.qmp_asks.specs.Values.{flag_or_false}
 use Rattle.qmp_asks.specs.NodeAsks.{create_values, create_names, create_rest, del_asks, snapshot_values, snapshot_names, snapshot_rest, is_read_only, backing_name}
 use Rattle.qmp_rules.specs.declared.change.Change.{Change}
 use Rattle.qmp_rules.specs.declared.change.Change.TheVariants as change
 use Rattle.qmp_rules.specs.declared.rows.NodeRecord.{NodeRecord}
+use Rattle.qmp_rules.specs.declared.rows.AskedEnd.{AskedEnd}
 use Rattle.qmp_rules.specs.declared.rows.DeviceRow.{DeviceRow}
+use Rattle.qmp_rules.specs.declared.rows.JobRecord.{JobRecord}
 use Rattle.qmp_rules.specs.declared.told.Told.{Told}
 use Rattle.qmp_rules.specs.Answers.{unbuilt, out_of_turn, refusal_to, command_edits}
 use Rattle.qmp_rules.specs.Asks.{first_unmet_ask, id_or, is_file}
 use Rattle.qmp_rules.specs.Chains.{filter_role}
 use Rattle.qmp_rules.specs.Changes.{changed, all_changed}
-use Rattle.qmp_rules.specs.Edits.{file_of_node, file_uses, file_under, goes_with_node, with_inline, del_edits, created_change, raw_edits, qcow2_edits, added_edits, of_row, device_uses, new_device, edits_of, merges, snapshot_edits}
-use Rattle.qmp_rules.specs.Table.{RunTable, device_named, node_named}
+use Rattle.qmp_rules.specs.Edits.{file_of_node, file_uses, file_under, goes_with_node, with_inline, del_edits, created_change, raw_edits, qcow2_edits, added_edits, of_row, device_uses, new_device, edits_of, merges, snapshot_edits, asked_by_cancel}
+use Rattle.qmp_rules.specs.Table.{RunTable, device_named, job_named, node_named}
+use Rattle.flat_machine.specs.Replies.{begins_job}
 use Rattle.flat_machine.specs.Suiting.{IsAlone, FormattingSuits, AllTableSuit}
 use Rattle.flat_machine.specs.Wiring.{TableStands, TableAtRest}
 use Rattle.flat_machine.proofs.Asked.{none-both, NoneHolds, none-holds, none-behind, found-named, none-stands, lone-node}
@@ -46,6 +50,9 @@ use Rattle.job_tables.proofs.Changes.{changes_leave_jobs}
 use Rattle.job_tables.proofs.Asked.{snapshots_leave_jobs}
 use Rattle.job_tables.proofs.Nobodys.{holder_free, unheld_node, named_no_filter, own_no_filter, under_no_job, bare_no_job, image_reaches_none}
 use Rattle.job_tables.proofs.Runs.{changes_leave_run, snapshots_leave_run, source_has}
+use Rattle.job_tables.proofs.RunStarts.{starts_run}
+use Rattle.job_tables.proofs.StartCommands.{accepted_start}
+use Rattle.job_tables.proofs.Started.{starts_stand}
 
 abbrev Leave : RunTable → List Change → Type 0
 Leave t changes = AllLeaveJobs t changes × AllLeaveDisks t changes
@@ -210,51 +217,70 @@ snapshot_is t told c h j asks =
     let of = snapshot_nodes t told c h asks in
     record { node = of.node.id; overlay = of.overlay.id; is = edits_are t c of; leaves = snapshot_leaves t told c h j asks of }
 
+-- ---- jobs that are asked to end
+
+asked_leave : (t : RunTable) (ask : JobRecord → AskedEnd) (found : Option JobRecord)
+    → Leave t (elim found as (λ _. List Change) [ None ↦ [] | Some job ↦ change.AskJob job.number (ask job) ∷ [] ])
+asked_leave t ask None = (tt, tt)
+asked_leave t ask (Some job) = ((tt, tt), (tt, tt))
+
 -- ---- every command
 
-pub accepted_leave : (t : RunTable) (told exp : Told) (c : Cmd) → TableAtRest t → JobsStand t → refusal_to t told c ≡ None
+-- those of one that begins no job
+pub accepted_leave : (t : RunTable) (told exp : Told) (c : Cmd) → begins_job c ≡ false → TableAtRest t → JobsStand t → refusal_to t told c ≡ None
     → LeavesOrSnaps t (command_edits t exp c)
 unfolding refusal_to asks_of edits_of
-accepted_leave t told exp c rests j h =
+accepted_leave t told exp c begins rests j h =
     let known = none-both (unbuilt c) _ h in
     let turn = none-both (out_of_turn (negotiates c) t.negotiated) _ known.1 in
     let asks = none-both (first_unmet_ask t told (asks_of c)) _ turn.1 in
-    by_command c (command_rests t told exp c rests h).0 known.0 (none-holds t told (asks_of c) asks.0)
+    by_command c begins (command_rests t told exp c begins rests h).0 known.0 (none-holds t told (asks_of c) asks.0)
   where
-    by_command : (c : Cmd) → AllTableSuit t (command_edits t exp c) → unbuilt c ≡ None → NoneHolds t told (asks_of c) → LeavesOrSnaps t (command_edits t exp c)
-    by_command (command.Capabilities enable) suits is asks = inl (suits, ((tt, tt), (tt, tt)))
-    by_command (command.BlockdevCreate c) suits is asks =
+    by_command : (c : Cmd) → begins_job c ≡ false → AllTableSuit t (command_edits t exp c) → unbuilt c ≡ None → NoneHolds t told (asks_of c) → LeavesOrSnaps t (command_edits t exp c)
+    by_command (command.Capabilities enable) begins suits is asks = inl (suits, ((tt, tt), (tt, tt)))
+    by_command (command.BlockdevCreate c) begins suits is asks =
         inl (
           suits,
           create_leave t told c.job_id c.options rests.stands
               (none-behind t told (create_values c.options ++ ask.Named (codes "job-id") (Some c.job_id) ∷ create_names c.options) (create_rest c.job_id c.options) asks),
         )
-    by_command (command.JobDismiss id) suits is asks = inl (suits, ((tt, tt), (tt, tt)))
-    by_command (command.BlockdevAdd c) suits is asks = inl (suits, added_leave t exp c.node_name (is_read_only c.options) c.driver)
-    by_command (command.BlockdevDel name) suits is asks = inl (suits, del_leave t told name rests j asks)
-    by_command (command.DeviceAdd c) suits is asks = inl (suits, device_leave t c (node_named t c.drive))
-    by_command (command.BlockdevSnapshot c) suits is asks = inr (snapshot_is t told c rests.stands j asks)
-    by_command (command.DeviceDel id) suits is asks = inl (suits, device_gone_leave t (device_named t id))
-    by_command command.QueryBlockJobs suits is asks = inl (suits, (tt, tt))
-    by_command (command.QueryNamedBlockNodes flat) suits is asks = inl (suits, (tt, tt))
-    by_command (command.BitmapAdd c) suits is asks = inl (suits, ((tt, tt), (tt, tt)))
-    by_command (command.BitmapRemove c) suits is asks = inl (suits, ((tt, tt), (tt, tt)))
-    by_command (command.BitmapClear c) suits is asks = inl (suits, ((tt, tt), (tt, tt)))
-    by_command (command.BitmapEnable c) suits is asks = inl (suits, ((tt, tt), (tt, tt)))
-    by_command (command.BitmapDisable c) suits is asks = inl (suits, ((tt, tt), (tt, tt)))
-    by_command (command.BitmapMerge c) suits is asks = inl (suits, merges_leave t c.node c.target c.bitmaps t)
-    by_command _ suits is asks = absurd cc
+    by_command (command.JobDismiss id) begins suits is asks = inl (suits, ((tt, tt), (tt, tt)))
+    by_command (command.BlockdevAdd c) begins suits is asks = inl (suits, added_leave t exp c.node_name (is_read_only c.options) c.driver)
+    by_command (command.BlockdevDel name) begins suits is asks = inl (suits, del_leave t told name rests j asks)
+    by_command (command.DeviceAdd c) begins suits is asks = inl (suits, device_leave t c (node_named t c.drive))
+    by_command (command.BlockdevSnapshot c) begins suits is asks = inr (snapshot_is t told c rests.stands j asks)
+    by_command (command.DeviceDel id) begins suits is asks = inl (suits, device_gone_leave t (device_named t id))
+    by_command (command.BlockJobCancel job force) begins suits is asks =
+        inl (suits, asked_leave t (asked_by_cancel (flag_or_false force)) (job_named t job))
+    by_command command.QueryBlockJobs begins suits is asks = inl (suits, (tt, tt))
+    by_command (command.QueryNamedBlockNodes flat) begins suits is asks = inl (suits, (tt, tt))
+    by_command (command.BitmapAdd c) begins suits is asks = inl (suits, ((tt, tt), (tt, tt)))
+    by_command (command.BitmapRemove c) begins suits is asks = inl (suits, ((tt, tt), (tt, tt)))
+    by_command (command.BitmapClear c) begins suits is asks = inl (suits, ((tt, tt), (tt, tt)))
+    by_command (command.BitmapEnable c) begins suits is asks = inl (suits, ((tt, tt), (tt, tt)))
+    by_command (command.BitmapDisable c) begins suits is asks = inl (suits, ((tt, tt), (tt, tt)))
+    by_command (command.BitmapMerge c) begins suits is asks = inl (suits, merges_leave t c.node c.target c.bitmaps t)
+    by_command _ begins suits is asks = absurd cc
 
 pub accepted_keep_jobs : (t : RunTable) (told exp : Told) (c : Cmd) → TableAtRest t → JobsGoOn t → refusal_to t told c ≡ None
     → JobsGoOn (all_changed t (command_edits t exp c))
-accepted_keep_jobs t told exp c rests g h = elim (accepted_leave t told exp c rests g.stand h) [
-  | inl l ↦ record {
-    stand = changes_leave_jobs (command_edits t exp c) t rests.stands g.stand l.0 l.1.0;
-    run = changes_leave_run (command_edits t exp c) t rests.stands g.stand l.0 l.1.0 l.1.1 g.run;
-  }
-  | inr of ↦
-      subst (λ (changes : List Change). JobsGoOn (all_changed t changes)) (sym of.is) (record {
-        stand = snapshots_leave_jobs t g.stand of.node of.overlay of.leaves;
-        run = snapshots_leave_run t of.node of.overlay g.run;
-      })
-]
+accepted_keep_jobs t told exp c rests g h = by_start (begins_job c) refl
+  where
+    by_start : (b : Bool) → begins_job c ≡ b → JobsGoOn (all_changed t (command_edits t exp c))
+    by_start true begins =
+        let s = accepted_start t told exp c rests.stands g begins h in
+        subst (λ (changes : List Change). JobsGoOn (all_changed t changes)) (sym s.is) (record {
+          stand = starts_stand t s.row rests.stands g.stand s.begins.job;
+          run = starts_run t s.row rests.stands g.stand g.run s.begins.job s.begins.run;
+        })
+    by_start false begins = elim (accepted_leave t told exp c begins rests g.stand h) [
+      | inl l ↦ record {
+        stand = changes_leave_jobs (command_edits t exp c) t rests.stands g.stand l.0 l.1.0;
+        run = changes_leave_run (command_edits t exp c) t rests.stands g.stand l.0 l.1.0 l.1.1 g.run;
+      }
+      | inr of ↦
+          subst (λ (changes : List Change). JobsGoOn (all_changed t changes)) (sym of.is) (record {
+            stand = snapshots_leave_jobs t g.stand of.node of.overlay of.leaves;
+            run = snapshots_leave_run t of.node of.overlay g.run;
+          })
+    ]

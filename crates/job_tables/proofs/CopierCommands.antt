@@ -52,6 +52,7 @@ use Rattle.qmp_asks.specs.Values.{flag_or_false}
 use Rattle.qmp_rules.specs.declared.rows.AskedEnd.TheVariants as asked
 use Rattle.qmp_rules.specs.Table.{RunTable, device_named, node_named, id_named, job_named, kinds_of}
 use Rattle.flat_machine.specs.Wiring.{TableStands, TableAtRest}
+use Rattle.flat_machine.specs.Replies.{begins_job}
 use Rattle.flat_machine.proofs.Asked.{none-both, NoneHolds, none-holds, none-behind, room-left, settled-node}
 use Rattle.flat_machine.proofs.Kept.{own_disk}
 use Rattle.flat_machine.proofs.TableRests.{command_rests}
@@ -228,35 +229,35 @@ module _ (t : RunTable) (told exp : Told) (rests : TableAtRest t) (j : JobsStand
   built c h = (none-both (unbuilt c) _ h).0
 
   -- a command that neither starts a job nor asks one to end
-  goes_by : (c : Cmd) → refusal_to t told c ≡ None → AllLeaveTargets t (command_edits t exp c) → CopiesGo (all_changed t (command_edits t exp c))
-  goes_by c h apart = elim (accepted_leave t told exp c rests j h) [
+  goes_by : (c : Cmd) → begins_job c ≡ false → refusal_to t told c ≡ None → AllLeaveTargets t (command_edits t exp c) → CopiesGo (all_changed t (command_edits t exp c))
+  goes_by c begins h apart = elim (accepted_leave t told exp c begins rests j h) [
     | inl l ↦ changes_leave_copies (command_edits t exp c) t rests.stands j l.0 l.1.0 apart g
     | inr of ↦ subst (λ (changes : List Change). CopiesGo (all_changed t changes)) (sym of.is) (snapshots_leave_copies t of.node of.overlay j of.leaves g)
   ]
 
-  by_edges : (c : Cmd) → refusal_to t told c ≡ None → AllTakeEdges (command_edits t exp c) → CopiesGo (all_changed t (command_edits t exp c))
-  by_edges c h takes = goes_by c h (take_leave (command_edits t exp c) t takes)
+  by_edges : (c : Cmd) → begins_job c ≡ false → refusal_to t told c ≡ None → AllTakeEdges (command_edits t exp c) → CopiesGo (all_changed t (command_edits t exp c))
+  by_edges c begins h takes = goes_by c begins h (take_leave (command_edits t exp c) t takes)
 
   pub accepted_goes : (c : Cmd) → refusal_to t told c ≡ None → CopiesGo (all_changed t (command_edits t exp c))
   unfolding asks_of edits_of
-  accepted_goes (command.Capabilities enable) h = by_edges (command.Capabilities enable) h (tt, tt)
-  accepted_goes (command.BlockdevCreate c) h = by_edges (command.BlockdevCreate c) h (tt, created_take t c.options)
-  accepted_goes (command.JobDismiss id) h = by_edges (command.JobDismiss id) h (tt, tt)
+  accepted_goes (command.Capabilities enable) h = by_edges (command.Capabilities enable) refl h (tt, tt)
+  accepted_goes (command.BlockdevCreate c) h = by_edges (command.BlockdevCreate c) refl h (tt, created_take t c.options)
+  accepted_goes (command.JobDismiss id) h = by_edges (command.JobDismiss id) refl h (tt, tt)
   accepted_goes (command.BlockdevAdd c) h =
       let m = met (command.BlockdevAdd c) h in
       let asks : NoneHolds t told (add_values c ++ add_names c ++ added_rest c.node_name (is_read_only c.options) c.driver) =
       none-holds t told (asks_of (command.BlockdevAdd c)) m.asks in
-      goes_by (command.BlockdevAdd c) h
+      goes_by (command.BlockdevAdd c) refl h
       (added_targets t told exp j r c.node_name (is_read_only c.options) c.driver
       (none-behind t told (add_values c ++ add_names c) (added_rest c.node_name (is_read_only c.options) c.driver) asks) m.behind
-      (command_rests t told exp (command.BlockdevAdd c) rests h).1.stands
+      (command_rests t told exp (command.BlockdevAdd c) refl rests h).1.stands
       (accepted_keep_jobs t told exp (command.BlockdevAdd c) rests (record { stand = j; run = r }) h).stand)
-  accepted_goes (command.BlockdevDel name) h = by_edges (command.BlockdevDel name) h (del_take t (node_named t name))
+  accepted_goes (command.BlockdevDel name) h = by_edges (command.BlockdevDel name) refl h (del_take t (node_named t name))
   accepted_goes (command.DeviceAdd c) h =
       let asks = none-holds t told (asks_of (command.DeviceAdd c)) (met (command.DeviceAdd c) h).asks in
-      goes_by (command.DeviceAdd c) h (device_targets t told exp j r c asks.1.1.1.1.1.1.1.0 (node_named t c.drive) refl)
-  accepted_goes (command.DeviceDel id) h = by_edges (command.DeviceDel id) h (device_gone_take (device_named t id))
-  accepted_goes (command.BlockdevSnapshot c) h = goes_by (command.BlockdevSnapshot c) h (tt, (tt, tt))
+      goes_by (command.DeviceAdd c) refl h (device_targets t told exp j r c asks.1.1.1.1.1.1.1.0 (node_named t c.drive) refl)
+  accepted_goes (command.DeviceDel id) h = by_edges (command.DeviceDel id) refl h (device_gone_take (device_named t id))
+  accepted_goes (command.BlockdevSnapshot c) h = goes_by (command.BlockdevSnapshot c) refl h (tt, (tt, tt))
   accepted_goes (command.BlockStream c) h = stream_goes t told c rests.stands j r (met (command.BlockStream c) h) g
   accepted_goes (command.BlockCommit c) h = commit_goes t told c rests.stands j r d (met (command.BlockCommit c) h) g
   accepted_goes (command.BlockdevMirror c) h = mirror_goes t told c rests.stands j r d (met (command.BlockdevMirror c) h) g
@@ -265,10 +266,10 @@ module _ (t : RunTable) (told exp : Told) (rests : TableAtRest t) (j : JobsStand
   accepted_goes (command.BlockJobComplete job) h = asked_goes t job (λ row. asked.Complete) rests.stands j g
   accepted_goes command.QueryBlockJobs h = g
   accepted_goes (command.QueryNamedBlockNodes flat) h = g
-  accepted_goes (command.BitmapAdd c) h = by_edges (command.BitmapAdd c) h (tt, tt)
-  accepted_goes (command.BitmapRemove c) h = by_edges (command.BitmapRemove c) h (tt, tt)
-  accepted_goes (command.BitmapClear c) h = by_edges (command.BitmapClear c) h (tt, tt)
-  accepted_goes (command.BitmapEnable c) h = by_edges (command.BitmapEnable c) h (tt, tt)
-  accepted_goes (command.BitmapDisable c) h = by_edges (command.BitmapDisable c) h (tt, tt)
-  accepted_goes (command.BitmapMerge c) h = by_edges (command.BitmapMerge c) h (merges_take t c.node c.target c.bitmaps)
+  accepted_goes (command.BitmapAdd c) h = by_edges (command.BitmapAdd c) refl h (tt, tt)
+  accepted_goes (command.BitmapRemove c) h = by_edges (command.BitmapRemove c) refl h (tt, tt)
+  accepted_goes (command.BitmapClear c) h = by_edges (command.BitmapClear c) refl h (tt, tt)
+  accepted_goes (command.BitmapEnable c) h = by_edges (command.BitmapEnable c) refl h (tt, tt)
+  accepted_goes (command.BitmapDisable c) h = by_edges (command.BitmapDisable c) refl h (tt, tt)
+  accepted_goes (command.BitmapMerge c) h = by_edges (command.BitmapMerge c) refl h (merges_take t c.node c.target c.bitmaps)
   accepted_goes (command.Transaction c) h = absurd (let known = built (command.Transaction c) h in cc known)

@@ -1,4 +1,4 @@
--- Behind an accepted command that starts no job, edges may still be drawn.
+-- Behind an accepted command edges may still be drawn.
 use Rattle.std.proofs.Common.{◌≡◌, ◌⊎◌, ℕ, zero, suc, ◌+◌, ◌-◌, ◌<◌, ◌≤◌, Bool, true, false, cond, List, [], ◌∷◌, ◌++◌, map, replicate, length, refl, sym, ap, subst, ◌∙◌, inl, inr, arith, Option, Some, None, option_map}
 use Rattle.std.specs.Prelude.{◌==◌, ◌||◌, bytes_eq, slice_set, unwrap_or, IsSome}
 use Rattle.std.specs.List.{Contains, find, list_any}
@@ -27,17 +27,21 @@ use Rattle.qmp_codec.specs.declared.nodes.Created.TheVariants as created
 use Rattle.qmp_codec.specs.declared.nodes.DeviceAdd.{DeviceAdd}
 use Rattle.qmp_asks.specs.declared.ask.Ask.TheVariants as ask
 use Rattle.qmp_asks.specs.CommandAsks.{asks_of, negotiates}
+use Rattle.qmp_asks.specs.Values.{flag_or_false}
 use Rattle.qmp_asks.specs.NodeAsks.{add_values, add_names, added_rest, raw_rest, qcow2_rest, is_read_only, backing_name}
 use Rattle.qmp_rules.specs.declared.change.Change.{Change}
 use Rattle.qmp_rules.specs.declared.change.Change.TheVariants as change
 use Rattle.qmp_rules.specs.declared.rows.NodeRecord.{NodeRecord}
+use Rattle.qmp_rules.specs.declared.rows.AskedEnd.{AskedEnd}
 use Rattle.qmp_rules.specs.declared.rows.DeviceRow.{DeviceRow}
+use Rattle.qmp_rules.specs.declared.rows.JobRecord.{JobRecord}
 use Rattle.qmp_rules.specs.declared.told.Told.{Told}
 use Rattle.qmp_rules.specs.Answers.{told_none, conflict_refusal, conflict_in, is_joined, conflict_after, unbuilt, out_of_turn, refusal_behind, refusal_to, command_edits}
 use Rattle.qmp_rules.specs.Asks.{holds, first_unmet_ask, is_file}
 use Rattle.qmp_rules.specs.Changes.{changed, all_changed, node_changed, unsettled, with_format_edges}
-use Rattle.qmp_rules.specs.Edits.{node_ids, free_id, next_free_id, place_from, unused_from, device_number, file_uses, file_under, goes_with_node, with_inline, row_gone, created_change, raw_edits, qcow2_edits, added_edits, of_row, device_uses, new_device, device_add_edits, edits_of, merges}
-use Rattle.qmp_rules.specs.Table.{RunTable, device_named, node_named, node_by_id, kind_of_record, kinds_from, kinds_of}
+use Rattle.qmp_rules.specs.Edits.{node_ids, free_id, next_free_id, place_from, unused_from, device_number, file_uses, file_under, goes_with_node, with_inline, row_gone, created_change, raw_edits, qcow2_edits, added_edits, of_row, device_uses, new_device, device_add_edits, edits_of, merges, asked_by_cancel}
+use Rattle.qmp_rules.specs.Table.{RunTable, device_named, job_named, node_named, node_by_id, kind_of_record, kinds_from, kinds_of}
+use Rattle.flat_machine.specs.Replies.{begins_job}
 use Rattle.flat_machine.specs.Suiting.{AllTableSuit}
 use Rattle.flat_machine.specs.Wiring.{TableStands, TableAtRest}
 use Rattle.flat_machine.proofs.Asked.{none-both, not-refused, NoneHolds, none-holds, none-behind, room-left}
@@ -47,6 +51,7 @@ use Rattle.job_tables.specs.Accepted.{JobsAreDrawn}
 use Rattle.job_tables.proofs.Commands.{accepted_leave, accepted_keep_jobs}
 use Rattle.job_tables.proofs.DrawnChanges.{IsDerived, derived_of, drawn_of, AllHaveSmallNumbers, AllTakeEdges, attach_derived, move_derived, changes_derived, changes_ruled}
 use Rattle.job_tables.proofs.Slots.{lowest_below}
+use Rattle.job_tables.proofs.StartCommands.{accepted_start_drawn}
 
 -- ---- numbers
 
@@ -362,6 +367,16 @@ merges_small : (t : RunTable) (node target : List ℕ) (sources : SeenSources) �
 merges_small t node target [] = tt
 merges_small t node target (s ∷ sources) = (tt, merges_small t node target sources)
 
+asked_take : (ask : JobRecord → AskedEnd) (found : Option JobRecord)
+    → AllTakeEdges (elim found as (λ _. List Change) [ None ↦ [] | Some job ↦ change.AskJob job.number (ask job) ∷ [] ])
+asked_take ask None = tt
+asked_take ask (Some job) = (tt, tt)
+
+asked_small : (ask : JobRecord → AskedEnd) (found : Option JobRecord)
+    → AllHaveSmallNumbers (elim found as (λ _. List Change) [ None ↦ [] | Some job ↦ change.AskJob job.number (ask job) ∷ [] ])
+asked_small ask None = tt
+asked_small ask (Some job) = (tt, tt)
+
 device_small : (t : RunTable) (c : DeviceAdd (List ℕ)) → device_number t c.id < 80 → (found : Option NodeRecord)
     → AllHaveSmallNumbers (of_row (λ row. device_uses row ++ change.AddDevice (new_device t c row) row.id ∷ []) found)
 device_small t c small None = tt
@@ -392,50 +407,55 @@ module _ (t : RunTable) (told exp : Told) (rests : TableAtRest t) (g : JobsAreDr
   abbrev Drawn : List Change → Type 0
   Drawn changes = AllHaveSmallNumbers changes × IsRuled t changes
 
-  commands_drawn : (c : Cmd) → refusal_to t told c ≡ None → Drawn (command_edits t exp c)
+  -- one that begins no job
+  commands_drawn : (c : Cmd) → begins_job c ≡ false → refusal_to t told c ≡ None → Drawn (command_edits t exp c)
   unfolding refusal_to asks_of edits_of
-  commands_drawn c h =
+  commands_drawn c begins h =
       let known = none-both (unbuilt c) _ h in
       let turn = none-both (out_of_turn (negotiates c) t.negotiated) _ known.1 in
       let asks = none-both (first_unmet_ask t told (asks_of c)) (refusal_behind t told c) turn.1 in
-      by_command c known.0 (none-holds t told (asks_of c) asks.0) asks.1
+      by_command c begins known.0 (none-holds t told (asks_of c) asks.0) asks.1
     where
-      by_command : (c : Cmd) → unbuilt c ≡ None → NoneHolds t told (asks_of c) → refusal_behind t told c ≡ None → Drawn (command_edits t exp c)
-      by_command (command.Capabilities enable) is asks quiet = ((tt, tt), inl (tt, tt))
-      by_command (command.BlockdevCreate c) is asks quiet = ((tt, created_small t c.options), inl (tt, created_take t c.options))
-      by_command (command.JobDismiss id) is asks quiet = ((tt, tt), inl (tt, tt))
-      by_command (command.BlockdevAdd c) is asks quiet = (
+      by_command : (c : Cmd) → begins_job c ≡ false → unbuilt c ≡ None → NoneHolds t told (asks_of c) → refusal_behind t told c ≡ None → Drawn (command_edits t exp c)
+      by_command (command.Capabilities enable) begins is asks quiet = ((tt, tt), inl (tt, tt))
+      by_command (command.BlockdevCreate c) begins is asks quiet = ((tt, created_small t c.options), inl (tt, created_take t c.options))
+      by_command (command.JobDismiss id) begins is asks quiet = ((tt, tt), inl (tt, tt))
+      by_command (command.BlockdevAdd c) begins is asks quiet = (
         added_small t told exp c.node_name (is_read_only c.options) c.driver
             (none-behind t told (add_values c ++ add_names c) (added_rest c.node_name (is_read_only c.options) c.driver) asks),
         added_ruled c.node_name (is_read_only c.options) c.driver quiet,
       )
-      by_command (command.BlockdevDel name) is asks quiet = (del_small t (node_named t name), inl (del_take t (node_named t name)))
-      by_command (command.DeviceAdd c) is asks quiet = (
+      by_command (command.BlockdevDel name) begins is asks quiet = (del_small t (node_named t name), inl (del_take t (node_named t name)))
+      by_command (command.DeviceAdd c) begins is asks quiet = (
         device_small t c (device_below t told c.id guests asks.1.1.1.1.1.1.0) (node_named t c.drive),
         inr (quiet_first (all_changed t (device_add_edits t c)) quiet),
       )
-      by_command (command.BlockdevSnapshot c) is asks quiet = ((tt, (tt, tt)), inr (quiet_first (all_changed t (command_edits t exp (command.BlockdevSnapshot c))) quiet))
-      by_command (command.DeviceDel id) is asks quiet = (device_gone_small (device_named t id), inl (device_gone_take (device_named t id)))
-      by_command command.QueryBlockJobs is asks quiet = (tt, inl tt)
-      by_command (command.QueryNamedBlockNodes flat) is asks quiet = (tt, inl tt)
-      by_command (command.BitmapAdd c) is asks quiet = ((tt, tt), inl (tt, tt))
-      by_command (command.BitmapRemove c) is asks quiet = ((tt, tt), inl (tt, tt))
-      by_command (command.BitmapClear c) is asks quiet = ((tt, tt), inl (tt, tt))
-      by_command (command.BitmapEnable c) is asks quiet = ((tt, tt), inl (tt, tt))
-      by_command (command.BitmapDisable c) is asks quiet = ((tt, tt), inl (tt, tt))
-      by_command (command.BitmapMerge c) is asks quiet = (merges_small t c.node c.target c.bitmaps, inl (merges_take t c.node c.target c.bitmaps))
-      by_command _ is asks quiet = absurd cc
+      by_command (command.BlockdevSnapshot c) begins is asks quiet = ((tt, (tt, tt)), inr (quiet_first (all_changed t (command_edits t exp (command.BlockdevSnapshot c))) quiet))
+      by_command (command.DeviceDel id) begins is asks quiet = (device_gone_small (device_named t id), inl (device_gone_take (device_named t id)))
+      by_command (command.BlockJobCancel job force) begins is asks quiet = (
+        asked_small (asked_by_cancel (flag_or_false force)) (job_named t job),
+        inl (asked_take (asked_by_cancel (flag_or_false force)) (job_named t job)),
+      )
+      by_command command.QueryBlockJobs begins is asks quiet = (tt, inl tt)
+      by_command (command.QueryNamedBlockNodes flat) begins is asks quiet = (tt, inl tt)
+      by_command (command.BitmapAdd c) begins is asks quiet = ((tt, tt), inl (tt, tt))
+      by_command (command.BitmapRemove c) begins is asks quiet = ((tt, tt), inl (tt, tt))
+      by_command (command.BitmapClear c) begins is asks quiet = ((tt, tt), inl (tt, tt))
+      by_command (command.BitmapEnable c) begins is asks quiet = ((tt, tt), inl (tt, tt))
+      by_command (command.BitmapDisable c) begins is asks quiet = ((tt, tt), inl (tt, tt))
+      by_command (command.BitmapMerge c) begins is asks quiet = (merges_small t c.node c.target c.bitmaps, inl (merges_take t c.node c.target c.bitmaps))
+      by_command _ begins is asks quiet = absurd cc
 
   derived : IsDerived t
   derived = derived_of t g.edges g.small
 
-  pub accepted_drawn : (c : Cmd) → refusal_to t told c ≡ None → JobsAreDrawn (all_changed t (command_edits t exp c))
-  accepted_drawn c h =
+  left_drawn : (c : Cmd) → begins_job c ≡ false → refusal_to t told c ≡ None → JobsAreDrawn (all_changed t (command_edits t exp c))
+  left_drawn c begins h =
       let changes : List Change = command_edits t exp c in
-      let both = command_rests t told exp c rests h in
-      let how = commands_drawn c h in
+      let both = command_rests t told exp c begins rests h in
+      let how = commands_drawn c begins h in
       let goes = accepted_keep_jobs t told exp c rests g.jobs h in
-      elim (accepted_leave t told exp c rests g.jobs.stand h) [
+      elim (accepted_leave t told exp c begins rests g.jobs.stand h) [
         | inl l ↦
             let d = changes_derived changes t rests.stands derived l.0 l.1.0 how.0 in
             record {
@@ -463,3 +483,10 @@ module _ (t : RunTable) (told exp : Told) (rests : TableAtRest t) (g : JobsAreDr
     where
       never : (node overlay : ℕ) → AllTakeEdges (change.Attach overlay node ∷ change.Move node overlay overlay ∷ []) → ⊥
       never node overlay takes = takes.0
+
+  pub accepted_drawn : (c : Cmd) → refusal_to t told c ≡ None → JobsAreDrawn (all_changed t (command_edits t exp c))
+  accepted_drawn c h = by_start (begins_job c) refl
+    where
+      by_start : (b : Bool) → begins_job c ≡ b → JobsAreDrawn (all_changed t (command_edits t exp c))
+      by_start true begins = accepted_start_drawn t told exp c rests.stands g begins h
+      by_start false begins = left_drawn c begins h

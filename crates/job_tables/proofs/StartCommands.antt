@@ -1,23 +1,27 @@
 -- What commands that start jobs are accepted with makes them begin.
-use Rattle.std.proofs.Common.{◌≡◌, List, ◌∷◌, ◌++◌, ℕ, ◌+◌, ◌<◌, ◌≤◌, length, arith, Some, None, refl}
+use Rattle.std.proofs.Common.{◌≡◌, List, ◌∷◌, ◌++◌, ℕ, ◌+◌, ◌<◌, ◌≤◌, length, arith, true, Some, None, refl}
 use Rattle.std.specs.Prelude.{codes}
 use Rattle.std.proofs.lemmas.List.{length-map}
+use Rattle.qmp_codec.specs.Commands.{Cmd}
 use Rattle.qmp_codec.specs.declared.command.Command.TheVariants as command
 use Rattle.qmp_codec.specs.declared.jobs.Backup.{Backup}
 use Rattle.qmp_codec.specs.declared.jobs.Mirror.{Mirror}
 use Rattle.qmp_codec.specs.declared.jobs.Stream.{Stream as StreamCommand}
 use Rattle.qmp_codec.specs.declared.jobs.Commit.{Commit as CommitCommand}
-use Rattle.qmp_asks.specs.CommandAsks.{asks_of}
+use Rattle.qmp_asks.specs.CommandAsks.{asks_of, negotiates}
 use Rattle.qmp_asks.specs.JobAsks.{on_error_value, job_values, stream_names, stream_rest, commit_names, commit_rest, is_other, backup_values, backup_names, backup_rest, mirror_values, mirror_names, mirror_rest}
 use Rattle.qmp_rules.specs.declared.told.Told.{Told}
+use Rattle.qmp_rules.specs.declared.change.Change.{Change}
 use Rattle.qmp_rules.specs.declared.rows.JobRecord.{JobRecord}
-use Rattle.qmp_rules.specs.Answers.{conflict_in}
+use Rattle.qmp_rules.specs.Answers.{conflict_in, unbuilt, out_of_turn, refusal_to, refusal_behind, command_edits}
+use Rattle.qmp_rules.specs.Asks.{first_unmet_ask}
 use Rattle.qmp_rules.specs.Changes.{all_changed}
 use Rattle.qmp_rules.specs.Edits.{node_ids, free_id, stream_job, commit_job, backup_job, mirror_job, start_edits, edits_of}
 use Rattle.qmp_rules.specs.Table.{RunTable}
+use Rattle.flat_machine.specs.Replies.{begins_job}
 use Rattle.flat_machine.specs.Wiring.{TableStands}
-use Rattle.flat_machine.proofs.Asked.{NoneHolds, none-holds, none-behind, good-value, room-left}
-use Rattle.job_tables.specs.Accepted.{IsMet, Begins, JobsAreDrawn}
+use Rattle.flat_machine.proofs.Asked.{none-both, NoneHolds, none-holds, none-behind, good-value, room-left}
+use Rattle.job_tables.specs.Accepted.{IsMet, Begins, JobsGoOn, JobsAreDrawn}
 use Rattle.job_tables.specs.Copiers.{CopiesGo}
 use Rattle.job_tables.specs.Jobs.{JobsStand, EdgesAreDrawn}
 use Rattle.job_tables.specs.Running.{JobsRun, RunBegins}
@@ -179,3 +183,38 @@ pub commit_goes : (t : RunTable) (told : Told) (c : CommitCommand (List ℕ)) �
 unfolding edits_of
 commit_goes t told c h j r d met g =
     starts_keep_copies t (commit_job t c) h j (met_commit t told c h j r d met) (λ target is. absurd (let bad : None ≡ Some target = is in cc bad)) g
+
+-- ---- an accepted command that begins a job
+
+pub accepted_met : (t : RunTable) (told : Told) (c : Cmd) → refusal_to t told c ≡ None → (unbuilt c ≡ None) × IsMet t told c
+unfolding refusal_to
+accepted_met t told c quiet =
+    let known = none-both (unbuilt c) _ quiet in
+    let turn = none-both (out_of_turn (negotiates c) t.negotiated) _ known.1 in
+    let asks = none-both (first_unmet_ask t told (asks_of c)) (refusal_behind t told c) turn.1 in
+    (known.0, record { asks = asks.0; behind = asks.1 })
+
+-- the changes are those of the start of a job that begins so
+pub record IsStart (t : RunTable) (changes : List Change) : Type 0 where
+  pub row : JobRecord
+  pub is : changes ≡ start_edits t row
+  pub begins : Begins t row
+
+pub accepted_start : (t : RunTable) (told exp : Told) (c : Cmd) → TableStands t → JobsGoOn t → begins_job c ≡ true → refusal_to t told c ≡ None
+    → IsStart t (command_edits t exp c)
+unfolding edits_of
+accepted_start t told exp c h g begins quiet = let met = accepted_met t told c quiet in by_command c begins met.0 met.1
+  where
+    by_command : (c : Cmd) → begins_job c ≡ true → unbuilt c ≡ None → IsMet t told c → IsStart t (command_edits t exp c)
+    by_command (command.BlockdevBackup c) begins is met =
+        record { row = backup_job t None c; is = refl; begins = met_backup t told c h g.stand g.run met }
+    by_command _ begins is met = absurd cc
+
+pub accepted_start_drawn : (t : RunTable) (told exp : Told) (c : Cmd) → TableStands t → JobsAreDrawn t → begins_job c ≡ true → refusal_to t told c ≡ None
+    → JobsAreDrawn (all_changed t (command_edits t exp c))
+unfolding edits_of
+accepted_start_drawn t told exp c h g begins quiet = let met = accepted_met t told c quiet in by_command c begins met.0 met.1
+  where
+    by_command : (c : Cmd) → begins_job c ≡ true → unbuilt c ≡ None → IsMet t told c → JobsAreDrawn (all_changed t (command_edits t exp c))
+    by_command (command.BlockdevBackup c) begins is met = kept_backup t told c h g met
+    by_command _ begins is met = absurd cc

@@ -34,6 +34,7 @@ use Rattle.flat_machine.specs.Changed.{overlay_file, name_if, stepped, all_stepp
 use Rattle.flat_machine.specs.Jobs.{copied_to, target_written, target_file, unleft, noted_start, started, outcome_of, changes_at_end, noted_end, ended, readied_by, readied}
 use Rattle.flat_machine.specs.Machine.{copies_through, is_noted, note, noted, path, with_disk, node_written, read_through, with_part}
 use Rattle.flat_machine.specs.Jobs.{unsure}
+use Rattle.flat_machine.specs.Replies.{begins_job}
 use Rattle.flat_machine.specs.Wiring.{TableStands, TableAtRest}
 use Rattle.flat_machine.proofs.Finds.{bytes_eq-same, content_in-with}
 use Rattle.flat_machine.proofs.Fresh.{no-found}
@@ -47,6 +48,7 @@ use Rattle.job_tables.proofs.Commands.{accepted_leave}
 use Rattle.job_tables.proofs.Ended.{end_is}
 use Rattle.job_tables.proofs.RunStarts.{StartParts, start_parts}
 use Rattle.job_tables.proofs.Runs.{written_by, AllSpare, spare-behind, behind_over, over_jobs, end_spares, spared_target}
+use Rattle.job_tables.proofs.StartCommands.{accepted_start}
 use Rattle.job_tables.proofs.TargetFiles.{files_stand, same_files, wrote_before, unknown_kept, spared_other, starts_same, changes_leave_files, all_spared_files}
 
 all_stepped-append : (s : State) (a b : List Change) → all_stepped s (a ++ b) ≡ all_stepped (all_stepped s a) b
@@ -307,14 +309,21 @@ ended_files s number why h j f = by_found (job_at s.table number) refl
 
 -- ---- accepted commands
 
-pub accepted_files : (s : State) (told exp : Told) (c : Cmd) → TableAtRest s.table → JobsStand s.table → refusal_to s.table told c ≡ None → TargetFilesStand s
-    → TargetFilesStand (all_stepped s (command_edits s.table exp c))
-accepted_files s told exp c rests j quiet f = elim (accepted_leave s.table told exp c rests j quiet) [
-  | inl l ↦ changes_leave_files (command_edits s.table exp c) s rests.stands j l.0 l.1.0 l.1.1 f
-  | inr of ↦
-      subst (λ (changes : List Change). TargetFilesStand (all_stepped s changes)) (sym of.is)
-      (all_spared_files (change.Attach of.overlay of.node ∷ change.Move of.node of.overlay of.overlay ∷ []) s (tt, (tt, tt)) f)
-]
+pub accepted_files : (s : State) (told exp : Told) (c : Cmd) → TableAtRest s.table → JobsStand s.table → JobsRun s.table → s.starts ≡ s.table.started
+    → refusal_to s.table told c ≡ None → TargetFilesStand s → TargetFilesStand (all_stepped s (command_edits s.table exp c))
+accepted_files s told exp c rests j r started quiet f = by_start (begins_job c) refl
+  where
+    by_start : (b : Bool) → begins_job c ≡ b → TargetFilesStand (all_stepped s (command_edits s.table exp c))
+    by_start true begins =
+        let x = accepted_start s.table told exp c rests.stands (record { stand = j; run = r }) begins quiet in
+        subst (λ (changes : List Change). TargetFilesStand (all_stepped s changes)) (sym x.is)
+        (starts_keep_files s x.row rests.stands j r x.begins.job x.begins.run started f)
+    by_start false begins = elim (accepted_leave s.table told exp c begins rests j quiet) [
+      | inl l ↦ changes_leave_files (command_edits s.table exp c) s rests.stands j l.0 l.1.0 l.1.1 f
+      | inr of ↦
+          subst (λ (changes : List Change). TargetFilesStand (all_stepped s changes)) (sym of.is)
+          (all_spared_files (change.Attach of.overlay of.node ∷ change.Move of.node of.overlay of.overlay ∷ []) s (tt, (tt, tt)) f)
+    ]
 
 -- ---- a guest's piece
 

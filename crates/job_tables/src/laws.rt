@@ -220,7 +220,7 @@ pub fn accepted_starts_keep_jobs()
 {}
 
 /// Of a file that a job writes nothing is known, and no disk is left in it: so it is where there is no job, and behind changes that
-/// leave jobs and their disks, behind accepted commands, and behind pieces of guests' requests.
+/// leave jobs and their disks, behind accepted commands where no start is still to come, and behind pieces of guests' requests.
 pub fn target_files_stand()
     ensures beginning { (s : State) → s.table.jobs ≡ [] → TargetFilesStand s }
     ensures changes { (changes : List Change) (s : State) → TableStands s.table
@@ -228,7 +228,8 @@ pub fn target_files_stand()
         → AllLeaveDisks s.table changes → TargetFilesStand s
         → TargetFilesStand (all_stepped s changes) }
     ensures commands { (s : State) (told : Told) (c : Cmd) → TableAtRest s.table
-        → JobsStand s.table → refusal_to s.table told c ≡ None → TargetFilesStand s
+        → JobsStand s.table → JobsRun s.table → s.starts ≡ s.table.started
+        → refusal_to s.table told c ≡ None → TargetFilesStand s
         → TargetFilesStand (all_stepped s (command_edits s.table told c)) }
     ensures pieces { (s : State) (drive : ℕ) (op : Op) (outcome : Outcome) (part : Extent)
         → TargetFilesStand s → TargetFilesStand (with_part drive op outcome part s) }

@@ -1,5 +1,5 @@
 -- The room that a work needs of its history.
-use Rattle.std.specs.Prelude.{◌≡◌, ℕ, ◌+◌, ◌^◌, ◌<◌, List, [], ◌∷◌, length}
+use Rattle.std.specs.Prelude.{◌≡◌, ℕ, ◌+◌, ◌*◌, ◌^◌, ◌<◌, List, [], ◌∷◌, length}
 use Rattle.blk_base.specs.declared.memory.Room.{Room}
 use Rattle.trace_codec.specs.Request.{pieces_of, read_bytes_of}
 use Rattle.trace_codec.specs.declared.wish.Wish.{Wish}
@@ -41,15 +41,15 @@ abbrev pub AllCanCount : List (List Wish) → Type 0
 AllCanCount [] = Unit {0}
 AllCanCount (wishes ∷ traces) = CanCount wishes × AllCanCount traces
 
--- each line of the script has an entry, and so has its end
+-- Each line of the script has four entries: its reply, and those of a job, which starts, gets ready and ends. Its end has one.
 pub record IsRoomFor (lines : ℕ) (traces : List (List Wish)) (room : Room) : Type 0 where
-  pub entries : room.entries ≡ (lines + 1) + entries_for_all traces
+  pub entries : room.entries ≡ (4 * lines + 1) + entries_for_all traces
   pub bytes : room.bytes ≡ bytes_for_all traces
   pub numbers : AllCanCount traces
 
 -- it has the numbers of a room
 pub record CanHaveRoom (lines : ℕ) (traces : List (List Wish)) : Type 0 where
-  pub entries : (lines + 1) + entries_for_all traces < 2 ^ 64
+  pub entries : (4 * lines + 1) + entries_for_all traces < 2 ^ 64
   pub bytes : bytes_for_all traces < 2 ^ 64
   pub numbers : AllCanCount traces
 

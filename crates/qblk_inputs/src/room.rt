@@ -50,15 +50,15 @@ fn with_trace(room: Room, wishes: &[Wish]) -> Option<Room>
     Some(room)
 }
 
-/// The room that a run of a script of so many lines and of these traces needs: entries for the lines and each actor's
-/// end, and for each request two and one a piece; and bytes for what the requests read. `None` where that can't be
+/// The room that a run of a script of so many lines and of these traces needs: four entries for each line, of which three are
+/// for a job, one for each actor's end, and for each request two and one a piece; and bytes for what the requests read. `None` where that can't be
 /// counted: a trace has 2^32 - 1 wishes or more, a request 2^32 pieces or more, or a sum would pass 2^64 - 1.
 pub fn room_for(lines: u32, traces: &[Vec<Wish>]) -> Option<Room>
     ensures room { IfSome result (IsRoomFor lines (map (λ t. t.items) traces.now)) }
     ensures none { IfNone result (CanHaveRoom lines (map (λ t. t.items) traces.now) → ⊥) }
 {
     let mut room = Room {
-        entries: u64::from(lines) + 1,
+        entries: u64::from(lines) * 4 + 1,
         bytes: 0,
     };
     for wishes in traces {

@@ -2,7 +2,7 @@
 use Rattle.std.proofs.Common.{◌≡◌, ℕ, ◌≤◌, Bool, true, false, List, [], ◌∷◌, ◌++◌, length, map, refl, sym, ◌∙◌, ap, subst, arith, Option, Some, None, inl, inr}
 use Rattle.std.specs.Prelude.{slice_get, get_or, All, is_some, MatchOption, unwrap_or}
 use Rattle.std.proofs.lemmas.Bool.{false≢true}
-use Rattle.std.proofs.lemmas.List.Elements.{All-nil, All-cons}
+use Rattle.std.proofs.lemmas.List.Elements.{All-nil, All-cons, All-head, All-tail}
 use Rattle.blk_base.specs.Counts.{HasFailedSince}
 use Rattle.blk_base.specs.Files.{IfTold}
 use Rattle.blk_base.specs.Written.{Written}
@@ -12,6 +12,7 @@ use Rattle.blk_base.specs.declared.fault.FaultFrom.TheVariants.{Dev}
 use Rattle.blk_base.specs.declared.file.File.{File}
 use Rattle.blk_base.specs.declared.memory.Room.{Room}
 use Rattle.trace_codec.specs.declared.waits.Waits.{Waits}
+use Rattle.trace_codec.specs.Script.{Order}
 use Rattle.qmp_rules.specs.Table.{RunTable}
 use Rattle.blk_history.specs.Fold.{With}
 use Rattle.flat_machine.specs.State.{State, Guest}
@@ -19,10 +20,11 @@ use Rattle.flat_machine.specs.Final.{AreDisks}
 use Rattle.flat_machine.specs.Machine.{replay}
 use Rattle.flat_machine.specs.Opening.{start}
 use Rattle.flat_machine.specs.Blocked.{IsStuck, ActorWaits}
-use Rattle.flat_machine.specs.Courses.{Course, KeepsOrder, course_of, course_after, onward}
+use Rattle.flat_machine.specs.Courses.{Course, KeepsOrder, course_of, course_after}
+use Rattle.flat_machine.specs.Entries.{all_of}
 use Rattle.blk_history.specs.Small.{IsSmall}
 use Rattle.blk_history.specs.declared.event.Event.{Event}
-use Rattle.blk_history.specs.declared.event.Event.TheVariants.{Piece, End}
+use Rattle.blk_history.specs.declared.event.Event.TheVariants.{Admit, Refuse, Piece, Retire, Reply, Reached, Start, Ready, End, Done}
 use Rattle.flat_machine.specs.Licence.{Counts, AreLicensed}
 use Rattle.flat_machine.specs.declared.opening.Opening.{Opening}
 use Rattle.world_files.specs.Closing.{IsBackAfterFlush, IsToldBack, count_back, store_in}
@@ -41,7 +43,7 @@ use Rattle.qblk_run.specs.Rounds.{AllRest, AreDone, IsFirstUndone}
 use Rattle.qblk_run.proofs.Closing.{all-back, behind-back, licensed-later, quiet-run, leaves-files}
 use Rattle.qblk_run.proofs.Flushes.{same-places, all-stand, first-stand, first-above, both-at}
 use Rattle.qblk_run.specs.Devices.{HaveDevices}
-use Rattle.qblk_run.specs.Worlds.{GoesThrough, IsEventOf, IsLast}
+use Rattle.qblk_run.specs.Worlds.{AreStartsBehind, GoesThrough, IsLast, IsLeftAlone, IsLeftBy, MakesEvent}
 use Rattle.qblk_run.proofs.Ending.{is-stuck, is-whole, idle-at}
 use Rattle.qblk_run.proofs.History.{course-ended}
 use Rattle.qblk_run.proofs.Lists.{at-get}
@@ -60,15 +62,53 @@ opening-of store guests = record { guests_are = refl; files_are = by_files store
     by_files (Some files) told = refl
 
 -- the numbers that an entry prints have 64 bits
-small-event : (w v : WorldSeen) (e : Event) → IsEventOf w v e → IsSmall e
-small-event w v (Piece g r k outcome got) event = event.left.made.fits
-small-event w v (End job outcome offset) event = absurd event.left
-small-event w v _ event = tt
+small-alone : (w v : WorldSeen) (e : Event) → IsLeftAlone w v e → IsSmall e
+small-alone w v (Piece g r k outcome got) left = left.makes.made.fits
+small-alone w v (End job outcome offset) left = left.fits
+small-alone w v _ left = tt
 
-all-small : (o : Opening) (c : Course) (w : WorldSeen) (h : List Event) (v : WorldSeen) → GoesThrough o c w h v → All IsSmall h
+-- those of the start of a job have none
+small-starts : (t : RunTable) (w v : WorldSeen) (es : List Event) → AreStartsBehind t w v es → All IsSmall es
+small-starts t w v [] begins = All-nil IsSmall
+small-starts t w v (Start job ∷ []) begins = All-cons IsSmall (Start job) [] tt (All-nil IsSmall)
+small-starts t w v (Start job ∷ e ∷ es) begins = absurd begins
+small-starts t w v (Admit g r op ∷ es) begins = absurd begins
+small-starts t w v (Refuse g r op why ∷ es) begins = absurd begins
+small-starts t w v (Piece g r k outcome got ∷ es) begins = absurd begins
+small-starts t w v (Retire g r ∷ es) begins = absurd begins
+small-starts t w v (Reply line given command text ∷ es) begins = absurd begins
+small-starts t w v (Reached line what ∷ es) begins = absurd begins
+small-starts t w v (Ready job ∷ es) begins = absurd begins
+small-starts t w v (End job outcome offset ∷ es) begins = absurd begins
+small-starts t w v (Done actor ∷ es) begins = absurd begins
+
+small-one : (w v : WorldSeen) (e : Event) (es : List Event) → (es ≡ []) × IsLeftAlone w v e → All IsSmall (e ∷ es)
+small-one w v e es left = All-cons IsSmall e es (small-alone w v e left.1) (subst (All IsSmall) (sym left.0) (All-nil IsSmall))
+
+small-event : (w v : WorldSeen) (e : Event) (es : List Event) → IsLeftBy w v e es → All IsSmall (e ∷ es)
+small-event w v (Reply line given command text) es left = All-cons IsSmall (Reply line given command text) es tt (small-starts w.table left.between v es left.begins)
+small-event w v (Admit g r op) es left = small-one w v (Admit g r op) es left
+small-event w v (Refuse g r op why) es left = small-one w v (Refuse g r op why) es left
+small-event w v (Piece g r k outcome got) es left = small-one w v (Piece g r k outcome got) es left
+small-event w v (Retire g r) es left = small-one w v (Retire g r) es left
+small-event w v (Reached line what) es left = small-one w v (Reached line what) es left
+small-event w v (Start job) es left = small-one w v (Start job) es left
+small-event w v (Ready job) es left = small-one w v (Ready job) es left
+small-event w v (End job outcome offset) es left = small-one w v (End job outcome offset) es left
+small-event w v (Done actor) es left = small-one w v (Done actor) es left
+
+small-made : (orders : List Order) (w v : WorldSeen) (es : List Event) → MakesEvent orders w v es → All IsSmall es
+small-made orders w v [] made = All-nil IsSmall
+small-made orders w v (e ∷ es) made = small-event w v e es made.left
+
+both-all : (xs ys : List Event) → All IsSmall xs → All IsSmall ys → All IsSmall (xs ++ ys)
+both-all [] ys front back = back
+both-all (x ∷ xs) ys front back = All-cons IsSmall x (xs ++ ys) (All-head IsSmall x xs front) (both-all xs ys (All-tail IsSmall x xs front) back)
+
+all-small : (o : Opening) (c : Course) (w : WorldSeen) (events : List (List Event)) (v : WorldSeen) → GoesThrough o c w events v → All IsSmall (all_of events)
 all-small o c w [] v through = All-nil IsSmall
-all-small o c w (e ∷ h) v through =
-    All-cons IsSmall e h (small-event through.0 through.1 e through.4) (all-small o (onward c e) through.1 h v through.5)
+all-small o c w (es ∷ events) v through =
+    both-all es (all_of events) (small-made c.script w through.0 es through.2) (all-small o (course_after c es) through.0 events v through.3)
 
 with-none : (P : List File → Type 0) (x : Option (List File)) → With x P → x ≡ None → ⊥
 with-none P None holds none = holds
@@ -80,7 +120,7 @@ module _ (old : StoreSeen) (guests : List (List ℕ)) (w v : WorldSeen) (store :
     (earlier : w.earlier ≡ old.opened) (first : w.first_faults ≡ old.faults) (telling : is_some w.files ≡ is_some old.files) (roomy : w.room ≡ old.room)
     (counted : v.first_faults ≤ v.faults) (stays : StaysIn w v) (comes : Comes (opening_by old guests) v) (end : IsEnd v store fault) where
   abbrev pub account : Account
-  account = record { opening = opening_by old guests; openings = end.closed.opened; events = v.progress.log.events; counts = counts_now v }
+  account = record { opening = opening_by old guests; openings = end.closed.opened; events = v.progress.log.events; jobs = v.progress.jobs; counts = counts_now v }
 
   opened : HasOpened old.opened store.opened end.closed.opened
   opened =
@@ -133,12 +173,15 @@ module _ (old : StoreSeen) (guests : List (List ℕ)) (w v : WorldSeen) (store :
       let told : IsToldBack v end.closed.opened f = rw is at end.closed.given.told in
       (told.number, told.from)
 
+  told-as : is_some old.files ≡ true → is_some v.files ≡ true
+  told-as told = stays.told ∙ telling ∙ told
+
   pub run-is : (cast : Cast) (work : Work) (had : Bool) → guests_of cast ≡ guests → length work.traces ≡ length guests
       → KeepsOrder (course_of work.script work.traces) v.progress.log.events
-      → (room : Room) → room ≡ history_room work → (near : WorldSeen)
-      → GoesThrough (opening_by old guests) (course_of work.script work.traces) (new_world old guests room) v.progress.log.events near
+      → (room : Room) → room ≡ history_room work → (near : WorldSeen) (events : List (List Event)) → all_of events ≡ v.progress.log.events
+      → GoesThrough (opening_by old guests) (course_of work.script work.traces) (new_world old guests room) events near
       → IsLast had (course_after (course_of work.script work.traces) v.progress.log.events).script near v → IsRun cast work had fault old store account
-  run-is cast work had names count order room sized near through is_last = record {
+  run-is cast work had names count order room sized near events all through is_last = record {
     opening = rw names (opening-of old guests);
     openings = opened;
     room = end.room ∙ stays.room ∙ roomy;
@@ -150,16 +193,20 @@ module _ (old : StoreSeen) (guests : List (List ℕ)) (w v : WorldSeen) (store :
     flush = flush;
     worlds = record {
       near = near;
+      events = events;
+      all = all;
       through =
-          subst (λ (r : Room). GoesThrough (opening_by old guests) (course_of work.script work.traces) (new_world old guests r) v.progress.log.events near)
+          subst (λ (r : Room). GoesThrough (opening_by old guests) (course_of work.script work.traces) (new_world old guests r) events near)
           sized through;
       last = v;
       is_last = is_last;
       comes = comes;
       counts_are = refl;
+      jobs_are = refl;
       closed = end.closed;
     };
-    small = all-small (opening_by old guests) (course_of work.script work.traces) (new_world old guests room) v.progress.log.events near through;
+    small = subst (All IsSmall) all (all-small (opening_by old guests) (course_of work.script work.traces) (new_world old guests room) events near through);
+    names = λ told. comes.names (told-as told);
     files = by_files old.files refl;
   }
     where
@@ -176,23 +223,20 @@ module _ (old : StoreSeen) (guests : List (List ℕ)) (w v : WorldSeen) (store :
 
   -- ---- where it stopped
 
-  told-as : is_some old.files ≡ true → is_some v.files ≡ true
-  told-as told = stays.told ∙ telling ∙ told
-
   module _ (work : Work) (after : Tasks) (can : CanGoOn v.progress after) (keeps : KeepsTo work.script work.traces v.progress.log.events after)
       (count : length work.traces ≡ length guests) where
     all-idle : (rows : List Guest) → ((g : ℕ) (row : Guest) → slice_get rows g ≡ Some row → row.flight ≡ None) → All (λ row. row.flight ≡ None) rows
     all-idle rows each = λ k d below. each k (get_or rows k d) (at-get rows k d below)
 
-    pub ends-done : AreDone after → EndsDone (is_some old.files) work account
-    ends-done done = record {
+    pub ends-done : AllRest v after → AreDone after → EndsDone (is_some old.files) work account
+    ends-done rest done = record {
       done = record {
         guests = count;
         whole = is-whole v after work.script work.traces can keeps done;
         idle = rw comes.requests at (all-idle v.progress.guests (idle-at v after work.script work.traces can keeps done));
       };
       history = λ told. comes.history.history (told-as told);
-      jobs = λ told. ap (λ (t : RunTable). t.jobs) (comes.shows (told-as told)).table.table_is ∙ comes.coherent.jobs;
+      jobs = λ told. ap (λ (t : RunTable). t.jobs) (comes.shows (told-as told)).table.table_is ∙ rest.jobs;
     }
 
     -- what is asked of a state is asked of its table, its guests and the actors that are done
@@ -215,7 +259,7 @@ module _ (old : StoreSeen) (guests : List (List ℕ)) (w v : WorldSeen) (store :
     ends-stuck devices rest actor what first' = by_told (is_some old.files) refl
       where
         stuck : IsStuck (seen_state v) (course_in work account) actor what
-        stuck = is-stuck v after work.script work.traces can keeps comes.coherent.jobs rest actor what first'
+        stuck = is-stuck v after work.script work.traces can keeps rest.jobs rest actor what first'
 
         ended : (course_in work account).ended ≡ ended_in v.progress.log.events
         ended = course-ended (course_of work.script work.traces) v.progress.log.events
@@ -225,7 +269,7 @@ module _ (old : StoreSeen) (guests : List (List ℕ)) (w v : WorldSeen) (store :
           state = seen_state v;
           table = comes.table;
           devices = devices;
-          jobs = comes.coherent.jobs;
+          jobs = rest.jobs;
           told = λ bad. absurd (false≢true bad);
           guests = comes.requests;
           ended = sym ended;
@@ -240,7 +284,7 @@ module _ (old : StoreSeen) (guests : List (List ℕ)) (w v : WorldSeen) (store :
                   subst (λ (t : RunTable). IsTableAfter guests v.progress.log.events t s.dirty) (sym shows.table.table_is)
                   (subst (IsTableAfter guests v.progress.log.events v.table) (sym shows.dirty) comes.table);
               devices = subst (HaveDevices guests v.progress.log.events) (sym shows.table.table_is) devices;
-              jobs = ap (λ (t : RunTable). t.jobs) shows.table.table_is ∙ comes.coherent.jobs;
+              jobs = ap (λ (t : RunTable). t.jobs) shows.table.table_is ∙ rest.jobs;
               told = λ is. refl;
               guests = shows.guests.guests_are ∙ comes.requests;
               ended = shows.guests.ended_are ∙ sym ended;
@@ -249,5 +293,5 @@ module _ (old : StoreSeen) (guests : List (List ℕ)) (w v : WorldSeen) (store :
 
     pub has-stopped : HaveDevices guests v.progress.log.events v.table → AllRest v after → (waiting : Option (ℕ × Waits Written)) → MatchOption waiting (AreDone after) (λ r. IsFirstUndone v after r.0 (seen_waits r.1))
         → HasRunStopped (is_some old.files) work account
-    has-stopped devices rest None done = inl (ends-done done)
+    has-stopped devices rest None done = inl (ends-done rest done)
     has-stopped devices rest (Some r) first' = inr (r.0, seen_waits r.1, ends-stuck devices rest r.0 (seen_waits r.1) first')

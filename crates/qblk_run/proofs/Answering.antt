@@ -10,14 +10,10 @@ use Rattle.blk_base.specs.declared.fault.FaultFrom.{FaultFrom}
 use Rattle.blk_base.specs.declared.fault.FaultFrom.TheVariants.{Dev, Sink}
 use Rattle.blk_base.specs.declared.memory.Room.{Room}
 use Rattle.trace_codec.specs.declared.waits.Waits.{Waits}
+use Rattle.blk_history.specs.Names.{JobLine}
 use Rattle.blk_history.specs.Recorded.{Recorded}
 use Rattle.blk_history.specs.Transcript.{transcript}
 use Rattle.blk_history.specs.declared.event.Event.{Event}
-use Rattle.blk_history.specs.declared.event.Event.TheVariants.{Admit, Refuse, Piece, Retire, Reply, Reached, Start, Ready, End, Done as Ended}
-use Rattle.flat_machine.specs.State.{State}
-use Rattle.flat_machine.specs.Machine.{after}
-use Rattle.flat_machine.specs.Opening.{start}
-use Rattle.flat_machine.specs.Comes.{jobs_from, transcript_of}
 use Rattle.flat_machine.specs.Courses.{Course, course_of, course_after}
 use Rattle.flat_machine.specs.Licence.{fault_at}
 use Rattle.flat_machine.specs.declared.opening.Opening.{Opening}
@@ -34,32 +30,13 @@ use Rattle.qblk_run.specs.Beginning.{new_tasks}
 use Rattle.qblk_run.specs.Ending.{EndsAs, ended_as, WentOut}
 use Rattle.qblk_run.specs.Run.{Setting, Account, IsRun, WasRun, HasRunStopped, IsFaulty, Answers, history_room, whole_transcript, seen_waits}
 use Rattle.qblk_run.specs.Session.{IsPlayed}
-use Rattle.qblk_run.specs.Tasks.{CanHaveLines, KeepsTo, guests_only}
+use Rattle.qblk_run.specs.Tasks.{KeepsTo}
 use Rattle.qblk_run.proofs.Accounts.{opening_by, opening-of, account, run-is, ends-done, ends-stuck, has-stopped, flush-failed}
 use Rattle.qblk_run.proofs.Beginnings.{start-keeps}
 use Rattle.qblk_run.proofs.Devices.{run-devices}
 use Rattle.qblk_run.proofs.Worlds.{come-first}
 use Rattle.qblk_run.specs.Devices.{HaveDevices}
 use Rattle.qblk_run.specs.Worlds.{HasCome, IsLast}
-
--- ---- the transcript
-
--- no job starts
-no-jobs : (guests : List (List ℕ)) (s : State) (h : List Event) → CanHaveLines guests h → jobs_from s h ≡ []
-no-jobs guests s [] lines = refl
-no-jobs guests s (Start job ∷ h) lines = absurd (let none = lines.0.named.0 in omega arith)
-no-jobs guests s (Admit g r op ∷ h) lines = no-jobs guests (after s (Admit g r op)) h lines.1
-no-jobs guests s (Refuse g r op why ∷ h) lines = no-jobs guests (after s (Refuse g r op why)) h lines.1
-no-jobs guests s (Piece g r k outcome got ∷ h) lines = no-jobs guests (after s (Piece g r k outcome got)) h lines.1
-no-jobs guests s (Retire g r ∷ h) lines = no-jobs guests (after s (Retire g r)) h lines.1
-no-jobs guests s (Reply line given command text ∷ h) lines = no-jobs guests (after s (Reply line given command text)) h lines.1
-no-jobs guests s (Reached line what ∷ h) lines = no-jobs guests s h lines.1
-no-jobs guests s (Ready job ∷ h) lines = absurd (let none = lines.0.named.0 in omega arith)
-no-jobs guests s (End job outcome offset ∷ h) lines = absurd (let none = lines.0.named.0 in omega arith)
-no-jobs guests s (Ended actor ∷ h) lines = no-jobs guests (after s (Ended actor)) h lines.1
-
-pub printed-is : (o : Opening) (h : List Event) → CanHaveLines o.guests h → transcript_of o h ≡ transcript (guests_only o.guests) h
-printed-is o h lines = ap (λ (jobs : List _). transcript (record { guests = o.guests; jobs = jobs }) h) (no-jobs o.guests (start o) h lines)
 
 -- ---- what went out
 
@@ -74,9 +51,9 @@ front-out old new front rest whole is sent = sent ∙ ap (λ (x : List ℕ). opt
 
 -- ---- the statuses
 
-module _ (cast : Cast) (work : Work) (old new : Setting) (room : Room) (sized : room ≡ history_room work) (log : Recorded) (fault : Option FaultAt) (waiting : Option (ℕ × Waits Written))
+module _ (cast : Cast) (work : Work) (old new : Setting) (room : Room) (sized : room ≡ history_room work) (log : Recorded) (jobs : List JobLine) (fault : Option FaultAt) (waiting : Option (ℕ × Waits Written))
     (said : IsWork cast work) (inputs : IfTold old.store.files (HasWork cast work)) (count : length work.traces ≡ length (guests_of cast))
-    (played : IsPlayed (new_world old.store (guests_of cast) room) (new_tasks work.script work.traces) new.store log fault waiting)
+    (played : IsPlayed (new_world old.store (guests_of cast) room) (new_tasks work.script work.traces) new.store log jobs fault waiting)
     (begins : (o : Opening) → IsOpeningOf old.store (guests_of cast) o → Comes o (new_world old.store (guests_of cast) room)) where
   abbrev w : WorldSeen
   w = new_world old.store (guests_of cast) room
@@ -100,7 +77,7 @@ module _ (cast : Cast) (work : Work) (old new : Setting) (room : Room) (sized : 
   run : (had : Bool) → IsLast had (course_after course played.now.progress.log.events).script played.now played.now → IsRun cast work had fault old.store new.store its
   run had is_last =
       run-is old.store (guests_of cast) w played.now new.store fault refl refl refl refl comes.counted played.stays comes played.end
-      cast work had refl count keeps.order room sized played.now has.through is_last
+      cast work had refl count keeps.order room sized played.now has.events has.all has.through is_last
 
   run-as : (x : Option FaultAt) → fault ≡ x → IsRun cast work true x old.store new.store its
   run-as x is = subst (λ (f : Option FaultAt). IsRun cast work true f old.store new.store its) is (run true refl)
@@ -109,7 +86,8 @@ module _ (cast : Cast) (work : Work) (old new : Setting) (room : Room) (sized : 
   was x is n sent = record { asked = said; inputs = inputs; run = run-as x is; sent = sent }
 
   devices : HaveDevices (guests_of cast) played.now.progress.log.events played.now.table
-  devices = run-devices (opening_by old.store (guests_of cast)) course old.store (guests_of cast) room played.now.progress.log.events played.now has.through
+  devices = subst (λ (h : List Event). HaveDevices (guests_of cast) h played.now.table) has.all
+      (run-devices (opening_by old.store (guests_of cast)) course old.store (guests_of cast) room has.events played.now has.through)
 
   stopped : HasRunStopped (is_some old.store.files) work its
   stopped = has-stopped old.store (guests_of cast) w played.now new.store fault refl refl refl refl comes.counted played.stays comes played.end
@@ -123,7 +101,7 @@ module _ (cast : Cast) (work : Work) (old new : Setting) (room : Room) (sized : 
         its,
         record { was = was None good (length (whole_transcript its)) (whole-out old.sent new.sent (whole_transcript its) sent); sink = sink },
         ends-done old.store (guests_of cast) w played.now new.store fault refl refl refl refl comes.counted played.stays comes played.end
-            work played.after played.so.can keeps count (rw none at played.named),
+            work played.after played.so.can keeps count played.rest (rw none at played.named),
       )
 
   stuck : fault ≡ None → (r : ℕ × Waits Written) → waiting ≡ Some r → new.sent ≡ option_map (λ s. s ++ whole_transcript its) old.sent → new.sink_faults ≡ old.sink_faults
@@ -164,18 +142,14 @@ module _ (cast : Cast) (work : Work) (old new : Setting) (room : Room) (sized : 
   by-failure whole is (Some f) some front =
       flush f some (length front.part.0) (front-out old.sent new.sent front.part.0 front.part.1 (whole_transcript its) (front.part.2 ∙ is) front.part.3) (inr front.rose)
 
-  pub run-answers : CanHaveLines (guests_of cast) log.events → (status : Status)
-      → EndsAs fault waiting old.sent new.sent (transcript (guests_only (guests_of cast)) log.events) old.sink_faults new.sink_faults status → Answers cast old new status
-  run-answers lines status (inl none) = rw none.0 (unsent none.1 none.2)
-  run-answers lines status (inr (inl end)) = rw end.0 (by-end _ (whole-is lines) fault refl waiting refl end.1)
-    where
-      whole-is : CanHaveLines (guests_of cast) log.events → transcript (guests_only (guests_of cast)) log.events ≡ whole_transcript its
-      whole-is lines =
-          let same : log.events ≡ played.now.progress.log.events = ap (λ (l : Recorded). l.events) played.log_is in
-          ap (transcript (guests_only (guests_of cast))) same ∙ sym (printed-is (opening_by old.store (guests_of cast)) played.now.progress.log.events (rw same at lines))
-  run-answers lines status (inr (inr end)) = rw end.0 (by-failure _ (whole-is lines) fault refl end.1)
-    where
-      whole-is : CanHaveLines (guests_of cast) log.events → transcript (guests_only (guests_of cast)) log.events ≡ whole_transcript its
-      whole-is lines =
-          let same : log.events ≡ played.now.progress.log.events = ap (λ (l : Recorded). l.events) played.log_is in
-          ap (transcript (guests_only (guests_of cast))) same ∙ sym (printed-is (opening_by old.store (guests_of cast)) played.now.progress.log.events (rw same at lines))
+  -- it is of the guests and jobs of the run
+  whole-is : transcript (record { guests = guests_of cast; jobs = jobs }) log.events ≡ whole_transcript its
+  whole-is =
+      ap (λ (lines : List JobLine). transcript (record { guests = guests_of cast; jobs = lines }) log.events) played.jobs_are
+      ∙ ap (λ (l : Recorded). transcript (record { guests = guests_of cast; jobs = played.now.progress.jobs }) l.events) played.log_is
+
+  pub run-answers : (status : Status)
+      → EndsAs fault waiting old.sent new.sent (transcript (record { guests = guests_of cast; jobs = jobs }) log.events) old.sink_faults new.sink_faults status → Answers cast old new status
+  run-answers status (inl none) = rw none.0 (unsent none.1 none.2)
+  run-answers status (inr (inl end)) = rw end.0 (by-end _ whole-is fault refl waiting refl end.1)
+  run-answers status (inr (inr end)) = rw end.0 (by-failure _ whole-is fault refl end.1)

@@ -1,8 +1,8 @@
 -- The actors can go on after each turn, and after several.
-use Rattle.std.proofs.Common.{◌≡◌, ◌≢◌, ◌⊎◌, ℕ, ◌+◌, true, false, Bool, List, [], ◌∷◌, length, set, refl, sym, ◌∙◌, ap, subst, arith, Option, Some, None, inl, inr, Result, Ok, Err, IfOk, OnOk}
-use Rattle.std.specs.Prelude.{slice_get, IsSome, ◌||◌}
+use Rattle.std.proofs.Common.{◌≡◌, ◌≢◌, ◌⊎◌, ℕ, ◌+◌, ◌*◌, ◌^◌, ◌<◌, true, false, Bool, List, [], ◌∷◌, length, set, refl, sym, ◌∙◌, ap, subst, arith, Option, Some, None, inl, inr, Result, Ok, Err, IfOk, OnOk}
+use Rattle.std.specs.Prelude.{Contains, find, slice_get, IsSome, ◌==◌, ◌||◌}
 use Rattle.std.proofs.Math.ListN.{length-set}
-use Rattle.std.proofs.lemmas.Bool.{false≢true}
+use Rattle.std.proofs.lemmas.Bool.{false≢true, eq-eqb}
 use Rattle.trace_codec.specs.declared.wish.Wish.{Wish}
 use Rattle.trace_codec.specs.declared.order.Order.TheVariants.{Give, Watch}
 use Rattle.trace_codec.specs.Script.{Order}
@@ -10,6 +10,7 @@ use Rattle.blk_history.specs.Fold.{With}
 use Rattle.blk_history.specs.Machine.{Flight}
 use Rattle.blk_history.specs.declared.event.Event.{Event}
 use Rattle.blk_history.specs.declared.event.Event.TheVariants.{Admit, Refuse, Piece, Retire, Reply, Reached, Start, Ready, End, Done}
+use Rattle.qmp_rules.specs.declared.rows.JobRecord.{JobRecord}
 use Rattle.flat_machine.specs.Blocked.{ScriptWaits}
 use Rattle.flat_machine.specs.Marks.{Drained, holds_disk, is_guest_held}
 use Rattle.flat_machine.specs.State.{disk_of_guest}
@@ -17,16 +18,18 @@ use Rattle.flat_machine.specs.Courses.{course_of, course_after, past_waits, rest
 use Rattle.world_parts.specs.Face.{WorldSeen, seen_state}
 use Rattle.world_parts.specs.Progress.{Progress, answered_in}
 use Rattle.qblk_inputs.specs.Room.{bytes_for}
-use Rattle.qblk_run.specs.Tasks.{Task, ScriptTask, Tasks, IsTaskOf, IsTaskIn, IsFlying, IsScriptIn, AreDrainsOf, CanGoOn, KeepsTo, IsRestOf, Halts, IsGiving, IsPutOffFor, Rests, ScriptHalts, ScriptRests, entries_to_come, entries_of_script, steps_of, steps_of_all, flight_entries, entries_in_flight}
-use Rattle.qblk_run.specs.Turns.{StaysIn, DrainsAfter, IsOwnOrder, IsScriptPutOff, IsScriptTurn}
-use Rattle.qblk_run.specs.Rounds.{Continues, GuestsHalt, AllRest, Goes, HasTurn}
+use Rattle.qblk_run.specs.Tasks.{Task, ScriptTask, Tasks, IsTaskOf, IsTaskIn, IsFlying, IsScriptIn, AreDrainsOf, CanGoOn, KeepsTo, IsRestOf, Halts, IsGiving, IsPutOffFor, Rests, ScriptHalts, ScriptRests, entries_to_come, steps_of, steps_of_all, steps_of_tasks, flight_entries, entries_in_flight}
+use Rattle.qblk_run.specs.Slots.{NoneFlies, StandsInRun, parts_left}
+use Rattle.qblk_run.specs.Turns.{DrainsAfter, IsOwnOrder, IsScriptPutOff, IsScriptTurn, ScriptMoves, StaysIn}
+use Rattle.qblk_run.specs.Rounds.{AllRest, AreGuestTurns, AreSlotTurns, Continues, Goes, GuestsHalt, HasTurn, LeavesLess, LeavesNoMore, SlotsHalt, steps_in}
 use Rattle.qblk_run.proofs.Lists.{same_or_not, get-below, below-get, get-set, get-set-other, with-at, with-map, with-some}
 use Rattle.qblk_run.proofs.Waits.{grows-same, through, entries-past, bytes-past, numbers-past, length-past}
 use Rattle.qblk_run.proofs.History.{course-answered}
 use Rattle.qblk_run.proofs.Sums.{entries-set, bytes-set, steps-set}
+use Rattle.qblk_run.proofs.Bounds.{parts-bounded}
 use Rattle.qblk_run.proofs.Moves.{move-can}
 use Rattle.qblk_run.proofs.Orders.{stays, rests-advance, move-order, move-lines}
-use Rattle.qblk_run.proofs.Scripts.{script-less, script-can, script-order, script-lines}
+use Rattle.qblk_run.proofs.Scripts.{script-can, script-order, script-lines}
 use Rattle.qblk_run.proofs.Worlds.{put-off-flies, put-off-gives, put-off-jobs, put-off-left}
 
 -- ---- a guest that makes no entry
@@ -114,24 +117,76 @@ drains_stay w v script same was = record { jobs = ap (λ (d : Drained). d.jobs) 
     by_command (inl none) = inl (ap (λ (d : Drained). d.command) same ∙ none)
     by_command (inr gives) = inr gives
 
+-- ---- less is left
+
+pub more-then : (w v u : WorldSeen) (a b c : Tasks) → LeavesNoMore w v a b → LeavesNoMore v u b c → LeavesNoMore w u a c
+more-then w v u a b c (inl x) (inl y) = inl (omega (arith, x, y))
+more-then w v u a b c (inl x) (inr y) = inl (omega (arith, x, y.0))
+more-then w v u a b c (inr x) (inl y) = inl (omega (arith, x.0, y))
+more-then w v u a b c (inr x) (inr y) = inr (omega (arith, x.0, y.0), omega (arith, x.1, y.1))
+
+pub less-then : (w v u : WorldSeen) (a b c : Tasks) → LeavesLess w v a b → LeavesNoMore v u b c → LeavesLess w u a c
+less-then w v u a b c (inl x) (inl y) = inl (omega (arith, x, y))
+less-then w v u a b c (inl x) (inr y) = inl (omega (arith, x, y.0))
+less-then w v u a b c (inr x) (inl y) = inl (omega (arith, x.0, y))
+less-then w v u a b c (inr x) (inr y) = inr (omega (arith, x.0, y.0), omega (arith, x.1, y.1))
+
+pub then-less : (w v u : WorldSeen) (a b c : Tasks) → LeavesNoMore w v a b → LeavesLess v u b c → LeavesLess w u a c
+then-less w v u a b c (inl x) (inl y) = inl (omega (arith, x, y))
+then-less w v u a b c (inl x) (inr y) = inl (omega (arith, x, y.0))
+then-less w v u a b c (inr x) (inl y) = inl (omega (arith, x.0, y))
+then-less w v u a b c (inr x) (inr y) = inr (omega (arith, x.0, y.0), omega (arith, x.1, y.1))
+
+same-more : (w v : WorldSeen) (a b : Tasks) → v.progress ≡ w.progress → v.works ≡ w.works → steps_of_tasks b ≡ steps_of_tasks a → LeavesNoMore w v a b
+same-more w v a b progress works steps =
+    let aside : v.progress.aside ≡ w.progress.aside = ap (λ (p : Progress). p.aside) progress in
+    let left : parts_left v.works ≡ parts_left w.works = ap parts_left works in
+    inr (omega (arith, aside, steps), omega (arith, left))
+
 -- ---- one turn
 
-pub turn-continues : (w v : WorldSeen) (script : ScriptTask) (old new : List Task) (g : ℕ) (moved : Bool) → CanGoOn w.progress (record { script = script; guests = old })
-    → HasTurn w v old new g moved → Continues w v (record { script = script; guests = old }) (record { script = script; guests = new })
-turn-continues w v script old new g true can turn =
-    let e = turn.turn.0.0 in
+stands-on : (w v : WorldSeen) → StaysIn w v → (NoneFlies w.works → NoneFlies v.works) → StandsInRun w → StandsInRun v
+stands-on w v stays flights was = record { opening = was.opening; comes = stays.comes was.opening was.comes; flights = flights was.flights }
+
+pub continues-same : (w : WorldSeen) (a : Tasks) → CanGoOn w.progress a → Continues w w a a
+continues-same w a can = record {
+  can = can;
+  order = λ orders traces keeps. keeps;
+  lines = λ guests many lines. lines;
+  drains = λ was. was;
+  stands = λ was. was;
+  more = same-more w w a a refl refl refl;
+  count = refl;
+}
+
+-- a guest's task is less
+turn-steps : (w v : WorldSeen) (script : ScriptTask) (old new : List Task) (g : ℕ) → HasTurn w v old new g true
+    → steps_in v (record { script = script; guests = new }) < steps_in w (record { script = script; guests = old })
+turn-steps w v script old new g turn =
     let move = turn.turn.0.1 in
     let steps = steps-set old g turn.task turn.now turn.there in
     let less = move.steps in
-    rw turn.after_is (record {
-      can = move-can w.progress v.progress script old g turn.task turn.now e turn.there move can;
-      order = move-order w.progress v.progress script old g turn.task turn.now e turn.there move;
-      lines = move-lines w.progress v.progress old g turn.task turn.now e turn.there move;
-      drains = drains_stay w v script turn.turn.1;
-      steps = omega arith;
-      count = length-set old g turn.now;
-    })
-turn-continues w v script old new g false can turn =
+    let aside = move.aside in
+    let now : steps_of_all new ≡ steps_of_all (set old g turn.now) = ap steps_of_all turn.after_is in
+    omega (arith, steps, less, aside, now)
+
+pub turn-continues : (w v : WorldSeen) (script : ScriptTask) (old new : List Task) (g : ℕ) (moved : Bool) → CanGoOn w.progress (record { script = script; guests = old })
+    → StaysIn w v → HasTurn w v old new g moved → Continues w v (record { script = script; guests = old }) (record { script = script; guests = new })
+turn-continues w v script old new g true can stays turn =
+    let e = turn.turn.0.0 in
+    let move = turn.turn.0.1 in
+    let beside = turn.turn.1 in
+    let less = turn-steps w v script old new g turn in
+    record {
+      can = rw turn.after_is (move-can w.progress v.progress script old g turn.task turn.now e turn.there move can);
+      order = rw turn.after_is (move-order w.progress v.progress script old g turn.task turn.now e turn.there move);
+      lines = move-lines w v old g turn.task turn.now e turn.there move beside;
+      drains = drains_stay w v script beside.drains;
+      stands = stands-on w v stays beside.flights;
+      more = inl less;
+      count = rw turn.after_is (length-set old g turn.now);
+    }
+turn-continues w v script old new g false can stays turn =
     let still = turn.turn in
     let passes : Passes (answered_in w.progress.log.events) turn.task turn.now = record { wishes = still.wishes; left = still.left; is_done = still.is_done } in
     let steps = steps-set old g turn.task turn.now turn.there in
@@ -141,7 +196,8 @@ turn-continues w v script old new g false can turn =
       order = still-order w.progress script old g turn.task turn.now turn.there passes;
       lines = λ guests many lines. lines;
       drains = λ was. was;
-      steps = omega arith;
+      stands = λ was. was;
+      more = same-more w w (record { script = script; guests = old }) (record { script = script; guests = set old g turn.now }) refl refl (omega (arith, steps, same));
       count = length-set old g turn.now;
     })
 
@@ -169,16 +225,21 @@ script_drains w v before after (Start job) own kept was = absurd own
 script_drains w v before after (Ready job) own kept was = absurd own
 script_drains w v before after (End job outcome offset) own kept was = absurd own
 
-script-put-off : (w v : WorldSeen) (before after : ScriptTask) (tasks : List Task) → CanGoOn w.progress (record { script = before; guests = tasks })
+script-put-off : (w v : WorldSeen) (before after : ScriptTask) (tasks : List Task) → CanGoOn w.progress (record { script = before; guests = tasks }) → StaysIn w v
     → IsScriptPutOff w v before after → Continues w v (record { script = before; guests = tasks }) (record { script = after; guests = tasks })
-script-put-off w v before after tasks can off =
-    let same : v.progress ≡ w.progress = ap (λ (u : WorldSeen). u.progress) (put-off-left before.orders w v off.off) in
+script-put-off w v before after tasks can stays off =
+    let left = put-off-left before.orders w v off.off in
+    let same : v.progress ≡ w.progress = ap (λ (u : WorldSeen). u.progress) left in
+    let table : v.table ≡ w.table = ap (λ (u : WorldSeen). u.table) left in
+    let works : v.works ≡ w.works = ap (λ (u : WorldSeen). u.works) left in
     record {
       can = rw (off.task, same) can;
       order = λ orders traces keeps. rw (off.task, same) keeps;
-      lines = λ guests many lines. rw same lines;
+      lines = λ guests many lines. record { can = rw same lines.can; started = rw (same, table) lines.started };
       drains = λ was. record { jobs = put-off-jobs before.orders w v off.off ∙ was.jobs; command = inr (rw off.task (put-off-gives before.orders w v off.off)) };
-      steps = rw off.task (omega arith);
+      stands = stands-on w v stays (λ none. subst NoneFlies (sym works) none);
+      more = same-more w v (record { script = before; guests = tasks }) (record { script = after; guests = tasks }) same works
+          (ap (λ (s : ScriptTask). steps_of_tasks (record { script = s; guests = tasks })) off.task);
       count = refl;
     }
 
@@ -193,70 +254,59 @@ put-off-for w v before after off =
       flies = subst (λ (p : Progress). With (slice_get p.guests flies.0) (λ row. IsSome row.flight)) (sym same) flies.1;
     }
 
+script-steps : (w v : WorldSeen) (before after : ScriptTask) (tasks : List Task) → ScriptMoves w v before after
+    → steps_in v (record { script = after; guests = tasks }) < steps_in w (record { script = before; guests = tasks })
+script-steps w v before after tasks turn = let less = turn.move.steps in omega (arith, less)
+
 pub script-continues : (w v : WorldSeen) (before after : ScriptTask) (tasks : List Task) (moved : Bool) → CanGoOn w.progress (record { script = before; guests = tasks })
-    → IsScriptTurn w v before after moved → Continues w v (record { script = before; guests = tasks }) (record { script = after; guests = tasks })
-script-continues w v before after tasks true can turn =
-    let e = turn.0 in
-    let move = turn.1 in
-    let less = script-less before after e move.runs move.own in
+    → StaysIn w v → IsScriptTurn w v before after moved → Continues w v (record { script = before; guests = tasks }) (record { script = after; guests = tasks })
+script-continues w v before after tasks true can stays turn =
     record {
-      can = script-can w.progress v.progress before after tasks e move can;
-      order = script-order w.progress v.progress before after tasks e move;
-      lines = λ guests many. script-lines w.progress v.progress before after tasks e move guests;
-      drains = script_drains w v before after e move.own turn.2;
-      steps = omega arith;
+      can = script-can w v before after tasks turn.entry turn.behind turn.move turn.starts can;
+      order = script-order w v before after tasks turn.entry turn.behind turn.move turn.starts;
+      lines = λ guests many. script-lines w v before after tasks turn.entry turn.behind turn.move turn.starts guests;
+      drains = script_drains w v before after turn.entry turn.move.own turn.drains;
+      stands = stands-on w v stays turn.flights;
+      more = inl (script-steps w v before after tasks turn);
       count = refl;
     }
-script-continues w v before after tasks false can (inl turn) =
-    rw (turn.task, turn.world) (record {
-      can = can;
-      order = λ orders traces keeps. keeps;
-      lines = λ guests many lines. lines;
-      drains = λ was. was;
-      steps = omega arith;
-      count = refl;
-    })
-script-continues w v before after tasks false can (inr off) = script-put-off w v before after tasks can off
+script-continues w v before after tasks false can stays (inl turn) =
+    rw (turn.task, turn.world) (continues-same w (record { script = before; guests = tasks }) can)
+script-continues w v before after tasks false can stays (inr off) = script-put-off w v before after tasks can stays off
 
 -- ---- several
 
 pub continues-then : (w v u : WorldSeen) (a b c : Tasks) → Continues w v a b → Continues v u b c → Continues w u a c
 continues-then w v u a b c first then =
-    let x = first.steps in
-    let y = then.steps in
     let same = first.count in
     record {
       can = then.can;
       order = λ orders traces keeps. then.order orders traces (first.order orders traces keeps);
       lines = λ guests many lines. then.lines guests (omega arith) (first.lines guests many lines);
       drains = λ was. then.drains (first.drains was);
-      steps = omega arith;
+      stands = λ was. then.stands (first.stands was);
+      more = more-then w v u a b c first.more then.more;
       count = then.count ∙ first.count;
     }
 
 pub script-goes : (w v : WorldSeen) (before after : ScriptTask) (tasks : List Task) (moved : Bool) → IsScriptTurn w v before after moved
-    → Goes v (record { script = before; guests = tasks }) (record { script = after; guests = tasks }) 0 moved
-script-goes w v before after tasks true turn =
-    let less = script-less before after turn.0 turn.1.runs turn.1.own in
-    omega arith
-script-goes w v before after tasks false (inl turn) = (inl (rw turn.world turn.rests), λ g task below is. absurd (omega arith))
-script-goes w v before after tasks false (inr off) = (inr (put-off-for w v before after off), λ g task below is. absurd (omega arith))
+    → Goes w v (record { script = before; guests = tasks }) (record { script = after; guests = tasks }) 0 0 moved
+script-goes w v before after tasks true turn = inl (script-steps w v before after tasks turn)
+script-goes w v before after tasks false (inl turn) =
+    (inl (rw turn.world turn.rests), λ g task below is. absurd (omega arith), λ slot below. absurd (omega arith))
+script-goes w v before after tasks false (inr off) =
+    (inr (put-off-for w v before after off), λ g task below is. absurd (omega arith), λ slot below. absurd (omega arith))
 
--- a turn more
-pub goes-on : (w v u : WorldSeen) (a b c : Tasks) (n : ℕ) (moved turned : Bool) → Continues w v a b → Goes v a b n moved
-    → Continues v u b c → c.script ≡ b.script → HasTurn v u b.guests c.guests n turned → Goes u a c (n + 1) (turned || moved)
-goes-on w v u a b c n moved true so goes then script turn =
-    let less = turn.turn.0.1.steps in
-    let had = so.steps in
-    let sum = steps-set b.guests n turn.task turn.now turn.there in
-    let now : steps_of_all c.guests ≡ steps_of_all (set b.guests n turn.now) = ap steps_of_all turn.after_is in
-    let same : entries_of_script c.script ≡ entries_of_script b.script = ap entries_of_script script in
-    omega arith
-goes-on w v u a b c n true false so goes then script turn =
-    let steps = then.steps in
-    omega arith
-goes-on w v u a b c n false false so goes then script turn =
-    (rw (turn.turn.world, script) goes.0, guests)
+-- a guest's turn more
+pub guests-on : (w v u : WorldSeen) (a b c : Tasks) (n : ℕ) (moved turned : Bool) → Continues w v a b → AreGuestTurns w v a b n moved
+    → Continues v u b c → c.script ≡ b.script → HasTurn v u b.guests c.guests n turned → AreGuestTurns w u a c (n + 1) (turned || moved)
+guests-on w v u a b c n moved true so goes then script turn =
+    let less = turn-steps v u b.script b.guests c.guests n turn in
+    let same : steps_in u c ≡ steps_in u (record { script = b.script; guests = c.guests }) = ap (λ (s : ScriptTask). steps_in u (record { script = s; guests = c.guests })) script in
+    then-less w v u a b c so.more (inl (omega (arith, less, same)))
+guests-on w v u a b c n true false so goes then script turn = less-then w v u a b c goes then.more
+guests-on w v u a b c n false false so goes then script turn =
+    (turn.turn.world ∙ goes.0, guests)
   where
     guests : GuestsHalt u (n + 1) c.guests
     guests g task below is = by_place (same_or_not g n)
@@ -268,15 +318,25 @@ goes-on w v u a b c n false false so goes then script turn =
         by_place (inr apart) =
             rw turn.turn.world (goes.1 g task (omega arith) (sym (get-set-other b.guests n g turn.now apart) ∙ rw turn.after_is at is))
 
-pub continues-same : (w : WorldSeen) (a : Tasks) → CanGoOn w.progress a → Continues w w a a
-continues-same w a can = record {
-  can = can;
-  order = λ orders traces keeps. keeps;
-  lines = λ guests many lines. lines;
-  drains = λ was. was;
-  steps = omega arith;
-  count = refl;
-}
+pub no-guests : (w : WorldSeen) (a : Tasks) → AreGuestTurns w w a a 0 false
+no-guests w a = (refl, λ g task below is. absurd (omega arith))
+
+-- a whole round
+pub round-goes : (w v u x : WorldSeen) (a b c : Tasks) (n : ℕ) (first asked copied : Bool) → Continues w v a b → Goes w v a b 0 0 first
+    → Continues v u b c → c.script ≡ b.script → AreGuestTurns v u b c n asked → Continues u x c c → AreSlotTurns u x c 16 copied
+    → Goes w x a c n 16 ((first || asked) || copied)
+round-goes w v u x a b c n true asked copied so goes then script turns last slots =
+    less-then w u x a c c (less-then w v u a b c goes then.more) last.more
+round-goes w v u x a b c n false true copied so goes then script turns last slots =
+    less-then w u x a c c (then-less w v u a b c so.more turns) last.more
+round-goes w v u x a b c n false false true so goes then script turns last slots =
+    then-less w u x a c c (more-then w v u a b c so.more then.more) slots
+round-goes w v u x a b c n false false false so goes then script turns last slots =
+    let same : x ≡ v = slots.0 ∙ turns.0 in (
+      rw (same, script) goes.0,
+      subst (λ (y : WorldSeen). GuestsHalt y n c.guests) (sym slots.0) turns.1,
+      slots.1,
+    )
 
 -- ---- nothing has moved in a whole round
 
@@ -329,8 +389,21 @@ none-held w g jobs command = by_disk (disk_of_guest w.table g)
     by_disk None = refl
     by_disk (Some node) = rw (jobs, command) refl
 
-pub round-rests : (w : WorldSeen) (a b : Tasks) → CanGoOn w.progress b → AreDrainsOf w b.script → Goes w a b (length b.guests) false → AllRest w b
-round-rests w a b can drains goes = by_script goes.0
+-- no slot has a job, and each job is in one
+none-in : (w : WorldSeen) → StandsInRun w → SlotsHalt w 16 → w.table.jobs ≡ []
+none-in w stands halt = by_jobs w.table.jobs refl
+  where
+    by_jobs : (jobs : List JobRecord) → w.table.jobs ≡ jobs → w.table.jobs ≡ []
+    by_jobs [] is = is
+    by_jobs (row ∷ jobs) is =
+        let there : Contains w.table.jobs row = subst (λ (rows : List JobRecord). Contains rows row) (sym is) (0, omega arith, refl) in
+        let slot = (stands.comes.jobs.stand.each row there).slot in
+        let none : find (λ job. job.slot == row.slot) (row ∷ jobs) ≡ None = ap (find (λ job. job.slot == row.slot)) (sym is) ∙ halt row.slot slot in
+        let found : find (λ job. job.slot == row.slot) (row ∷ jobs) ≡ Some row = rw (eq-eqb row.slot row.slot refl) refl in
+        let bad : ⊥ = cc (sym none ∙ found) in absurd bad
+
+pub round-rests : (x w : WorldSeen) (a b : Tasks) → CanGoOn w.progress b → StandsInRun w → AreDrainsOf w b.script → Goes x w a b (length b.guests) 16 false → AllRest w b
+round-rests x w a b can stands drains goes = by_script goes.0
   where
     by_halt : w.drains.command ≡ [] → (g : ℕ) (task : Task) → Halts w g task → Rests w g task
     by_halt none g task (inl rests) = rests
@@ -340,32 +413,43 @@ round-rests w a b can drains goes = by_script goes.0
     by_script (inl rests) = record {
       script = rests;
       guests = λ g task below is. by_halt (none-drained w b.script can.script rests drains) g task (goes.1 g task below is);
+      jobs = none-in w stands goes.2;
     }
     by_script (inr off) = absurd (none-off w b can goes.1 off)
+
+-- ---- a round ends in which less is left
+
+-- of all works there are fewer parts than one entry counts for
+pub round-lowers : (w v : WorldSeen) (a b : Tasks) (n : ℕ) → StandsInRun v → Goes w v a b n 16 true
+    → steps_in v b * 2 ^ 64 + parts_left v.works < steps_in w a * 2 ^ 64 + parts_left w.works
+round-lowers w v a b n stands (inl less) =
+    let few = parts-bounded v.table stands.comes.jobs.stand v.works stands.comes.jobs.belong in
+    omega (arith, few, less)
+round-lowers w v a b n stands (inr both) = omega (arith, both.0, both.1)
 
 -- ---- as the calls say it
 
 pub script-continues-in : (w v : WorldSeen) (before after : ScriptTask) (tasks : List Task) (a : Tasks) (E : Type 0) (r : Result Bool E)
-    → record { script = before; guests = tasks } ≡ a → CanGoOn w.progress a → IfOk r (IsScriptTurn w v before after)
+    → record { script = before; guests = tasks } ≡ a → CanGoOn w.progress a → StaysIn w v → IfOk r (IsScriptTurn w v before after)
     → OnOk r (Continues w v a (record { script = after; guests = tasks }))
-script-continues-in w v before after tasks a E (Err e) is can turn = tt
-script-continues-in w v before after tasks a E (Ok moved) is can turn =
+script-continues-in w v before after tasks a E (Err e) is can stays turn = tt
+script-continues-in w v before after tasks a E (Ok moved) is can stays turn =
     subst (λ (b : Tasks). Continues w v b (record { script = after; guests = tasks })) is
-    (script-continues w v before after tasks moved (subst (CanGoOn w.progress) (sym is) can) turn)
+    (script-continues w v before after tasks moved (subst (CanGoOn w.progress) (sym is) can) stays turn)
 
 pub script-goes-in : (w v : WorldSeen) (before after : ScriptTask) (tasks : List Task) (a : Tasks) (E : Type 0) (r : Result Bool E)
     → record { script = before; guests = tasks } ≡ a → IfOk r (IsScriptTurn w v before after)
-    → IfOk r (Goes v a (record { script = after; guests = tasks }) 0)
+    → IfOk r (Goes w v a (record { script = after; guests = tasks }) 0 0)
 script-goes-in w v before after tasks a E (Err e) is turn = tt
 script-goes-in w v before after tasks a E (Ok moved) is turn =
-    subst (λ (b : Tasks). Goes v b (record { script = after; guests = tasks }) 0 moved) is (script-goes w v before after tasks moved turn)
+    subst (λ (b : Tasks). Goes w v b (record { script = after; guests = tasks }) 0 0 moved) is (script-goes w v before after tasks moved turn)
 
 pub turn-continues-in : (w v : WorldSeen) (script : ScriptTask) (old new : List Task) (a : Tasks) (g : ℕ) (moved : Bool)
-    → record { script = script; guests = old } ≡ a → CanGoOn w.progress a
+    → record { script = script; guests = old } ≡ a → CanGoOn w.progress a → StaysIn w v
     → HasTurn w v old new g moved → Continues w v a (record { script = script; guests = new })
-turn-continues-in w v script old new a g moved is can turn =
+turn-continues-in w v script old new a g moved is can stays turn =
     subst (λ (b : Tasks). Continues w v b (record { script = script; guests = new })) is
-    (turn-continues w v script old new g moved (subst (CanGoOn w.progress) (sym is) can) turn)
+    (turn-continues w v script old new g moved (subst (CanGoOn w.progress) (sym is) can) stays turn)
 
 pub turn-length : (w v : WorldSeen) (old new : List Task) (g : ℕ) (moved : Bool) → HasTurn w v old new g moved → length new ≡ length old
 turn-length w v old new g moved turn = ap length turn.after_is ∙ length-set old g turn.now
@@ -373,7 +457,13 @@ turn-length w v old new g moved turn = ap length turn.after_is ∙ length-set ol
 -- ---- the same run
 
 pub stays_same : (w : WorldSeen) → StaysIn w w
-stays_same w = record { told = refl; first = refl; earlier = refl; room = refl }
+stays_same w = record { told = refl; first = refl; earlier = refl; room = refl; comes = λ o was. was }
 
 pub stays_then : (w v u : WorldSeen) → StaysIn w v → StaysIn v u → StaysIn w u
-stays_then w v u a b = record { told = b.told ∙ a.told; first = b.first ∙ a.first; earlier = b.earlier ∙ a.earlier; room = b.room ∙ a.room }
+stays_then w v u a b = record {
+  told = b.told ∙ a.told;
+  first = b.first ∙ a.first;
+  earlier = b.earlier ∙ a.earlier;
+  room = b.room ∙ a.room;
+  comes = λ o was. b.comes o (a.comes o was);
+}

@@ -38,15 +38,21 @@ use Rattle.blk_base.specs.declared.memory.Room.{Room}
 use Rattle.trace_codec.specs.declared.op.Op.{Op}
 use Rattle.trace_codec.specs.declared.op.Op.TheVariants.{Read, Write, Zero, Flush, Discard}
 use Rattle.qmp_rules.specs.Chains.{disk_node, written_under}
-use Rattle.flat_machine.specs.Courses.{Course, onward}
+use Rattle.qmp_rules.specs.declared.rows.JobRecord.{JobRecord}
+use Rattle.flat_machine.specs.Courses.{Course, course_after}
+use Rattle.flat_machine.specs.Entries.{all_of}
+use Rattle.flat_machine.specs.Jobs.{outcome_of}
+use Rattle.trace_codec.specs.Script.{Order}
 use Rattle.flat_machine.specs.declared.opening.Opening.{Opening}
 use Rattle.std.proofs.lemmas.List.{append_assoc}
 use Rattle.world_parts.specs.Comes.{Comes}
 use Rattle.world_parts.specs.Face.{WorldSeen}
 use Rattle.world_parts.specs.Piecing.{table_after}
 use Rattle.world_parts.specs.Steps.{StoreSeen, new_world}
-use Rattle.qblk_run.specs.Worlds.{GoesThrough, IsEventOf, IsPieceEvent}
-use Rattle.qblk_run.proofs.Worlds.{uneventful-table}
+use Rattle.qblk_run.specs.Worlds.{AreStartsBehind, GoesThrough, IsLeftAlone, IsLeftBy, MakesEvent}
+use Rattle.qblk_run.proofs.EndsLeave.{end-leaves}
+use Rattle.qblk_run.proofs.Falling.{uneventful-kept}
+use Rattle.qblk_run.proofs.Worlds.{guarded-kept}
 use Rattle.qblk_run.proofs.LeftDevices.{IsOfDevice, SameDevices, all-leave, leave-command, leave-device-uses, leave-left}
 
 -- ---- texts
@@ -440,40 +446,89 @@ same-after (Zero span) node t = record { devices = refl; guests = refl }
 same-after Flush node t = record { devices = refl; guests = refl }
 same-after (Discard span) node t = record { devices = refl; guests = refl }
 
-pub event-devices : (guests : List (List ℕ)) (h : List Event) (o : Opening) (w v : WorldSeen) (e : Event) → Comes o w → IsEventOf w v e → AreDevices guests h w.table → AreDevices guests (h ++ e ∷ []) v.table
-event-devices guests h o w v (Admit g r op) comes event was =
-    same-devices guests h (Admit g r op) w.table v.table (rw event.left.1 (record { devices = refl; guests = refl })) (λ name has. refl) was
-event-devices guests h o w v (Refuse g r op why) comes event was =
-    same-devices guests h (Refuse g r op why) w.table v.table (rw event.left.1 (record { devices = refl; guests = refl })) (λ name has. refl) was
-event-devices guests h o w v (Piece g r k outcome got) comes event was =
-    same-devices guests h (Piece g r k outcome got) w.table v.table (same-kept event.left) (λ name has. refl) was
-  where
-    same-kept : IsPieceEvent w v g outcome → SameDevices w.table v.table
-    same-kept p = subst (SameDevices w.table) (sym (ap (λ (u : WorldSeen). u.table) p.made.kept)) (same-after p.flight.op (disk_node w.table p.made.drive) w.table)
-event-devices guests h o w v (Retire g r) comes event was =
-    same-devices guests h (Retire g r) w.table v.table (rw event.left (record { devices = refl; guests = refl })) (λ name has. refl) was
-event-devices guests h o w v (Reply line given command' text) comes event was =
-    reply-devices guests h line given text command' w.table v.table event.left.replied.told comes.coherent.table.stands.numbers was event.left.says event.left.replied.table
-event-devices guests h o w v (Reached line what) comes event was =
-    same-devices guests h (Reached line what) w.table v.table (rw event.left (record { devices = refl; guests = refl })) (λ name has. refl) was
-event-devices guests h o w v (Done actor) comes event was =
-    same-devices guests h (Done actor) w.table v.table (rw event.left (record { devices = refl; guests = refl })) (λ name has. refl) was
-event-devices guests h o w v (Start job) comes event was = absurd event.left
-event-devices guests h o w v (Ready job) comes event was = absurd event.left
-event-devices guests h o w v (End job outcome offset) comes event was = absurd event.left
+-- an entry that is no reply says nothing of devices
+silent-alone : (w v : WorldSeen) (e : Event) → IsLeftAlone w v e → (name : List ℕ) (has : Bool) → has_after name has e ≡ has
+silent-alone w v (Reply line given command' text) left name has = absurd left
+silent-alone w v _ left name has = refl
 
-through-devices : (guests : List (List ℕ)) (o : Opening) (c : Course) (w v : WorldSeen) (before h : List Event) → GoesThrough o c w h v
-    → AreDevices guests before w.table → AreDevices guests (before ++ h) v.table
-through-devices guests o c w v before [] still was = rw (append-nil before, uneventful-table c.script w v still) was
-through-devices guests o c w v before (e ∷ h) through was =
+leaves-alone : (w v : WorldSeen) (e : Event) → IsLeftAlone w v e → SameDevices w.table v.table
+leaves-alone w v (Admit g r op) left = rw left.1 (record { devices = refl; guests = refl })
+leaves-alone w v (Refuse g r op why) left = rw left.1 (record { devices = refl; guests = refl })
+leaves-alone w v (Piece g r k outcome got) left =
+    let x = left.makes.between in
+    let made = left.makes.made in
+    let before : x.table ≡ w.table = ap (λ (u : WorldSeen). u.table) (guarded-kept w x g left.flight left.makes.guarded) in
+    subst (SameDevices w.table) (sym (ap (λ (u : WorldSeen). u.table) made.kept))
+    (subst (λ (t : RunTable). SameDevices t (table_after left.flight.op (disk_node x.table made.drive) x.table)) before
+    (same-after left.flight.op (disk_node x.table made.drive) x.table))
+leaves-alone w v (Retire g r) left = rw left (record { devices = refl; guests = refl })
+leaves-alone w v (Reached line what) left = rw left (record { devices = refl; guests = refl })
+leaves-alone w v (Done actor) left = rw left (record { devices = refl; guests = refl })
+leaves-alone w v (End job why offset) left =
+    let leaves = end-leaves w.table left.row (outcome_of why) in
+    subst (SameDevices w.table) (sym (ap (λ (u : WorldSeen). u.table) left.ends.kept)) (record { devices = leaves.devices; guests = leaves.guests })
+leaves-alone w v (Start job) left = absurd left
+leaves-alone w v (Ready job) left = absurd left
+leaves-alone w v (Reply line given command' text) left = absurd left
+
+-- nor does the start of a job
+starts-devices : (guests : List (List ℕ)) (h : List Event) (t : RunTable) (w v : WorldSeen) (es : List Event) → AreStartsBehind t w v es
+    → AreDevices guests h w.table → AreDevices guests (h ++ es) v.table
+starts-devices guests h t w v [] begins was = rw (append-nil h, begins.kept) was
+starts-devices guests h t w v (Start job ∷ []) begins was =
+    same-devices guests h (Start job) w.table v.table (rw begins.0.begins.kept (record { devices = refl; guests = refl })) (λ name has. refl) was
+starts-devices guests h t w v (Start job ∷ e ∷ es) begins was = absurd begins
+starts-devices guests h t w v (Admit g r op ∷ es) begins was = absurd begins
+starts-devices guests h t w v (Refuse g r op why ∷ es) begins was = absurd begins
+starts-devices guests h t w v (Piece g r k outcome got ∷ es) begins was = absurd begins
+starts-devices guests h t w v (Retire g r ∷ es) begins was = absurd begins
+starts-devices guests h t w v (Reply line given command' text ∷ es) begins was = absurd begins
+starts-devices guests h t w v (Reached line what ∷ es) begins was = absurd begins
+starts-devices guests h t w v (Ready job ∷ es) begins was = absurd begins
+starts-devices guests h t w v (End job outcome offset ∷ es) begins was = absurd begins
+starts-devices guests h t w v (Done actor ∷ es) begins was = absurd begins
+
+alone-devices : (guests : List (List ℕ)) (h : List Event) (w v : WorldSeen) (e : Event) (es : List Event) → (es ≡ []) × IsLeftAlone w v e
+    → AreDevices guests h w.table → AreDevices guests (h ++ e ∷ es) v.table
+alone-devices guests h w v e es left was =
+    subst (λ (behind : List Event). AreDevices guests (h ++ e ∷ behind) v.table) (sym left.0)
+    (same-devices guests h e w.table v.table (leaves-alone w v e left.1) (silent-alone w v e left.1) was)
+
+event-devices : (guests : List (List ℕ)) (h : List Event) (o : Opening) (w v : WorldSeen) (e : Event) (es : List Event) → Comes o w → IsLeftBy w v e es
+    → AreDevices guests h w.table → AreDevices guests (h ++ e ∷ es) v.table
+event-devices guests h o w v (Reply line given command' text) es comes left was =
+    let between = left.between in
+    let said = reply-devices guests h line given text command' w.table between.table left.replied.told comes.coherent.table.stands.numbers was left.says left.replied.table in
+    subst (λ (all : List Event). AreDevices guests all v.table) (append_assoc h (Reply line given command' text ∷ []) es)
+    (starts-devices guests (h ++ Reply line given command' text ∷ []) w.table between v es left.begins said)
+event-devices guests h o w v (Admit g r op) es comes left was = alone-devices guests h w v (Admit g r op) es left was
+event-devices guests h o w v (Refuse g r op why) es comes left was = alone-devices guests h w v (Refuse g r op why) es left was
+event-devices guests h o w v (Piece g r k outcome got) es comes left was = alone-devices guests h w v (Piece g r k outcome got) es left was
+event-devices guests h o w v (Retire g r) es comes left was = alone-devices guests h w v (Retire g r) es left was
+event-devices guests h o w v (Reached line what) es comes left was = alone-devices guests h w v (Reached line what) es left was
+event-devices guests h o w v (Start job) es comes left was = alone-devices guests h w v (Start job) es left was
+event-devices guests h o w v (Ready job) es comes left was = alone-devices guests h w v (Ready job) es left was
+event-devices guests h o w v (End job outcome offset) es comes left was = alone-devices guests h w v (End job outcome offset) es left was
+event-devices guests h o w v (Done actor) es comes left was = alone-devices guests h w v (Done actor) es left was
+
+made-devices : (guests : List (List ℕ)) (h : List Event) (o : Opening) (orders : List Order) (w v : WorldSeen) (es : List Event) → Comes o w → MakesEvent orders w v es
+    → AreDevices guests h w.table → AreDevices guests (h ++ es) v.table
+made-devices guests h o orders w v [] comes made was =
+    subst (λ (all : List Event). AreDevices guests all v.table) (sym (append-nil h))
+    (subst (AreDevices guests h) (sym (ap (λ (u : WorldSeen). u.table) (uneventful-kept orders w v made))) was)
+made-devices guests h o orders w v (e ∷ es) comes made was = event-devices guests h o w v e es comes made.left was
+
+through-devices : (guests : List (List ℕ)) (o : Opening) (c : Course) (w v : WorldSeen) (before : List Event) (events : List (List Event)) → GoesThrough o c w events v
+    → AreDevices guests before w.table → AreDevices guests (before ++ all_of events) v.table
+through-devices guests o c w v before [] through was = rw (append-nil before, through.0) was
+through-devices guests o c w v before (es ∷ events) through was =
     let x = through.0 in
-    let y = through.1 in
-    let at : AreDevices guests before x.table = rw (uneventful-table c.script w x through.2) was in
-    let next = event-devices guests before o x y e through.3 through.4 at in
-    subst (λ (es : List Event). AreDevices guests es v.table) (append_assoc before (e ∷ []) h) (through-devices guests o (onward c e) y v (before ++ e ∷ []) h through.5 next)
+    let next = made-devices guests before o c.script w x es through.1 through.2 was in
+    subst (λ (all : List Event). AreDevices guests all v.table) (append_assoc before es (all_of events))
+    (through-devices guests o (course_after c es) x v (before ++ es) events through.3 next)
 
 -- a run from its beginning
-pub run-devices : (o : Opening) (c : Course) (store : StoreSeen) (guests : List (List ℕ)) (room : Room) (h : List Event) (v : WorldSeen)
-    → GoesThrough o c (new_world store guests room) h v → HaveDevices guests h v.table
-run-devices o c store guests room h v through =
-    (through-devices guests o c (new_world store guests room) v [] h through (record { names = refl; have = λ name g named. refl })).have
+pub run-devices : (o : Opening) (c : Course) (store : StoreSeen) (guests : List (List ℕ)) (room : Room) (events : List (List Event)) (v : WorldSeen)
+    → GoesThrough o c (new_world store guests room) events v → HaveDevices guests (all_of events) v.table
+run-devices o c store guests room events v through =
+    (through-devices guests o c (new_world store guests room) v [] events through (record { names = refl; have = λ name g named. refl })).have

@@ -1,192 +1,252 @@
--- The entries of a run fall into events, one in each: no call makes one of a job, and no change of a command is the start of one.
-use Rattle.std.proofs.Common.{◌≡◌, ℕ, Bool, true, false, List, [], ◌∷◌, ◌++◌, map, refl, sym, ◌∙◌, ap, arith, Option, Some, None}
+-- The entries of a run fall into those of its events.
+use Rattle.std.proofs.Common.{◌≡◌, ◌⊎◌, ℕ, ◌+◌, Bool, true, false, List, [], ◌∷◌, ◌++◌, append-nil, map, refl, sym, ◌∙◌, ap, subst, arith, Option, Some, None, Result, Ok, Err, inl, inr}
 use Rattle.std.specs.Prelude.{◌-◌, if◌then◌else◌, is_some}
 use Rattle.std.specs.List.{range_with_len}
 use Rattle.std.proofs.lemmas.Bool.{false≢true}
-use Rattle.blk_base.specs.Files.{IfTold}
 use Rattle.blk_base.specs.declared.fault.FaultAt.{FaultAt}
 use Rattle.blk_base.specs.declared.file.File.{File}
-use Rattle.blk_graph.specs.declared.kind.Kind.{Kind}
-use Rattle.blk_graph.specs.declared.kind.Kind.TheVariants as kind
-use Rattle.qmp_codec.specs.Lines.{command_at}
+use Rattle.qmp_codec.specs.Commands.{Cmd}
+use Rattle.qmp_codec.specs.Lines.{Stop, command_at}
+use Rattle.qmp_codec.specs.declared.command.Command.TheVariants as command
+use Rattle.qmp_codec.specs.declared.nodes.Created.{Created}
+use Rattle.qmp_codec.specs.declared.nodes.Created.TheVariants as created
+use Rattle.qmp_rules.specs.Answers.{command_edits}
+use Rattle.qmp_rules.specs.Changes.{all_changed, changed}
+use Rattle.qmp_rules.specs.Edits.{spoiled}
+use Rattle.qmp_rules.specs.Table.{RunTable, job_at}
 use Rattle.qmp_rules.specs.declared.change.Change.{Change}
-use Rattle.qmp_rules.specs.declared.change.Change.TheVariants as change
-use Rattle.qmp_rules.specs.declared.rows.NodeRecord.{NodeRecord}
-use Rattle.qmp_rules.specs.Asks.{name_of_file}
+use Rattle.qmp_rules.specs.declared.rows.JobRecord.{JobRecord}
+use Rattle.trace_codec.specs.Script.{Order}
 use Rattle.blk_history.specs.Fold.{With}
+use Rattle.blk_history.specs.declared.entry.JobEnd.{JobEnd}
 use Rattle.blk_history.specs.declared.event.Event.{Event}
 use Rattle.blk_history.specs.declared.event.Event.TheVariants.{Admit, Refuse, Piece, Retire, Reply, Reached, Start, Ready, End, Done}
-use Rattle.flat_machine.specs.State.{State, Content, Left, Mapped, content_in}
-use Rattle.flat_machine.specs.Contents.{file_bytes}
-use Rattle.flat_machine.specs.Changed.{put, name_file, name_if, know_if, note_image, leave, add_file, add_format, remove_node, beside, stepped, all_stepped}
-use Rattle.flat_machine.specs.Comes.{IsHistoryOf}
-use Rattle.flat_machine.specs.Courses.{Course, onward}
-use Rattle.flat_machine.specs.Entries.{starts_of, new_jobs, IsEvent, AreEvents, all_of, FallsIntoEvents}
-use Rattle.flat_machine.specs.Legal.{InTurn, IsAtRest, Legal}
+use Rattle.flat_machine.specs.State.{State}
+use Rattle.flat_machine.specs.Changed.{all_stepped}
+use Rattle.flat_machine.specs.Courses.{Course, course_after}
+use Rattle.flat_machine.specs.Entries.{AreEnds, AreEvents, FallsIntoEvents, IsEvent, all_of, new_jobs, starts_of}
+use Rattle.flat_machine.specs.Jobs.{noted_start, started, unleft}
 use Rattle.flat_machine.specs.Machine.{after, replay}
 use Rattle.flat_machine.specs.Opening.{start}
-use Rattle.flat_machine.specs.Replies.{replied, edits_by, is_accepted}
+use Rattle.flat_machine.specs.Replies.{edits_by, failed_edits, is_accepted, replied, tells_failure}
+use Rattle.flat_machine.specs.Sights.{expected}
 use Rattle.flat_machine.specs.declared.opening.Opening.{Opening}
+use Rattle.flat_machine.proofs.Resting.{stepped_table}
+use Rattle.world_parts.specs.Comes.{Comes}
+use Rattle.world_parts.specs.Counting.{RunsOn}
 use Rattle.world_parts.specs.Face.{WorldSeen}
-use Rattle.qblk_run.specs.Run.{Account, LeavesFiles}
-use Rattle.qblk_run.specs.Worlds.{GoesThrough, IsLeftBy}
+use Rattle.qblk_run.specs.Worlds.{AreStartsBehind, GoesThrough, IsEndOf, IsGuardedFor, IsLeftAlone, IsLeftBy, IsReplyOf, IsUneventful, MakesEvent}
+use Rattle.qblk_run.proofs.History.{run-append}
+use Rattle.qblk_run.proofs.Lists.{at-with}
+use Rattle.qblk_run.proofs.SlotTurns.{job-there}
+use Rattle.qblk_run.proofs.Worlds.{guarded-kept, put-off-left}
 
--- ---- no change counts as the start of a job
+-- ---- the store tells as much behind each event
 
-name-starts : (name : Option (List ℕ)) (s : State) → (name_if name s).starts ≡ s.starts
-name-starts None s = refl
-name-starts (Some name) s = refl
+told-alone : (w v : WorldSeen) (e : Event) → IsLeftAlone w v e → is_some v.files ≡ is_some w.files
+told-alone w v (Admit g r op) left = ap (λ (u : WorldSeen). is_some u.files) left.1
+told-alone w v (Refuse g r op why) left = ap (λ (u : WorldSeen). is_some u.files) left.1
+told-alone w v (Piece g r k outcome got) left =
+    ap (λ (u : WorldSeen). is_some u.files) left.makes.made.kept
+    ∙ ap (λ (u : WorldSeen). is_some u.files) (guarded-kept w left.makes.between g left.flight left.makes.guarded)
+told-alone w v (Retire g r) left = ap (λ (u : WorldSeen). is_some u.files) left
+told-alone w v (Reached line what) left = ap (λ (u : WorldSeen). is_some u.files) left
+told-alone w v (End job why offset) left = ap (λ (u : WorldSeen). is_some u.files) left.ends.kept
+told-alone w v (Done actor) left = ap (λ (u : WorldSeen). is_some u.files) left
+told-alone w v (Start job) left = absurd left
+told-alone w v (Ready job) left = absurd left
+told-alone w v (Reply line given command text) left = absurd left
 
-know-starts : (name : Option (List ℕ)) (content : Content) (s : State) → (know_if name content s).starts ≡ s.starts
-know-starts None content s = refl
-know-starts (Some name) content s = refl
+told-starts : (t : RunTable) (w v : WorldSeen) (es : List Event) → AreStartsBehind t w v es → is_some v.files ≡ is_some w.files
+told-starts t w v [] begins = ap (λ (u : WorldSeen). is_some u.files) begins.kept
+told-starts t w v (Start job ∷ []) begins = ap (λ (u : WorldSeen). is_some u.files) begins.0.begins.kept
+told-starts t w v (Start job ∷ e ∷ es) begins = absurd begins
+told-starts t w v (Admit g r op ∷ es) begins = absurd begins
+told-starts t w v (Refuse g r op why ∷ es) begins = absurd begins
+told-starts t w v (Piece g r k outcome got ∷ es) begins = absurd begins
+told-starts t w v (Retire g r ∷ es) begins = absurd begins
+told-starts t w v (Reply line given command text ∷ es) begins = absurd begins
+told-starts t w v (Reached line what ∷ es) begins = absurd begins
+told-starts t w v (Ready job ∷ es) begins = absurd begins
+told-starts t w v (End job outcome offset ∷ es) begins = absurd begins
+told-starts t w v (Done actor ∷ es) begins = absurd begins
 
-image-starts : (driver : Kind) (node : ℕ) (mapped : Mapped) (s : State) → (note_image driver node mapped s).starts ≡ s.starts
-image-starts kind.Qcow2 node mapped s = refl
-image-starts _ node mapped s = refl
+told-by : (w v : WorldSeen) (e : Event) (es : List Event) → IsLeftBy w v e es → is_some v.files ≡ is_some w.files
+told-by w v (Reply line given command text) es left = told-starts w.table left.between v es left.begins ∙ left.replied.runs.told
+told-by w v (Admit g r op) es left = told-alone w v (Admit g r op) left.1
+told-by w v (Refuse g r op why) es left = told-alone w v (Refuse g r op why) left.1
+told-by w v (Piece g r k outcome got) es left = told-alone w v (Piece g r k outcome got) left.1
+told-by w v (Retire g r) es left = told-alone w v (Retire g r) left.1
+told-by w v (Reached line what) es left = told-alone w v (Reached line what) left.1
+told-by w v (Start job) es left = told-alone w v (Start job) left.1
+told-by w v (Ready job) es left = told-alone w v (Ready job) left.1
+told-by w v (End job outcome offset) es left = told-alone w v (End job outcome offset) left.1
+told-by w v (Done actor) es left = told-alone w v (Done actor) left.1
 
-leave-starts : (left : Option Left) (s : State) → (leave left s).starts ≡ s.starts
-leave-starts None s = refl
-leave-starts (Some left) s = refl
+pub uneventful-kept : (orders : List Order) (w v : WorldSeen) → IsUneventful orders w v → v ≡ record w { nodes = v.nodes; works = v.works; drains = v.drains }
+uneventful-kept orders w v (inl off) = rw (put-off-left orders w v off) refl
+uneventful-kept orders w v (inr (inl took)) = rw took.takes.copies.kept refl
+uneventful-kept orders w v (inr (inr settled)) = rw settled.settles.copies.kept refl
 
-only-starts : (only : Bool) (name : List ℕ) (s : State) → (if only then s else name_file name s).starts ≡ s.starts
-only-starts true name s = refl
-only-starts false name s = refl
+told-made : (orders : List Order) (w v : WorldSeen) (es : List Event) → MakesEvent orders w v es → is_some v.files ≡ is_some w.files
+told-made orders w v [] made = ap (λ (u : WorldSeen). is_some u.files) (uneventful-kept orders w v made)
+told-made orders w v (e ∷ es) made = told-by w v e es made.left
 
-file-starts : (row : NodeRecord) (s : State) → (add_file row s).starts ≡ s.starts
-file-starts row s =
-    let put_so : State = put row.id (file_bytes row.size (content_in s.files (name_of_file row))) s in
-    only-starts row.read_only (name_of_file row) put_so
+adds-made : (orders : List Order) (w v : WorldSeen) (es : List Event) → MakesEvent orders w v es → v.progress.log.events ≡ w.progress.log.events ++ es
+adds-made orders w v [] made = ap (λ (u : WorldSeen). u.progress.log.events) (uneventful-kept orders w v made) ∙ sym (append-nil w.progress.log.events)
+adds-made orders w v (e ∷ es) made = made.adds
 
-format-starts : (row : NodeRecord) (file : ℕ) (backing : Option ℕ) (s : State) → (add_format row file backing s).starts ≡ s.starts
-format-starts row file backing s =
-    let put_so : State = put row.id _ s in
-    know-starts _ _ (note_image row.kind row.id _ put_so) ∙ image-starts row.kind row.id _ put_so
+-- ---- what isn't accepted starts no job
 
-beside-starts : (s : State) (c : Change) → (beside s c).starts ≡ s.starts
-beside-starts s (change.MakeFile name size) = refl
-beside-starts s (change.FormatFile node name size backing_file backing_fmt) = refl
-beside-starts s (change.SpoilFile name) = refl
-beside-starts s (change.UseFile name) = refl
-beside-starts s (change.AddFile row) = file-starts row s
-beside-starts s (change.AddFormat row file backing) = format-starts row file backing s
-beside-starts s (change.RemoveNode node) = leave-starts _ s
-beside-starts s (change.MakeWritable node) = name-starts _ s
-beside-starts s (change.StartJob row) = name-starts _ s
-beside-starts s (change.Attach overlay node) = refl
-beside-starts s (change.AddBitmap row) = refl
-beside-starts s (change.RemoveBitmap node name) = refl
-beside-starts s (change.ClearBitmap node name) = refl
-beside-starts s (change.MergeBitmap node name source_node source) = refl
-beside-starts s _ = refl
+spoiled-starts : (t : RunTable) (c : Created (List ℕ)) (u : RunTable) → (all_changed u (spoiled t c)).started ≡ u.started
+unfolding changed
+spoiled-starts t (created.File c) u = refl
+spoiled-starts t (created.Qcow2 c) u = refl
+spoiled-starts t created.Unknown u = refl
 
-all-starts : (changes : List Change) (s : State) → (all_stepped s changes).starts ≡ s.starts
-all-starts [] s = refl
-all-starts (c ∷ changes) s = all-starts changes (stepped s c) ∙ beside-starts s c
+failed-starts : (t : RunTable) (c : Cmd) (u : RunTable) → (all_changed u (failed_edits t c)).started ≡ u.started
+failed-starts t (command.BlockdevCreate c) u = spoiled-starts t c.options u
+failed-starts t _ u = refl
 
--- ---- one entry is one event
-
--- an entry of an actor
-abbrev IsOfActor : Event → Type 0
-IsOfActor (Start job) = ⊥
-IsOfActor (Ready job) = ⊥
-IsOfActor (End job outcome offset) = ⊥
-IsOfActor e = Unit {0}
-
-abbrev AreOfActors : List Event → Type 0
-AreOfActors [] = Unit {0}
-AreOfActors (e ∷ h) = IsOfActor e × AreOfActors h
-
--- such an entry stands at rest
-turn-rest : (s : State) (e : Event) → IsOfActor e → InTurn s e → IsAtRest s
-turn-rest s (Admit g r op) own turn = turn
-turn-rest s (Refuse g r op why) own turn = turn
-turn-rest s (Piece g r k outcome got) own turn = turn
-turn-rest s (Retire g r) own turn = turn
-turn-rest s (Reply line given command text) own turn = turn
-turn-rest s (Reached line what) own turn = turn
-turn-rest s (Start job) own turn = absurd own
-turn-rest s (Ready job) own turn = absurd own
-turn-rest s (End job outcome offset) own turn = absurd own
-turn-rest s (Done actor) own turn = turn
-
-minus-self : (n : ℕ) → n - n ≡ 0
-minus-self n = omega arith
-
--- a reply behind which nothing is still to start has started nothing
-no-starts : (s : State) (given text : List ℕ) → IsAtRest s → IsAtRest (replied s given text) → starts_of s given text ≡ []
-no-starts s given text rest later = by_accepted (is_accepted text)
+unaccepted-starts : (s : State) (text : List ℕ) (r : Result Cmd Stop) → is_accepted text ≡ false → (all_changed s.table (edits_by s text r)).started ≡ s.table.started
+unaccepted-starts s text (Err why) not = refl
+unaccepted-starts s text (Ok c) not = by_tests (is_accepted text) not (tells_failure text)
   where
-    same : (replied s given text).table.started ≡ s.table.started
-    same = sym later.started ∙ (all-starts (edits_by s text (command_at given)) s ∙ rest.started)
+    by_tests : (a : Bool) → a ≡ false → (b : Bool)
+        → (all_changed s.table (if a then command_edits s.table (expected s c) c else if b then failed_edits s.table c else [])).started ≡ s.table.started
+    by_tests true is b = absurd (false≢true (sym is))
+    by_tests false is true = failed-starts s.table c s.table
+    by_tests false is false = refl
 
-    none : new_jobs s given text ≡ 0
-    none = ap (λ (n : ℕ). n - s.table.started) same ∙ minus-self s.table.started
+-- ---- the entries of one event
 
-    by_accepted : (b : Bool) → (if b then map Start (range_with_len s.table.started (new_jobs s given text)) else []) ≡ []
-    by_accepted true = ap (λ (n : ℕ). map Start (range_with_len s.table.started n)) none
-    by_accepted false = refl
+module _ (s : State) (given text : List ℕ) where
+  now : ℕ
+  now = (replied s given text).table.started
 
-one-event : (s : State) (e : Event) → IsOfActor e → IsAtRest s → IsAtRest (after s e) → IsEvent s (e ∷ [])
-one-event s (Admit g r op) own rest later = refl
-one-event s (Refuse g r op why) own rest later = refl
-one-event s (Piece g r k outcome got) own rest later = refl
-one-event s (Retire g r) own rest later = refl
-one-event s (Reply line given command text) own rest later = sym (no-starts s given text rest later)
-one-event s (Reached line what) own rest later = refl
-one-event s (Start job) own rest later = absurd own
-one-event s (Ready job) own rest later = absurd own
-one-event s (End job outcome offset) own rest later = absurd own
-one-event s (Done actor) own rest later = refl
+  minus : (n m k : ℕ) → n ≡ m + k → n - m ≡ k
+  minus n m k is = omega (arith, is)
 
--- ---- a history of them
+  no-starts : (replied s given text).table.started ≡ s.table.started → starts_of s given text ≡ []
+  no-starts same = by_accepted (is_accepted text)
+    where
+      none : new_jobs s given text ≡ 0
+      none = let is = same in omega (arith, is)
 
-abbrev alone : Event → List Event
-alone e = e ∷ []
+      by_accepted : (b : Bool) → (if b then map Start (range_with_len s.table.started (new_jobs s given text)) else []) ≡ []
+      by_accepted true = ap (λ (n : ℕ). map Start (range_with_len s.table.started n)) none
+      by_accepted false = refl
 
-all-alone : (h : List Event) → all_of (map alone h) ≡ h
-all-alone [] = refl
-all-alone (e ∷ h) = ap (λ (es : List Event). e ∷ es) (all-alone h)
+  one-start : (replied s given text).table.started ≡ s.table.started + 1 → starts_of s given text ≡ Start s.table.started ∷ []
+  one-start more = by_accepted (is_accepted text) refl
+    where
+      one : new_jobs s given text ≡ 1
+      one = let is = more in omega (arith, is)
 
-rest-before : (s : State) (h : List Event) → AreOfActors h → Legal s h → IsAtRest (replay s h) → IsAtRest s
-rest-before s [] own legal rest = rest
-rest-before s (e ∷ h) own legal rest = turn-rest s e own.0 legal.0.0
+      by_accepted : (b : Bool) → is_accepted text ≡ b → (if b then map Start (range_with_len s.table.started (new_jobs s given text)) else []) ≡ Start s.table.started ∷ []
+      by_accepted true e = ap (λ (n : ℕ). map Start (range_with_len s.table.started n)) one
+      by_accepted false e =
+          let same = ap (λ (t : RunTable). t.started) (stepped_table (edits_by s text (command_at given)) s) ∙ unaccepted-starts s text (command_at given) e in
+          absurd (let is = more in omega (arith, is, same))
 
-are-events : (s : State) (h : List Event) → AreOfActors h → Legal s h → IsAtRest (replay s h) → AreEvents s (map alone h)
-are-events s [] own legal rest = tt
-are-events s (e ∷ h) own legal rest = (
-  one-event s e own.0 (turn-rest s e own.0 legal.0.0) (rest-before (after s e) h own.1 legal.1 rest),
-  are-events (after s e) h own.1 legal.1 rest,
-)
+unleft-table : (name : Option (List ℕ)) (s : State) → (unleft name s).table ≡ s.table
+unleft-table None s = refl
+unleft-table (Some name) s = refl
 
-of-actor : (w v : WorldSeen) (e : Event) → IsLeftBy w v e → IsOfActor e
-of-actor w v (Admit g r op) left = tt
-of-actor w v (Refuse g r op why) left = tt
-of-actor w v (Piece g r k outcome got) left = tt
-of-actor w v (Retire g r) left = tt
-of-actor w v (Reply line given command text) left = tt
-of-actor w v (Reached line what) left = tt
-of-actor w v (Start job) left = absurd left
-of-actor w v (Ready job) left = absurd left
-of-actor w v (End job outcome offset) left = absurd left
-of-actor w v (Done actor) left = tt
+started-table : (s : State) (row : Option JobRecord) → (started s row).table ≡ s.table
+started-table s None = refl
+started-table s (Some row) = unleft-table _ (noted_start s row)
 
-of-actors : (o : Opening) (c : Course) (w : WorldSeen) (h : List Event) (v : WorldSeen) → GoesThrough o c w h v → AreOfActors h
-of-actors o c w [] v through = tt
-of-actors o c w (e ∷ h) v through =
-    (of-actor through.0 through.1 e through.4.left, of-actors o (onward c e) through.1 h v through.5)
+module _ (o : Opening) (w x : WorldSeen) (comes : Comes o w) (told : is_some w.files ≡ true) (then' : Comes o x) where
+  abbrev state : State
+  state = replay (start o) w.progress.log.events
 
--- ---- a run
+  table-is : state.table ≡ w.table
+  table-is = (comes.shows told).table.table_is
 
-told-history : (a : Account) (fault : Option FaultAt) (files now : Option (List File)) → is_some files ≡ true → IfTold files (λ told. With now (LeavesFiles a fault))
-    → IsHistoryOf a.opening a.events
-told-history a fault None now told leaves = absurd (false≢true told)
-told-history a fault (Some files) None told leaves = absurd leaves
-told-history a fault (Some files) (Some now) told leaves = leaves.history
+  -- the state behind the event
+  module _ (h : List Event) (adds : x.progress.log.events ≡ w.progress.log.events ++ h) (same : is_some x.files ≡ is_some w.files) where
+    behind : (replay state h).table ≡ x.table
+    behind =
+        ap (λ (s : State). s.table) (sym (run-append after (start o) w.progress.log.events h) ∙ ap (replay (start o)) (sym adds))
+        ∙ (then'.shows (same ∙ told)).table.table_is
 
-pub falls : (o : Opening) (c : Course) (w : WorldSeen) (h : List Event) (v : WorldSeen) → GoesThrough o c w h v → IsHistoryOf o h → FallsIntoEvents (start o) h
-falls o c w h v through is = (map alone h, all-alone h, are-events (start o) h (of-actors o c w h v through) is.legal is.rest)
+  reply-starts : (line : ℕ) (given : List ℕ) (command' : Option Cmd) (text : List ℕ) (es : List Event) → IsReplyOf w x line given text es
+      → x.progress.log.events ≡ w.progress.log.events ++ Reply line given command' text ∷ es → is_some x.files ≡ is_some w.files → es ≡ starts_of state given text
+  reply-starts line given command' text [] reply adds same =
+      let table = behind (Reply line given command' text ∷ []) adds same in
+      let more : (replied state given text).table.started ≡ state.table.started =
+      ap (λ (t : RunTable). t.started) table ∙ ap (λ (u : WorldSeen). u.table.started) reply.begins.kept ∙ reply.begins.started ∙ ap (λ (t : RunTable). t.started) (sym table-is) in
+      sym (no-starts state given text more)
+  reply-starts line given command' text (Start job ∷ []) reply adds same =
+      let one = reply.begins.0 in
+      let table = behind (Reply line given command' text ∷ Start job ∷ []) adds same in
+      let first : (started (replied state given text) (job_at (replied state given text).table job)).table ≡ (replied state given text).table =
+      started-table (replied state given text) (job_at (replied state given text).table job) in
+      let more : (replied state given text).table.started ≡ state.table.started + 1 =
+      ap (λ (t : RunTable). t.started) (sym first ∙ table) ∙ ap (λ (u : WorldSeen). u.table.started) one.begins.kept ∙ one.started
+      ∙ ap (λ (t : RunTable). t.started + 1) (sym table-is) in
+      let number : job ≡ state.table.started = sym reply.begins.1 ∙ one.number ∙ ap (λ (t : RunTable). t.started) (sym table-is) in
+      ap (λ (n : ℕ). Start n ∷ []) number ∙ sym (one-start state given text more)
+  reply-starts line given command' text (Start job ∷ e ∷ es) reply adds same = absurd reply.begins
+  reply-starts line given command' text (Admit g r op ∷ es) reply adds same = absurd reply.begins
+  reply-starts line given command' text (Refuse g r op why ∷ es) reply adds same = absurd reply.begins
+  reply-starts line given command' text (Piece g r k outcome got ∷ es) reply adds same = absurd reply.begins
+  reply-starts line given command' text (Retire g r ∷ es) reply adds same = absurd reply.begins
+  reply-starts line given command' text (Reply n other command'' words ∷ es) reply adds same = absurd reply.begins
+  reply-starts line given command' text (Reached n what ∷ es) reply adds same = absurd reply.begins
+  reply-starts line given command' text (Ready job ∷ es) reply adds same = absurd reply.begins
+  reply-starts line given command' text (End job outcome offset ∷ es) reply adds same = absurd reply.begins
+  reply-starts line given command' text (Done actor ∷ es) reply adds same = absurd reply.begins
 
-pub run-falls : (a : Account) (fault : Option FaultAt) (files now : Option (List File)) → is_some files ≡ true → IfTold files (λ told. With now (LeavesFiles a fault))
-    → (c : Course) (w v : WorldSeen) → GoesThrough a.opening c w a.events v → FallsIntoEvents (start a.opening) a.events
-run-falls a fault files now told leaves c w v through = falls a.opening c w a.events v through (told-history a fault files now told leaves)
+  -- a lone job ends alone
+  end-alone : (job : ℕ) (why : JobEnd) (offset : ℕ) (es : List Event) → es ≡ [] → IsEndOf w x job why offset
+      → With (job_at state.table job) (λ row. AreEnds state.table row.group (End job why offset ∷ es))
+  end-alone job why offset es none ends =
+      let there : job_at w.table job ≡ Some ends.row = ap (job_at w.table) (sym ends.number) ∙ ends.ends.there in
+      let lone = comes.jobs.lone ends.row (job-there w.table ends.row.number ends.row ends.ends.there) in
+      at-with (job_at state.table job) ends.row (λ row. AreEnds state.table row.group (End job why offset ∷ es)) (ap (λ (t : RunTable). job_at t job) table-is ∙ there)
+      (subst (λ (group : Option ℕ). AreEnds state.table group (End job why offset ∷ es)) (sym lone.group) none)
+
+  one-event : (e : Event) (es : List Event) → IsLeftBy w x e es → x.progress.log.events ≡ w.progress.log.events ++ e ∷ es → is_some x.files ≡ is_some w.files
+      → IsEvent state (e ∷ es)
+  one-event (Reply line given command' text) es left adds same = reply-starts line given command' text es left adds same
+  one-event (Admit g r op) es left adds same = left.0
+  one-event (Refuse g r op why) es left adds same = left.0
+  one-event (Piece g r k outcome got) es left adds same = left.0
+  one-event (Retire g r) es left adds same = left.0
+  one-event (Reached line what) es left adds same = left.0
+  one-event (Start job) es left adds same = absurd left.1
+  one-event (Ready job) es left adds same = absurd left.1
+  one-event (End job why offset) es left adds same = end-alone job why offset es left.0 left.1
+  one-event (Done actor) es left adds same = left.0
+
+  made-event : (orders : List Order) (es : List Event) → MakesEvent orders w x es → IsEvent state es
+  made-event orders [] made = tt
+  made-event orders (e ∷ es) made = one-event e es made.left made.adds (told-by w x e es made.left)
+
+-- ---- all of them
+
+-- the world that events begin with comes of the opening
+first-comes : (o : Opening) (c : Course) (w : WorldSeen) (events : List (List Event)) (v : WorldSeen) → GoesThrough o c w events v → Comes o w
+first-comes o c w [] v through = through.1
+first-comes o c w (es ∷ events) v through = through.1
+
+are-events : (o : Opening) (c : Course) (w : WorldSeen) (events : List (List Event)) (v : WorldSeen) → GoesThrough o c w events v → is_some w.files ≡ true
+    → AreEvents (replay (start o) w.progress.log.events) events
+are-events o c w [] v through told = tt
+are-events o c w (es ∷ events) v through told =
+    let x = through.0 in
+    let next = first-comes o (course_after c es) x events v through.3 in
+    let rest = are-events o (course_after c es) x events v through.3 (told-made c.script w x es through.2 ∙ told) in
+    let here : replay (start o) x.progress.log.events ≡ replay (replay (start o) w.progress.log.events) es =
+    ap (replay (start o)) (adds-made c.script w x es through.2) ∙ run-append after (start o) w.progress.log.events es in (
+      made-event o w x through.1 told next c.script es through.2,
+      subst (λ (s : State). AreEvents s events) here rest,
+    )
+
+-- a run from a world without entries
+pub run-falls : (o : Opening) (c : Course) (w : WorldSeen) (events : List (List Event)) (v : WorldSeen) (h : List Event) → w.progress.log.events ≡ [] → is_some w.files ≡ true
+    → GoesThrough o c w events v → all_of events ≡ h → FallsIntoEvents (start o) h
+run-falls o c w events v h none told through all =
+    (events, all, subst (λ (before : List Event). AreEvents (replay (start o) before) events) none (are-events o c w events v through told))

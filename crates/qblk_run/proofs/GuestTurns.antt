@@ -19,6 +19,8 @@ use Rattle.blk_history.specs.Machine.{Flight, one_further}
 use Rattle.blk_history.specs.declared.entry.Refused.{Refused}
 use Rattle.blk_history.specs.declared.event.Event.{Event}
 use Rattle.blk_history.specs.declared.event.Event.TheVariants.{Admit, Refuse, Piece, Retire, Reply, Reached, Start, Ready, End, Done}
+use Rattle.qmp_rules.specs.Chains.{disk_node, written_under}
+use Rattle.qmp_rules.specs.Table.{RunTable}
 use Rattle.flat_machine.specs.State.{Guest}
 use Rattle.flat_machine.specs.Machine.{admitted, finished, past_piece}
 use Rattle.flat_machine.specs.Courses.{past_waits}
@@ -28,13 +30,16 @@ use Rattle.flat_machine.specs.Blocked.{TraceWaits}
 use Rattle.flat_machine.specs.Marks.{is_guest_held}
 use Rattle.world_parts.specs.declared.admission.Admission.TheVariants.{Admitted, Refused as NotAdmitted, Away}
 use Rattle.world_parts.specs.Face.{WorldSeen, seen_state}
-use Rattle.world_pieces.specs.Pieces.{IsPieceMade, HasPieceLicence}
-use Rattle.world_parts.specs.Piecing.{shown_in_flight}
+use Rattle.world_parts.specs.Piecing.{shown_in_flight, table_after}
 use Rattle.world_parts.specs.Progress.{Progress, ended_in, answered_in, requests_done, flight_at, with_piece_entry, with_retirement, IsFree, HasNext, CanShow, HasRoomFor}
 use Rattle.world_parts.specs.Steps.{with_history, after_admission, after_actor_end, IsAnswered, IsActorIdle}
 use Rattle.qblk_inputs.specs.Room.{entries_for, bytes_for, HaveNumbers}
 use Rattle.qblk_run.specs.Tasks.{Task, IsTaskOf, IsTaskIn, HasPiecesLeft, IsFlying, flight_entries, entries_to_come, steps_of, end_entries}
-use Rattle.qblk_run.specs.Turns.{IsOwnMove, MakesMove, IsTurn}
+use Rattle.qblk_run.specs.Slots.{NoneFlies}
+use Rattle.qblk_run.specs.Turns.{IsOwnMove, KeepsBeside, MakesMove, IsTurn}
+use Rattle.qblk_run.specs.Worlds.{IsGuardedFor, MakesPiece}
+use Rattle.qblk_run.proofs.Counts.{flights-found, flights-with, guard-lands}
+use Rattle.qblk_run.proofs.Worlds.{guarded-kept}
 use Rattle.qblk_run.proofs.Lists.{with-at, at-with, with-some, get-change, none-has, below-get}
 use Rattle.qblk_run.proofs.Waits.{through, grows-same, entries-past, bytes-past}
 use Rattle.qblk_run.proofs.Continuing.{Passes, entries-same, bytes-same, passed-task}
@@ -135,16 +140,52 @@ left-next n f outcome left is good bad = by_test (is_good outcome) refl
 
 -- what a piece notes
 pub piece-noted : (w v : WorldSeen) (g : ℕ) (outcome : Outcome) → With (flight_at w.progress.guests g) HasNext
-    → ((f : Flight) → flight_at w.progress.guests g ≡ Some f → (made : IsPieceMade w v g f outcome) × HasPieceLicence w v g f outcome made)
+    → ((f : Flight) → flight_at w.progress.guests g ≡ Some f → MakesPiece w v g f outcome)
     → (f : Flight) → flight_at w.progress.guests g ≡ Some f → (got : List ℕ) × (v.progress ≡ with_piece_entry g f.next outcome got w.progress) × CanShow (length got) f
-piece-noted w v g outcome can made f there =
-    let its = (made f there).0 in
+piece-noted w v g outcome can makes f there =
+    let its = makes f there in
     let next = with-at (flight_at w.progress.guests g) f HasNext there can in
-    (shown_in_flight f outcome its.buffer, ap (λ (u : WorldSeen). u.progress) its.kept, record { next = next.next; shown = its.shown })
+    let same : its.between.progress ≡ w.progress = ap (λ (u : WorldSeen). u.progress) (guarded-kept w its.between g f its.guarded) in (
+      shown_in_flight f outcome its.made.buffer,
+      ap (λ (u : WorldSeen). u.progress) its.made.kept ∙ ap (with_piece_entry g f.next outcome (shown_in_flight f outcome its.made.buffer)) same,
+      record { next = next.next; shown = its.made.shown },
+    )
 
--- and leaves of drains
-pub piece-drains : (w v : WorldSeen) (g : ℕ) (f : Flight) (outcome : Outcome) → IsPieceMade w v g f outcome → v.drains ≡ w.drains
-piece-drains w v g f outcome made = ap (λ (u : WorldSeen). u.drains) made.kept
+-- ---- beside entries
+
+pub beside-kept : (w v : WorldSeen) → v.drains ≡ w.drains → v.table ≡ w.table → v.works ≡ w.works → KeepsBeside w v
+beside-kept w v drains table works = record {
+  drains = drains;
+  started = ap (λ (t : RunTable). t.started) table;
+  flights = λ none. subst NoneFlies (sym works) none;
+}
+
+started-after : (op : Op) (node : ℕ) (t : RunTable) → (table_after op node t).started ≡ t.started
+unfolding written_under
+started-after (Read span) node t = refl
+started-after (Write span payload) node t = refl
+started-after (Zero span) node t = refl
+started-after Flush node t = refl
+started-after (Discard span) node t = refl
+
+guard-flights : (w v : WorldSeen) (g : ℕ) (f : Flight) → IsGuardedFor w v g f → NoneFlies w.works → NoneFlies v.works
+guard-flights w v g f (inl same) none = subst NoneFlies (ap (λ (u : WorldSeen). u.works) (sym same)) none
+guard-flights w v g f (inr guards) none =
+    let change = guards.guards.guards in
+    let landed : change.now.rows ≡ [] = guard-lands w.nodes v.nodes change.was change.now guards.row.source guards.target guards.block
+    (flights-found w.works guards.row.number change.was none change.there) change.done.guards in
+    subst NoneFlies (sym change.kept) (flights-with change.now w.works landed none)
+
+pub piece-beside : (w v : WorldSeen) (g : ℕ) (f : Flight) (outcome : Outcome) → MakesPiece w v g f outcome → KeepsBeside w v
+piece-beside w v g f outcome makes =
+    let x = makes.between in
+    let made = makes.made in
+    let before = guarded-kept w x g f makes.guarded in
+    record {
+      drains = ap (λ (u : WorldSeen). u.drains) made.kept ∙ ap (λ (u : WorldSeen). u.drains) before;
+      started = ap (λ (u : WorldSeen). u.table.started) made.kept ∙ started-after f.op (disk_node x.table made.drive) x.table ∙ ap (λ (u : WorldSeen). u.table.started) before;
+      flights = λ none. subst NoneFlies (sym (ap (λ (u : WorldSeen). u.works) made.kept)) (guard-flights w x g f makes.guarded none);
+    }
 
 -- ---- each event
 
@@ -172,6 +213,8 @@ module _ (w v : WorldSeen) (g : ℕ) (before after : Task) (is : IsTaskIn w.prog
           entries = rw (wishes, done) (omega arith);
           bytes = rw wishes (omega arith);
           steps = rw (wishes, done, left, flying) (omega arith);
+          aside = refl;
+          jobs = refl;
           shown = omega arith;
         }),
       )
@@ -207,6 +250,8 @@ module _ (w v : WorldSeen) (g : ℕ) (before after : Task) (is : IsTaskIn w.prog
           entries = rw (wishes, done) (omega arith);
           bytes = rw wishes (omega arith);
           steps = rw (wishes, done, left, flying) (omega arith);
+          aside = refl;
+          jobs = refl;
           shown = shows-short f.0.op f.0.next (length got.0) got.2.shown;
         }),
       )
@@ -238,6 +283,8 @@ module _ (w v : WorldSeen) (g : ℕ) (before after : Task) (is : IsTaskIn w.prog
           entries = rw (wishes, done, used, going) (omega arith);
           bytes = rw (wishes, used) (omega arith);
           steps = rw (wishes, done, left, used, going, idle) (omega arith);
+          aside = refl;
+          jobs = refl;
           shown = omega arith;
         }),
       )
@@ -268,6 +315,8 @@ module _ (w v : WorldSeen) (g : ℕ) (before after : Task) (is : IsTaskIn w.prog
           entries = rw (next, done) (omega arith);
           bytes = rw next (omega arith);
           steps = rw (next, done, left, idle) (omega arith);
+          aside = refl;
+          jobs = refl;
           shown = omega arith;
         }),
       )
@@ -299,6 +348,8 @@ module _ (w v : WorldSeen) (g : ℕ) (before after : Task) (is : IsTaskIn w.prog
           entries = rw (next, done) (omega arith);
           bytes = rw next (omega arith);
           steps = rw (next, done, left, idle) (omega arith);
+          aside = refl;
+          jobs = refl;
           shown = omega arith;
         }),
       )
@@ -351,6 +402,8 @@ move-passed p q g before mid after passes (e, move) =
         entries = omega arith;
         bytes = omega arith;
         steps = omega arith;
+        aside = move.aside;
+        jobs = move.jobs;
         shown = move.shown;
       },
     )
@@ -361,8 +414,8 @@ passed-twice : (a : List ℕ) (before after : Task) → Passes a before after �
 passed-twice a before after passes = ap (past_waits a) passes.wishes ∙ through a a (grows-same a) before.wishes ∙ sym passes.wishes
 
 module _ (w v : WorldSeen) (g : ℕ) (before mid after : Task) (passes : Passes (answered_in w.progress.log.events) before mid) where
-  pub ask-moves : MakesMove w.progress v.progress g mid after → v.drains ≡ w.drains → IsTurn w v g before after true
-  ask-moves move drains = (move-passed w.progress v.progress g before mid after passes move, drains)
+  pub ask-moves : MakesMove w.progress v.progress g mid after → KeepsBeside w v → IsTurn w v g before after true
+  ask-moves move beside = (move-passed w.progress v.progress g before mid after passes move, beside)
 
   -- a drain holds it
   pub ask-held : after ≡ mid → v ≡ w → mid.left ≡ None → is_guest_held (seen_state w) w.drains g ≡ true → IsTurn w v g before after false

@@ -4,6 +4,7 @@ use Rattle.std.proofs.lemmas.List.{append-nil}
 use Rattle.trace_codec.specs.declared.wish.Wish.{Wish}
 use Rattle.blk_history.specs.declared.event.Event.{Event}
 use Rattle.blk_history.specs.declared.event.Event.TheVariants.{Admit, Refuse, Piece, Retire, Reply, Reached, Start, Ready, End, Done}
+use Rattle.blk_history.specs.Fold.{Each, run}
 use Rattle.blk_history.proofs.Folds.{run-push}
 use Rattle.flat_machine.specs.Courses.{Course, course_after, onward, past_waits, behind}
 use Rattle.world_parts.specs.Progress.{answered_in, ended_in}
@@ -41,6 +42,20 @@ course-ended c (End job outcome offset ∷ h) = course-ended c h
 -- one more entry
 pub course-push : (c : Course) (h : List Event) (e : Event) → course_after c (h ++ e ∷ []) ≡ onward (course_after c h) e
 course-push c h e = run-push onward c h e
+
+-- and several
+pub course-append : (c : Course) (h es : List Event) → course_after c (h ++ es) ≡ course_after (course_after c h) es
+course-append c [] es = refl
+course-append c (e ∷ h) es = course-append (onward c e) h es
+
+pub run-append : {S E : Type 0} (step : S → E → S) (s : S) (es more : List E) → run step s (es ++ more) ≡ run step (run step s es) more
+run-append step s [] more = refl
+run-append step s (x ∷ es) more = run-append step (step s x) es more
+
+pub each-append : {S E : Type 0} (step : S → E → S) (P : S → E → Type 0) (s : S) (es more : List E) → Each step P s es → Each step P (run step s es) more
+    → Each step P s (es ++ more)
+each-append step P s [] more all rest = rest
+each-append step P s (x ∷ es) more all rest = (all.0, each-append step P (step s x) es more all.1 rest)
 
 -- there are as many traces
 pub traces-onward : (c : Course) (e : Event) → length (onward c e).traces ≡ length c.traces

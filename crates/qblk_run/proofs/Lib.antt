@@ -25,3 +25,14 @@ pub mod Runs
 pub mod Completes
 pub mod Unharmed
 pub mod Falling
+pub mod Counts
+pub mod EndsLeave
+pub mod Ids
+pub mod SlotTurns
+pub mod Blocks
+pub mod Bounds
+pub mod Turning
+pub mod Named
+pub mod Taken
+pub mod Staying
+pub mod Settling

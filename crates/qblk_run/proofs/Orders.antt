@@ -7,13 +7,15 @@ use Rattle.trace_codec.specs.declared.wish.Wish.TheVariants.{Ask}
 use Rattle.trace_codec.specs.Script.{Order}
 use Rattle.blk_history.specs.Fold.{With, change}
 use Rattle.blk_history.specs.Line.{IsActorNamed}
+use Rattle.blk_history.specs.Names.{JobLine, RowNames}
 use Rattle.blk_history.specs.declared.event.Event.{Event}
 use Rattle.blk_history.specs.declared.event.Event.TheVariants.{Admit, Refuse, Piece, Retire, Reply, Reached, Start, Ready, End, Done}
 use Rattle.blk_history.proofs.Folds.{each-push}
 use Rattle.flat_machine.specs.Courses.{Course, course_of, course_after, onward, IsOwn, past_waits, behind, rest_of, IsNextOf, CanBeDone}
+use Rattle.world_parts.specs.Face.{WorldSeen}
 use Rattle.world_parts.specs.Progress.{Progress, answered_in}
-use Rattle.qblk_run.specs.Tasks.{Task, ScriptTask, AreRestsOf, IsRestOf, KeepsTo, CanHaveLine, CanHaveLines, guests_only}
-use Rattle.qblk_run.specs.Turns.{IsOwnMove, IsMove, Asks, Ends}
+use Rattle.qblk_run.specs.Tasks.{Task, ScriptTask, AreJobsNamed, AreRestsOf, CanHaveLine, CanHaveLines, CanPrintSoFar, IsRestOf, KeepsTo, names_in}
+use Rattle.qblk_run.specs.Turns.{Asks, Ends, IsMove, IsOwnMove, KeepsBeside}
 use Rattle.qblk_run.proofs.Lists.{same_or_not, get-set, get-set-other, get-change, get-change-other, with-map, below-get}
 use Rattle.qblk_run.proofs.History.{course-answered, course-push}
 
@@ -143,27 +145,41 @@ module _ (p q : Progress) (script : ScriptTask) (tasks : List Task) (g : ℕ) (b
 
 -- ---- lines
 
-pub lines-push : (guests : List (List ℕ)) (es : List Event) (e : Event) → CanHaveLines guests es → CanHaveLine guests e → CanHaveLines guests (es ++ e ∷ [])
-lines-push guests [] e all one = (one, tt)
-lines-push guests (x ∷ es) e all one = (all.0, lines-push guests es e all.1 one)
+pub lines-push : (names : RowNames) (es : List Event) (e : Event) → CanHaveLines names es → CanHaveLine names e → CanHaveLines names (es ++ e ∷ [])
+lines-push names [] e all one = (one, tt)
+lines-push names (x ∷ es) e all one = (all.0, lines-push names es e all.1 one)
 
-has-name : (guests : List (List ℕ)) (a : List ℕ) (g : ℕ) (before after : Task) (e : Event) → IsOwnMove a g before after e → g < length guests → IsActorNamed (guests_only guests) e
-has-name guests a g before after (Admit n r op) own known = rw own.0 known
-has-name guests a g before after (Refuse n r op why) own known = rw own.0 known
-has-name guests a g before after (Piece n r k outcome got) own known = rw own.0 known
-has-name guests a g before after (Retire n r) own known = rw own.0 known
-has-name guests a g before after (Done actor) own known = rw (own.0, add-one g) known
-has-name guests a g before after (Reply line given command text) own known = absurd own
-has-name guests a g before after (Reached line what) own known = absurd own
-has-name guests a g before after (Start job) own known = absurd own
-has-name guests a g before after (Ready job) own known = absurd own
-has-name guests a g before after (End job outcome offset) own known = absurd own
+has-name : (names : RowNames) (a : List ℕ) (g : ℕ) (before after : Task) (e : Event) → IsOwnMove a g before after e → g < length names.guests → IsActorNamed names e
+has-name names a g before after (Admit n r op) own known = rw own.0 known
+has-name names a g before after (Refuse n r op why) own known = rw own.0 known
+has-name names a g before after (Piece n r k outcome got) own known = rw own.0 known
+has-name names a g before after (Retire n r) own known = rw own.0 known
+has-name names a g before after (Done actor) own known = rw (own.0, add-one g) known
+has-name names a g before after (Reply line given command text) own known = absurd own
+has-name names a g before after (Reached line what) own known = absurd own
+has-name names a g before after (Start job) own known = absurd own
+has-name names a g before after (Ready job) own known = absurd own
+has-name names a g before after (End job outcome offset) own known = absurd own
 
-pub move-lines : (p q : Progress) (tasks : List Task) (g : ℕ) (before after : Task) (e : Event) → slice_get tasks g ≡ Some before → IsMove p q g before after e
-    → (guests : List (List ℕ)) → length tasks ≤ length guests → CanHaveLines guests p.log.events → CanHaveLines guests q.log.events
-move-lines p q tasks g before after e there move guests many lines =
+-- where no job begins and these entries have lines, those so far have
+pub prints-on : (guests : List (List ℕ)) (w v : WorldSeen) → v.progress.jobs ≡ w.progress.jobs → v.table.started ≡ w.table.started
+    → CanHaveLines (names_in guests w.progress) v.progress.log.events → CanPrintSoFar guests w → CanPrintSoFar guests v
+prints-on guests w v jobs started lines was = record {
+  can = record {
+    lines = subst (λ (lines : List JobLine). CanHaveLines (record { guests = guests; jobs = lines }) v.progress.log.events) (sym jobs) lines;
+    ids = subst AreJobsNamed (sym jobs) was.can.ids;
+  };
+  started = ap length jobs ∙ was.started ∙ sym started;
+}
+
+pub move-lines : (w v : WorldSeen) (tasks : List Task) (g : ℕ) (before after : Task) (e : Event) → slice_get tasks g ≡ Some before
+    → IsMove w.progress v.progress g before after e → KeepsBeside w v
+    → (guests : List (List ℕ)) → length tasks ≤ length guests → CanPrintSoFar guests w → CanPrintSoFar guests v
+move-lines w v tasks g before after e there move beside guests many was =
     let known = below-get tasks g before there in
-    rw move.events (lines-push guests p.log.events e lines (record {
-      named = has-name guests (answered_in p.log.events) g before after e move.own (omega arith);
+    let names = names_in guests w.progress in
+    prints-on guests w v move.jobs beside.started
+    (rw move.events (lines-push names w.progress.log.events e was.can.lines (record {
+      named = has-name names (answered_in w.progress.log.events) g before after e move.own (omega arith);
       shown = move.shown;
-    }))
+    }))) was

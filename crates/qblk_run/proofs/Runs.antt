@@ -1,5 +1,5 @@
 -- A run from its inputs on.
-use Rattle.std.proofs.Common.{◌≡◌, ℕ, ◌+◌, ◌≤◌, false, List, [], ◌∷◌, length, map, refl, sym, ◌∙◌, ap, subst, arith, Option, Some, None, inl, inr, Vec, Global}
+use Rattle.std.proofs.Common.{◌≡◌, ℕ, ◌+◌, ◌*◌, ◌≤◌, false, List, [], ◌∷◌, length, map, refl, sym, ◌∙◌, ap, subst, arith, Option, Some, None, inl, inr, Vec, Global}
 use Rattle.std.specs.Prelude.{vec_len, IfSome}
 use Rattle.std.proofs.lemmas.List.{length-map}
 use Rattle.blk_base.specs.Files.{IfTold}
@@ -12,6 +12,7 @@ use Rattle.blk_base.specs.declared.memory.Room.{Room}
 use Rattle.trace_codec.specs.declared.waits.Waits.{Waits}
 use Rattle.trace_codec.specs.declared.wish.Wish.{Wish}
 use Rattle.trace_codec.specs.Script.{Order}
+use Rattle.blk_history.specs.Names.{JobLine}
 use Rattle.blk_history.specs.Recorded.{Recorded}
 use Rattle.flat_machine.specs.Courses.{KeepsOrder, course_of, course_after}
 use Rattle.flat_machine.specs.declared.opening.Opening.{Opening}
@@ -34,12 +35,13 @@ use Rattle.qblk_run.specs.Run.{Setting, Answers, history_room, status_of}
 use Rattle.qblk_run.specs.Session.{IsPlayed, IsGivenUp}
 use Rattle.blk_history.specs.Transcript.{transcript}
 use Rattle.qblk_run.specs.Ending.{EndsAs}
-use Rattle.qblk_run.specs.Tasks.{Tasks, ScriptTask, AreDrainsOf, CanGoOn, CanHaveLines, guests_only}
+use Rattle.qblk_run.specs.Slots.{NoneFlies, StandsInRun}
+use Rattle.qblk_run.specs.Tasks.{Tasks, ScriptTask, AreDrainsOf, CanGoOn, CanPrint, CanPrintSoFar, names_in}
 use Rattle.qblk_run.proofs.Answering.{run-answers}
 use Rattle.qblk_run.proofs.Accounts.{opening_by, opening-of, account, run-is}
 use Rattle.qblk_run.proofs.Beginnings.{start-can, start-keeps}
 use Rattle.qblk_run.proofs.Worlds.{come-first, undone-progress}
-use Rattle.qblk_run.specs.Worlds.{GoesThrough, HasCome, IsUndoneBy}
+use Rattle.qblk_run.specs.Worlds.{HasCome, IsUndoneBy}
 
 -- ---- the beginning
 
@@ -56,14 +58,30 @@ play-can store guests its names script traces actors room world ready count few 
 pub play-drains : (store : StoreSeen) (guests : List (List ℕ)) (room : Room) (world : WorldSeen) (script : ScriptTask) → world ≡ new_world store guests room → AreDrainsOf world script
 play-drains store guests room world script is = subst (λ (w : WorldSeen). AreDrainsOf w script) (sym is) (record { jobs = refl; command = inl refl })
 
+-- it comes of an opening, and no copy is in flight
+pub play-stands : (store : StoreSeen) (guests : List (List ℕ)) (room : Room) (world : WorldSeen) → world ≡ new_world store guests room
+    → ((o : Opening) → IsOpeningOf store guests o → Comes o world) → StandsInRun world
+play-stands store guests room world is begins = record {
+  opening = opening_by store guests;
+  comes = begins (opening_by store guests) (opening-of store guests);
+  flights = subst NoneFlies (ap (λ (w : WorldSeen). w.works) (sym is)) tt;
+}
+
 -- ---- the end
 
-pub played-lines : (w : WorldSeen) (script : List Order) (traces : List (List Wish)) (store : StoreSeen) (log : Recorded) (fault : Option FaultAt) (waiting : Option (ℕ × Waits Written))
-    (guests : List (List ℕ)) → w.progress.log.events ≡ [] → length traces ≡ length guests → IsPlayed w (new_tasks script traces) store log fault waiting → CanHaveLines guests log.events
-played-lines w script traces store log fault waiting guests none count played =
+-- at the beginning there is nothing to print
+prints-first : (store : StoreSeen) (its guests : List (List ℕ)) (room : Room) (world : WorldSeen) → world ≡ new_world store its room → CanPrintSoFar guests world
+prints-first store its guests room world is =
+    subst (CanPrintSoFar guests) (sym is) (record { can = record { lines = tt; ids = λ job below. absurd (omega arith) }; started = refl })
+
+played-lines : (w : WorldSeen) (script : List Order) (traces : List (List Wish)) (store : StoreSeen) (log : Recorded) (jobs : List JobLine) (fault : Option FaultAt)
+    (waiting : Option (ℕ × Waits Written)) (guests : List (List ℕ)) → CanPrintSoFar guests w → length traces ≡ length guests
+    → IsPlayed w (new_tasks script traces) store log jobs fault waiting → CanPrint (record { guests = guests; jobs = jobs }) log.events
+played-lines w script traces store log jobs fault waiting guests begun count played =
     let size : length (map new_task traces) ≡ length traces = length-map traces new_task in
-    let lines : CanHaveLines guests w.progress.log.events = rw none tt in
-    subst (λ (l : Recorded). CanHaveLines guests l.events) (sym played.log_is) (played.so.lines guests (omega arith) lines)
+    let now = played.so.lines guests (omega arith) begun in
+    subst (λ (lines : List JobLine). CanPrint (record { guests = guests; jobs = lines }) log.events) (sym played.jobs_are)
+    (subst (λ (l : Recorded). CanPrint (names_in guests played.now.progress) l.events) (sym played.log_is) now.can)
 
 -- memory wasn't had for a turn
 pub given-up : (cast : Cast) (work : Work) (old new : Setting) (room : Room) → room ≡ history_room work → IsWork cast work → IfTold old.store.files (HasWork cast work) → length work.traces ≡ length (guests_of cast)
@@ -90,8 +108,8 @@ given-up cast work old new room sized said inputs count begins given sent sink =
         said,
         inputs,
         run-is old.store (guests_of cast) w given.now new.store given.fault refl refl refl refl comes.counted given.stays comes given.end cast work false refl count
-            (subst (λ (p : Progress). KeepsOrder c p.log.events) same keeps.order) room sized near
-            (subst (λ (p : Progress). GoesThrough o c w p.log.events near) same has.through)
+            (subst (λ (p : Progress). KeepsOrder c p.log.events) same keeps.order) room sized near has.events
+            (has.all ∙ ap (λ (p : Progress). p.log.events) same) has.through
             (inr (subst (λ (x : List Order). IsUndoneBy x near given.now) left given.gives.undone.by)),
       ),
     )
@@ -149,9 +167,9 @@ traces-count traces n is = length-map traces.items (λ t. t.items) ∙ sym trace
 -- the room that was taken
 room-is : (work : Work) (room : Room) → IsRoomFor (length work.script) work.traces room → room ≡ history_room work
 room-is work room is =
-    let one : room ≡ record room { entries = (length work.script + 1) + entries_for_all work.traces } =
+    let one : room ≡ record room { entries = (4 * length work.script + 1) + entries_for_all work.traces } =
     ap (λ (n : ℕ). record room { entries = n }) is.entries in
-    let two : record room { entries = (length work.script + 1) + entries_for_all work.traces } ≡ history_room work =
+    let two : record room { entries = (4 * length work.script + 1) + entries_for_all work.traces } ≡ history_room work =
     ap (λ (n : ℕ). record (history_room work) { bytes = n }) is.bytes in
     one ∙ two
 
@@ -176,30 +194,28 @@ module _ (cast : Cast) (work : Work) (old new : Setting) (room : Room) (guests i
       (subst (λ (t : Tasks). IsGivenUp (new_world old.store (guests_of cast) room) t new.store) ready.actors_are
       (subst (λ (w : WorldSeen). IsGivenUp w actors new.store) (world-is old.store (guests_of cast) its room world same is) given)) sent sink
 
-  played-as : (log : Recorded) (fault : Option FaultAt) (waiting : Option (ℕ × Waits Written)) → IsPlayed world actors new.store log fault waiting
-      → IsPlayed (new_world old.store (guests_of cast) room) (new_tasks work.script work.traces) new.store log fault waiting
-  played-as log fault waiting played =
-      subst (λ (t : Tasks). IsPlayed (new_world old.store (guests_of cast) room) t new.store log fault waiting) ready.actors_are
-      (subst (λ (w : WorldSeen). IsPlayed w actors new.store log fault waiting) (world-is old.store (guests_of cast) its room world same is) played)
+  played-as : (log : Recorded) (jobs : List JobLine) (fault : Option FaultAt) (waiting : Option (ℕ × Waits Written)) → IsPlayed world actors new.store log jobs fault waiting
+      → IsPlayed (new_world old.store (guests_of cast) room) (new_tasks work.script work.traces) new.store log jobs fault waiting
+  played-as log jobs fault waiting played =
+      subst (λ (t : Tasks). IsPlayed (new_world old.store (guests_of cast) room) t new.store log jobs fault waiting) ready.actors_are
+      (subst (λ (w : WorldSeen). IsPlayed w actors new.store log jobs fault waiting) (world-is old.store (guests_of cast) its room world same is) played)
 
-  pub played-here : (log : Recorded) (fault : Option FaultAt) (waiting : Option (ℕ × Waits Written)) (status : Status)
-      → IsWork cast work → IfTold old.store.files (HasWork cast work) → IsPlayed world actors new.store log fault waiting
-      → EndsAs fault waiting old.sent new.sent (transcript (guests_only names) log.events) old.sink_faults new.sink_faults status → Answers cast old new status
-  played-here log fault waiting status said inputs played ends =
-      let played' = played-as log fault waiting played in
+  pub played-here : (log : Recorded) (jobs : List JobLine) (fault : Option FaultAt) (waiting : Option (ℕ × Waits Written)) (status : Status)
+      → IsWork cast work → IfTold old.store.files (HasWork cast work) → IsPlayed world actors new.store log jobs fault waiting
+      → EndsAs fault waiting old.sent new.sent (transcript (record { guests = names; jobs = jobs }) log.events) old.sink_faults new.sink_faults status → Answers cast old new status
+  played-here log jobs fault waiting status said inputs played ends =
+      let played' = played-as log jobs fault waiting played in
       let printed : names ≡ guests_of cast = ready.names_are ∙ sym called in
-      run-answers cast work old new room (room-is work room ready.room_is) log fault waiting said inputs (count ∙ ap length (sym called)) played' (begins-is old.store (guests_of cast) its room world same is begins)
-      (played-lines (new_world old.store (guests_of cast) room) work.script work.traces new.store log fault waiting (guests_of cast) refl (count ∙ ap length (sym called)) played')
-      status (subst (λ (ns : List (List ℕ)). EndsAs fault waiting old.sent new.sent (transcript (guests_only ns) log.events) old.sink_faults new.sink_faults status) printed ends)
+      run-answers cast work old new room (room-is work room ready.room_is) log jobs fault waiting said inputs (count ∙ ap length (sym called)) played' (begins-is old.store (guests_of cast) its room world same is begins)
+      status (subst (λ (ns : List (List ℕ)). EndsAs fault waiting old.sent new.sent (transcript (record { guests = ns; jobs = jobs }) log.events) old.sink_faults new.sink_faults status) printed ends)
 
 -- the lines of a history that was played have their names
 pub lines-here : (store : StoreSeen) (script : List Order) (traces : List (List Wish)) (guests its names : List (List ℕ)) (actors : Tasks) (room : Room) (world : WorldSeen) (after : StoreSeen)
-    (log : Recorded) (fault : Option FaultAt) (waiting : Option (ℕ × Waits Written)) → IsRunReady script traces guests actors its names room → length traces ≡ length guests
-    → world ≡ new_world store its room → IsPlayed world actors after log fault waiting → CanHaveLines names log.events
-lines-here store script traces guests its names actors room world after log fault waiting ready count is played =
-    let begun : world.progress.log.events ≡ [] = ap (λ (w : WorldSeen). w.progress.log.events) is in
-    let tasks : IsPlayed world (new_tasks script traces) after log fault waiting = subst (λ (t : Tasks). IsPlayed world t after log fault waiting) ready.actors_are played in
-    played-lines world script traces after log fault waiting names begun (count ∙ ap length (sym ready.names_are)) tasks
+    (log : Recorded) (jobs : List JobLine) (fault : Option FaultAt) (waiting : Option (ℕ × Waits Written)) → IsRunReady script traces guests actors its names room → length traces ≡ length guests
+    → world ≡ new_world store its room → IsPlayed world actors after log jobs fault waiting → CanPrint (record { guests = names; jobs = jobs }) log.events
+lines-here store script traces guests its names actors room world after log jobs fault waiting ready count is played =
+    let tasks : IsPlayed world (new_tasks script traces) after log jobs fault waiting = subst (λ (t : Tasks). IsPlayed world t after log jobs fault waiting) ready.actors_are played in
+    played-lines world script traces after log jobs fault waiting names (prints-first store its names room world is) (count ∙ ap length (sym ready.names_are)) tasks
 
 -- what a call gives, where it gives something
 pub if-some : {A : Type 0} (x : Option A) (a : A) (P : A → Type 0) → x ≡ Some a → IfSome x P → P a

@@ -1,19 +1,23 @@
 -- Each event of the world leads on from the worlds before it.
-use Rattle.std.proofs.Common.{◌≡◌, ℕ, Bool, true, List, [], ◌∷◌, ◌++◌, refl, sym, ◌∙◌, ap, subst, Option, Some, None, Result, Ok, Err, inl, inr}
-use Rattle.std.specs.Prelude.{IfOk, IsSome, OnErr, slice_get, option_map, unwrap_or}
+use Rattle.std.proofs.Common.{◌≡◌, ◌⊎◌, ℕ, Bool, true, List, [], ◌∷◌, ◌++◌, append-nil, append_assoc, refl, sym, ◌∙◌, ap, subst, Option, Some, None, Result, Ok, Err, inl, inr}
+use Rattle.std.specs.Prelude.{IfOk, IsSome, OnErr, is_some, slice_get, option_map, unwrap_or}
 use Rattle.blk_base.specs.declared.fault.Outcome.{Outcome}
 use Rattle.blk_history.specs.Machine.{Flight}
+use Rattle.blk_history.specs.Small.{IsSmallEnd}
+use Rattle.blk_history.specs.declared.entry.JobEnd.{JobEnd}
 use Rattle.blk_history.specs.declared.entry.Refused.{Refused}
 use Rattle.blk_history.specs.declared.event.Event.{Event}
-use Rattle.blk_history.specs.declared.event.Event.TheVariants.{Admit, Refuse, Retire, Reached, Done}
+use Rattle.blk_history.specs.declared.event.Event.TheVariants.{Admit, Refuse, Retire, Reached, Start, End, Done}
 use Rattle.trace_codec.specs.declared.awaiting.Await.{Await}
 use Rattle.trace_codec.specs.declared.op.Op.{Op}
 use Rattle.trace_codec.specs.declared.order.Order.TheVariants.{Give, Watch}
 use Rattle.trace_codec.specs.Script.{Order}
 use Rattle.qmp_codec.specs.Commands.{Cmd}
 use Rattle.qmp_codec.specs.Lines.{Stop, command_at}
+use Rattle.qmp_rules.specs.declared.rows.JobRecord.{JobRecord}
 use Rattle.flat_machine.specs.declared.opening.Opening.{Opening}
 use Rattle.flat_machine.specs.Courses.{Course, course_after, answered_line, onward}
+use Rattle.flat_machine.specs.Entries.{all_of}
 use Rattle.flat_machine.specs.Legal.{IsNextJudged, IsMet, IsNext, IsNotDone, CanAdmit}
 use Rattle.flat_machine.specs.State.{Guest}
 use Rattle.blk_history.specs.Fold.{With}
@@ -21,18 +25,19 @@ use Rattle.blk_history.specs.Legal.{IsFlightOver}
 use Rattle.world_parts.specs.declared.admission.Admission.TheVariants.{Admitted, Refused as NotAdmitted}
 use Rattle.world_parts.specs.declared.executed.Executed.{Executed}
 use Rattle.world_parts.specs.declared.executed.Executed.TheVariants.{Replied, Later}
-use Rattle.world_parts.specs.Carrying.{IsExecuted, IsReplied, IsPutBack, IsPutBackIn, IsPutOff, held_for, reply_entry}
+use Rattle.world_parts.specs.Carrying.{AnswersLine, IsExecuted, IsPutBack, IsPutBackIn, IsPutOff, reply_entry}
 use Rattle.world_parts.specs.Comes.{Comes}
 use Rattle.world_parts.specs.Counting.{RunsOn}
 use Rattle.world_parts.specs.Face.{WorldSeen, seen_state}
-use Rattle.world_pieces.specs.Pieces.{IsPieceMade, HasPieceLicence, piece_entry}
+use Rattle.world_parts.specs.Jobs.{BeginsNone, BeginsOne, EndsJob}
+use Rattle.world_pieces.specs.Pieces.{piece_entry}
 use Rattle.world_parts.specs.Progress.{Progress, HasNext, flight_at, requests_done, with_retirement}
 use Rattle.world_parts.specs.Saying.{Given, given_line}
 use Rattle.world_parts.specs.Steps.{with_history, after_admission, IsAnswered, IsActorIdle, after_wait, after_actor_end}
 use Rattle.qblk_run.specs.Tasks.{IsGiving}
 use Rattle.qblk_run.specs.Turns.{StaysIn}
-use Rattle.qblk_run.specs.Worlds.{IsEventOf, IsPutOffBy, IsUneventful, IsUndoneBy, GoesThrough, HasCome}
-use Rattle.qblk_run.proofs.History.{course-push}
+use Rattle.qblk_run.specs.Worlds.{GoesThrough, HasCome, IsEventOf, IsGuardedFor, IsPutOffBy, IsSettleStep, IsTakeStep, IsUndoneBy, IsUneventful, MakesEvent, MakesPiece}
+use Rattle.qblk_run.proofs.History.{course-append}
 use Rattle.qblk_run.proofs.Lists.{with-map}
 
 -- ---- a line that has to come again
@@ -71,20 +76,6 @@ put-off-flies (Give line given ∷ orders) w v off = (
       off.2.waits.waits.waits.request,
 )
 
--- where it comes again in vain, the same disks are held
-held-again : (c : Cmd) (w x : WorldSeen) → x ≡ held_for c w → held_for c x ≡ x
-held-again c w x is = rw is refl
-
-one-command : (r : Result Cmd Stop) (c d : Cmd) → r ≡ Ok c → r ≡ Ok d → d ≡ c
-one-command r c d first then = let same : Ok d ≡ Ok c = sym then ∙ first in cc same
-
-put-off-again : (orders : List Order) (w x v : WorldSeen) → IsPutOffBy orders w x → IsPutOffBy orders x v → v ≡ x
-put-off-again [] w x v first then = absurd first
-put-off-again (Watch line what ∷ orders) w x v first then = absurd first
-put-off-again (Give line given ∷ orders) w x v first then =
-    let same : then.2.command ≡ first.2.command = one-command (command_at given) first.2.command then.2.command first.2.read then.2.read in
-    then.2.left ∙ ap (λ (c : Cmd). held_for c x) same ∙ held-again first.2.command w x first.2.left
-
 -- ---- a line for which memory wasn't had
 
 pub undone-by : (w v : WorldSeen) (orders rest : List Order) (line : ℕ) (text given : List ℕ) → orders ≡ Give line text ∷ rest → given ≡ text → IsPutBackIn w v (command_at given)
@@ -101,78 +92,57 @@ undone-progress [] w v undone = absurd undone
 undone-progress (Watch line what ∷ orders) w v undone = absurd undone
 undone-progress (Give line given ∷ orders) w v undone = put-back-progress w v (command_at given) undone
 
--- ---- no event
+-- ---- one more event
 
-pub uneventful-table : (orders : List Order) (w v : WorldSeen) → IsUneventful orders w v → v.table ≡ w.table
-uneventful-table orders w v (inl same) = ap (λ (u : WorldSeen). u.table) same
-uneventful-table orders w v (inr off) = ap (λ (u : WorldSeen). u.table) (put-off-left orders w v off)
+all-push : (events : List (List Event)) (es : List Event) → all_of (events ++ es ∷ []) ≡ all_of events ++ es
+all-push [] es = append-nil es
+all-push (first ∷ events) es = ap (λ (h : List Event). first ++ h) (all-push events es) ∙ sym (append_assoc first (all_of events) es)
 
-uneventful-progress : (orders : List Order) (w v : WorldSeen) → IsUneventful orders w v → v.progress ≡ w.progress
-uneventful-progress orders w v (inl same) = ap (λ (u : WorldSeen). u.progress) same
-uneventful-progress orders w v (inr off) = ap (λ (u : WorldSeen). u.progress) (put-off-left orders w v off)
-
-uneventful-then : (orders : List Order) (w x v : WorldSeen) → IsUneventful orders w x → IsUneventful orders x v → IsUneventful orders w v
-uneventful-then orders w x v first (inl same) = subst (IsUneventful orders w) (sym same) first
-uneventful-then orders w x v (inl same) (inr off) = inr (subst (λ (u : WorldSeen). IsPutOffBy orders u v) same off)
-uneventful-then orders w x v (inr first) (inr off) = inr (subst (IsPutOffBy orders w) (sym (put-off-again orders w x v first off)) first)
+through-push : (o : Opening) (c : Course) (w x v : WorldSeen) (events : List (List Event)) (es : List Event) → GoesThrough o c w events x → Comes o v
+    → MakesEvent (course_after c (all_of events)).script x v es → GoesThrough o c w (events ++ es ∷ []) v
+through-push o c w x v [] es through comes made =
+    (v, through.1, subst (λ (u : WorldSeen). MakesEvent c.script u v es) through.0 made, (refl, comes))
+through-push o c w x v (first ∷ events) es through comes made = (
+  through.0,
+  through.1,
+  through.2,
+  through-push o (course_after c first) through.0 x v events es through.3 comes
+      (subst (λ (d : Course). MakesEvent d.script x v es) (course-append c first (all_of events)) made),
+)
 
 -- the world that a run began with
 pub come-first : (o : Opening) (c : Course) (w : WorldSeen) → Comes o w → w.progress.log.events ≡ [] → HasCome o c w w c.script
 come-first o c w comes none = record {
   comes = comes;
   left = ap (λ (h : List Event). (course_after c h).script) none;
-  through = subst (λ (h : List Event). GoesThrough o c w h w) (sym none) (inl refl);
+  events = [];
+  all = sym none;
+  through = (refl, comes);
 }
-
--- ---- one more event
-
-through-push : (o : Opening) (c : Course) (w x v : WorldSeen) (h : List Event) (e : Event) → GoesThrough o c w h x → Comes o x → IsEventOf x v e
-    → GoesThrough o c w (h ++ e ∷ []) v
-through-push o c w x v [] e still comes event = (x, v, still, comes, event, inl refl)
-through-push o c w x v (a ∷ h) e through comes event = (
-  through.0,
-  through.1,
-  through.2,
-  through.3,
-  through.4,
-  through-push o (onward c a) through.1 x v h e through.5 comes event,
-)
-
-through-still : (o : Opening) (c : Course) (w x v : WorldSeen) (h : List Event) → GoesThrough o c w h x → IsUneventful (course_after c h).script x v
-    → GoesThrough o c w h v
-through-still o c w x v [] still then = uneventful-then c.script w x v still then
-through-still o c w x v (a ∷ h) through then = (
-  through.0,
-  through.1,
-  through.2,
-  through.3,
-  through.4,
-  through-still o (onward c a) through.1 x v h through.5 then,
-)
 
 -- what is left of the script behind a line of it
 answered-left : (c : Course) (line : ℕ) (order : Order) (orders : List Order) → c.script ≡ order ∷ orders → (answered_line line c).script ≡ orders
 answered-left c line order orders is = rw is refl
 
 module _ (o : Opening) (c : Course) (first w v : WorldSeen) (before : List Order) (has : HasCome o c first w before) (comes : Comes o v) where
-  pub come-event : (e : Event) (after : List Order) → IsEventOf w v e → (onward (course_after c w.progress.log.events) e).script ≡ after
-      → HasCome o c first v after
-  come-event e after event left = record {
+  come-made : (es : List Event) (after : List Order) → MakesEvent before w v es → v.progress.log.events ≡ w.progress.log.events ++ es
+      → (course_after (course_after c w.progress.log.events) es).script ≡ after → HasCome o c first v after
+  come-made es after made adds left = record {
     comes = comes;
-    left = ap (λ (h : List Event). (course_after c h).script) event.adds
-        ∙ ap (λ (d : Course). d.script) (course-push c w.progress.log.events e)
-        ∙ left;
-    through = subst (λ (h : List Event). GoesThrough o c first h v) (sym event.adds)
-        (through-push o c first w v w.progress.log.events e has.through has.comes event);
+    left = ap (λ (h : List Event). (course_after c h).script) adds ∙ ap (λ (d : Course). d.script) (course-append c w.progress.log.events es) ∙ left;
+    events = has.events ++ es ∷ [];
+    all = all-push has.events es ∙ ap (λ (h : List Event). h ++ es) has.all ∙ sym adds;
+    through = through-push o c first w v has.events es has.through comes
+        (subst (λ (orders : List Order). MakesEvent orders w v es) (sym (ap (λ (h : List Event). (course_after c h).script) has.all ∙ has.left)) made);
   }
 
-  pub come-still : IsUneventful before w v → HasCome o c first v before
-  come-still still = record {
-    comes = comes;
-    left = ap (λ (p : Progress). (course_after c p.log.events).script) (uneventful-progress before w v still) ∙ has.left;
-    through = subst (λ (p : Progress). GoesThrough o c first p.log.events v) (sym (uneventful-progress before w v still))
-        (through-still o c first w v w.progress.log.events has.through (subst (λ (orders : List Order). IsUneventful orders w v) (sym has.left) still));
-  }
+  pub come-event : (e : Event) (es : List Event) (after : List Order) → IsEventOf w v e es
+      → (course_after (onward (course_after c w.progress.log.events) e) es).script ≡ after → HasCome o c first v after
+  come-event e es after event left = come-made (e ∷ es) after event event.adds left
+
+  pub come-still : IsUneventful before w v → v.progress ≡ w.progress → HasCome o c first v before
+  come-still still same =
+      come-made [] before still (ap (λ (p : Progress). p.log.events) same ∙ sym (append-nil w.progress.log.events)) has.left
 
 -- ---- each event
 
@@ -184,60 +154,128 @@ judged-number w g r P judged = by_row (slice_get w.progress.guests g) judged.1
     by_row None is = absurd is
     by_row (Some row) is = is.number
 
+-- what is guarded leaves all but nodes and works
+pub guarded-kept : (w v : WorldSeen) (g : ℕ) (f : Flight) → IsGuardedFor w v g f → v ≡ record w { nodes = v.nodes; works = v.works }
+guarded-kept w v g f (inl same) = rw same refl
+guarded-kept w v g f (inr guards) = guards.guards.copies.kept
+
+guarded-progress : (w v : WorldSeen) (g : ℕ) (f : Flight) → IsGuardedFor w v g f → v.progress ≡ w.progress
+guarded-progress w v g f guarded = ap (λ (u : WorldSeen). u.progress) (guarded-kept w v g f guarded)
+
 module _ (o : Opening) (c : Course) (first w v : WorldSeen) (before : List Order) (has : HasCome o c first w before) (comes : Comes o w → Comes o v) where
   pub come-admitted : (g : ℕ) (op : Op) (r : ℕ) → IsAnswered w g op (Admitted r) → v ≡ after_admission w g op (Admitted r) → HasCome o c first v before
   come-admitted g op r answer kept =
       let number : r ≡ requests_done w.progress.guests g = judged-number w g r (CanAdmit op) answer.0 in
-      come-event o c first w v before has (comes has.comes) (Admit g r op) before (record { may = tt; adds = rw (kept, number) refl; left = (answer, kept) }) has.left
+      come-event o c first w v before has (comes has.comes) (Admit g r op) [] before (record { may = tt; adds = rw (kept, number) refl; left = (refl, (answer, kept)) }) has.left
 
   pub come-refused : (g : ℕ) (op : Op) (why : Refused) → IsAnswered w g op (NotAdmitted why) → v ≡ after_admission w g op (NotAdmitted why)
       → HasCome o c first v before
   come-refused g op why answer kept =
-      come-event o c first w v before has (comes has.comes) (Refuse g (requests_done w.progress.guests g) op why) before
-      (record { may = tt; adds = rw kept refl; left = (answer, kept) }) has.left
+      come-event o c first w v before has (comes has.comes) (Refuse g (requests_done w.progress.guests g) op why) [] before
+      (record { may = tt; adds = rw kept refl; left = (refl, (answer, kept)) }) has.left
 
   pub come-piece : (g : ℕ) (f : Flight) (outcome : Outcome) → flight_at w.progress.guests g ≡ Some f → With (flight_at w.progress.guests g) HasNext
-      → (made : IsPieceMade w v g f outcome) × HasPieceLicence w v g f outcome made → HasCome o c first v before
-  come-piece g f outcome there next made =
-      come-event o c first w v before has (comes has.comes) (piece_entry w g f outcome made.0.buffer) before (record {
+      → MakesPiece w v g f outcome → HasCome o c first v before
+  come-piece g f outcome there next makes =
+      let x = makes.between in
+      let same : x.progress ≡ w.progress = guarded-progress w x g f makes.guarded in
+      come-event o c first w v before has (comes has.comes) (piece_entry x g f outcome makes.made.buffer) [] before (record {
         may = next;
-        adds = ap (λ (u : WorldSeen). u.progress.log.events) made.0.kept;
-        left = record { flight = f; there = there; made = made.0; licence = made.1 };
+        adds = ap (λ (u : WorldSeen). u.progress.log.events) makes.made.kept
+            ∙ ap (λ (p : Progress). p.log.events ++ piece_entry x g f outcome makes.made.buffer ∷ []) same;
+        left = (refl, record { flight = f; there = there; makes = makes });
       }) has.left
 
   pub come-retired : (g : ℕ) → With (flight_at w.progress.guests g) IsFlightOver → v ≡ with_history w (with_retirement g) → HasCome o c first v before
   come-retired g over kept =
-      come-event o c first w v before has (comes has.comes) (Retire g (requests_done w.progress.guests g)) before
-      (record { may = over; adds = rw kept refl; left = kept }) has.left
+      come-event o c first w v before has (comes has.comes) (Retire g (requests_done w.progress.guests g)) [] before
+      (record { may = over; adds = rw kept refl; left = (refl, kept) }) has.left
 
-  pub come-replied : (line : Given) (after : List Order) → before ≡ Give line.number line.text ∷ after → IsNotDone (seen_state w) 0 → IsReplied w v line
+  pub come-replied : (line : Given) (after : List Order) → before ≡ Give line.number line.text ∷ after → IsNotDone (seen_state w) 0 → AnswersLine w v line
       → HasCome o c first v after
-  come-replied line after next going replied =
-      come-event o c first w v before has (comes has.comes) (reply_entry w replied.told line) after (record {
-        may = going;
-        adds = ap (λ (p : Progress). p.log.events) replied.progress;
-        left = record { replied = replied; says = refl };
-      }) (answered-left (course_after c w.progress.log.events) line.number (Give line.number line.text) after (has.left ∙ next))
+  come-replied line after next going answers = by_begins answers.begins
+    where
+      left : (answered_line line.number (course_after c w.progress.log.events)).script ≡ after
+      left = answered-left (course_after c w.progress.log.events) line.number (Give line.number line.text) after (has.left ∙ next)
+
+      said : answers.between.progress.log.events ≡ w.progress.log.events ++ reply_entry w answers.replied.told line ∷ []
+      said = ap (λ (p : Progress). p.log.events) answers.replied.progress
+
+      by_begins : BeginsNone w.table answers.between v ⊎ BeginsOne w.table answers.between v → HasCome o c first v after
+      by_begins (inl none) =
+          come-event o c first w v before has (comes has.comes) (reply_entry w answers.replied.told line) [] after (record {
+            may = going;
+            adds = ap (λ (u : WorldSeen). u.progress.log.events) none.kept ∙ said;
+            left = record { between = answers.between; replied = answers.replied; says = refl; begins = none };
+          }) left
+      by_begins (inr one) =
+          come-event o c first w v before has (comes has.comes) (reply_entry w answers.replied.told line) (Start one.row.number ∷ []) after (record {
+            may = going;
+            adds = ap (λ (u : WorldSeen). u.progress.log.events) one.begins.kept
+                ∙ ap (λ (h : List Event). h ++ Start one.row.number ∷ []) said
+                ∙ append_assoc w.progress.log.events (reply_entry w answers.replied.told line ∷ []) (Start one.row.number ∷ []);
+            left = record { between = answers.between; replied = answers.replied; says = refl; begins = (one, refl) };
+          }) left
 
   pub come-put-off : IsPutOffBy before w v → HasCome o c first v before
-  come-put-off off = come-still o c first w v before has (comes has.comes) (inr off)
+  come-put-off off =
+      come-still o c first w v before has (comes has.comes) (inl off) (ap (λ (u : WorldSeen). u.progress) (put-off-left before w v off))
 
   pub come-reached : (line : ℕ) (what : Await (List ℕ)) (after : List Order) → before ≡ Watch line what ∷ after → IsNotDone (seen_state w) 0 → IsMet (seen_state w) what
       → v ≡ after_wait w line what true → HasCome o c first v after
   come-reached line what after next going met kept =
-      come-event o c first w v before has (comes has.comes) (Reached line what) after (record { may = (going, met); adds = rw kept refl; left = kept })
+      come-event o c first w v before has (comes has.comes) (Reached line what) [] after (record { may = (going, met); adds = rw kept refl; left = (refl, kept) })
       (answered-left (course_after c w.progress.log.events) line (Watch line what) after (has.left ∙ next))
 
   pub come-done : (actor : ℕ) → IsNotDone (seen_state w) actor → IsActorIdle w.progress.guests actor → v ≡ after_actor_end w actor → HasCome o c first v before
   come-done actor going idle kept =
-      come-event o c first w v before has (comes has.comes) (Done actor) before (record { may = (going, idle); adds = rw kept refl; left = kept }) has.left
+      come-event o c first w v before has (comes has.comes) (Done actor) [] before (record { may = (going, idle); adds = rw kept refl; left = (refl, kept) }) has.left
+
+  pub come-ended : (row : JobRecord) (why : JobEnd) (offset : ℕ) → EndsJob w v row why offset → IsSmallEnd why → HasCome o c first v before
+  come-ended row why offset ends fits =
+      come-event o c first w v before has (comes has.comes) (End row.number why offset) [] before (record {
+        may = tt;
+        adds = ap (λ (u : WorldSeen). u.progress.log.events) ends.kept;
+        left = (refl, record { row = row; number = refl; ends = ends; fits = fits });
+      }) has.left
+
+  pub come-taken : IsTakeStep w v → HasCome o c first v before
+  come-taken took =
+      come-still o c first w v before has (comes has.comes) (inr (inl took)) (ap (λ (u : WorldSeen). u.progress) took.takes.copies.kept)
+
+  pub come-settled : IsSettleStep w v → HasCome o c first v before
+  come-settled settled =
+      come-still o c first w v before has (comes has.comes) (inr (inr settled)) (ap (λ (u : WorldSeen). u.progress) settled.settles.copies.kept)
 
 -- ---- the same run
 
-pub runs_stay : (w v : WorldSeen) → RunsOn w v → StaysIn w v
-runs_stay w v runs = record { told = runs.told; first = runs.first; earlier = runs.earlier; room = runs.room }
+pub runs_stay : (w v : WorldSeen) → RunsOn w v → ((o : Opening) → Comes o w → Comes o v) → StaysIn w v
+runs_stay w v runs comes = record { told = runs.told; first = runs.first; earlier = runs.earlier; room = runs.room; comes = comes }
 
-pub executed_stay : {E : Type 0} (w v : WorldSeen) (line : Given) (r : Result Executed E) → IfOk r (λ answer. IsExecuted w v line answer) → OnErr r (IsPutBack w v) → StaysIn w v
-executed_stay w v line (Ok Replied) done back = runs_stay w v done.runs
-executed_stay w v line (Ok (Later g r)) done back = subst (StaysIn w) (sym done.left) (record { told = refl; first = refl; earlier = refl; room = refl })
-executed_stay w v line (Err stop) done back = runs_stay w v back.runs
+answered_stay : (w v : WorldSeen) (line : Given) → AnswersLine w v line → ((o : Opening) → Comes o w → Comes o v) → StaysIn w v
+answered_stay w v line answers comes = by_begins answers.begins
+  where
+    by_begins : BeginsNone w.table answers.between v ⊎ BeginsOne w.table answers.between v → StaysIn w v
+    by_begins (inl none) =
+        subst (StaysIn w) (sym none.kept) (runs_stay w answers.between answers.replied.runs (subst (λ (u : WorldSeen). (o : Opening) → Comes o w → Comes o u) none.kept comes))
+    by_begins (inr one) =
+        let runs = answers.replied.runs in
+        record {
+          told = ap (λ (u : WorldSeen). is_some u.files) one.begins.kept ∙ runs.told;
+          first = ap (λ (u : WorldSeen). u.first_faults) one.begins.kept ∙ runs.first;
+          earlier = ap (λ (u : WorldSeen). u.earlier) one.begins.kept ∙ runs.earlier;
+          room = ap (λ (u : WorldSeen). u.room) one.begins.kept ∙ runs.room;
+          comes = comes;
+        }
+
+-- where store and openings are as they were
+pub kept_stay : (w v : WorldSeen) → v.files ≡ w.files → v.first_faults ≡ w.first_faults → v.earlier ≡ w.earlier → v.room ≡ w.room → ((o : Opening) → Comes o w → Comes o v) → StaysIn w v
+kept_stay w v files first earlier room comes = record { told = ap (λ (x : _). is_some x) files; first = first; earlier = earlier; room = room; comes = comes }
+
+pub executed_stay : {E : Type 0} (w v : WorldSeen) (line : Given) (r : Result Executed E) → IfOk r (λ answer. IsExecuted w v line answer) → OnErr r (IsPutBack w v)
+    → ((o : Opening) → Comes o w → Comes o v) → StaysIn w v
+executed_stay w v line (Ok Replied) done back comes = answered_stay w v line done comes
+executed_stay w v line (Ok (Later g r)) done back comes =
+    kept_stay w v (ap (λ (u : WorldSeen). u.files) done.left) (ap (λ (u : WorldSeen). u.first_faults) done.left) (ap (λ (u : WorldSeen). u.earlier) done.left)
+    (ap (λ (u : WorldSeen). u.room) done.left) comes
+executed_stay w v line (Err stop) done back comes = runs_stay w v back.runs comes

@@ -1,5 +1,6 @@
 pub mod Run
 pub mod Worlds
+pub mod Slots
 pub mod Devices
 pub mod Tasks
 pub mod Turns

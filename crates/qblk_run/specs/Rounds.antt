@@ -1,11 +1,13 @@
 -- What several turns do, one behind the other.
-use Rattle.std.specs.Prelude.{◌≡◌, ◌⊎◌, ℕ, ◌+◌, ◌<◌, ◌≤◌, Bool, true, false, List, length, slice_get, slice_set, Some}
+use Rattle.std.specs.Prelude.{◌≡◌, ◌⊎◌, ℕ, ◌+◌, ◌<◌, ◌≤◌, Bool, true, false, List, [], length, slice_get, slice_set, Some, None}
 use Rattle.trace_codec.specs.declared.wish.Wish.{Wish}
 use Rattle.trace_codec.specs.declared.waits.Waits.{Waits}
 use Rattle.trace_codec.specs.Script.{Order}
+use Rattle.qmp_rules.specs.Table.{job_in}
 use Rattle.flat_machine.specs.Blocked.{ScriptWaits, TraceWaits}
 use Rattle.world_parts.specs.Face.{WorldSeen, seen_state}
-use Rattle.qblk_run.specs.Tasks.{Task, Tasks, AreDrainsOf, CanGoOn, Halts, KeepsTo, CanHaveLines, Rests, ScriptHalts, ScriptRests, steps_of_tasks}
+use Rattle.qblk_run.specs.Slots.{StandsInRun, parts_left}
+use Rattle.qblk_run.specs.Tasks.{Task, Tasks, AreDrainsOf, CanGoOn, Halts, KeepsTo, CanPrintSoFar, Rests, ScriptHalts, ScriptRests, steps_of_tasks}
 use Rattle.qblk_run.specs.Turns.{IsTurn}
 use Rattle.qblk_run.specs.Worlds.{ComesOn, IsUndone}
 
@@ -18,7 +20,22 @@ OrderStays w v before after = (script : List Order) (traces : List (List Wish))
 -- Its entries have lines.
 abbrev pub LinesStay : WorldSeen → WorldSeen → Tasks → Type 0
 LinesStay w v before = (guests : List (List ℕ)) → length before.guests ≤ length guests
-    → CanHaveLines guests w.progress.log.events → CanHaveLines guests v.progress.log.events
+    → CanPrintSoFar guests w → CanPrintSoFar guests v
+
+-- entries to come, with those that are set aside for jobs
+abbrev pub steps_in : WorldSeen → Tasks → ℕ
+steps_in w tasks = steps_of_tasks tasks + w.progress.aside
+
+-- Fewer entries are to come; or no more are, and less is left to copy.
+abbrev pub LeavesLess : WorldSeen → WorldSeen → Tasks → Tasks → Type 0
+LeavesLess w v before after =
+    (steps_in v after < steps_in w before)
+    ⊎ ((steps_in v after ≤ steps_in w before) × (parts_left v.works < parts_left w.works))
+
+abbrev pub LeavesNoMore : WorldSeen → WorldSeen → Tasks → Tasks → Type 0
+LeavesNoMore w v before after =
+    (steps_in v after < steps_in w before)
+    ⊎ ((steps_in v after ≤ steps_in w before) × (parts_left v.works ≤ parts_left w.works))
 
 -- after some turns the actors can go on
 pub record Continues (w v : WorldSeen) (before after : Tasks) : Type 0 where
@@ -26,7 +43,8 @@ pub record Continues (w v : WorldSeen) (before after : Tasks) : Type 0 where
   pub order : OrderStays w v before after
   pub lines : LinesStay w v before
   pub drains : AreDrainsOf w before.script → AreDrainsOf v after.script
-  pub steps : steps_of_tasks after ≤ steps_of_tasks before
+  pub stands : StandsInRun w → StandsInRun v
+  pub more : LeavesNoMore w v before after
   pub count : length after.guests ≡ length before.guests
 
 -- memory wasn't had for a line of the script, behind some turns
@@ -37,24 +55,42 @@ pub record GivesUp (w v : WorldSeen) (before : Tasks) : Type 0 where
   pub comes : ComesOn w near before.script.orders after.script.orders
   pub undone : IsUndone after.script.orders near v
 
--- each actor is done or waits
+-- each guest is done or waits
 abbrev pub GuestsRest : WorldSeen → ℕ → List Task → Type 0
 GuestsRest w n tasks =
     (g : ℕ) (task : Task) → g < n → slice_get tasks g ≡ Some task → Rests w g task
 
+-- and so is the script, and no job is there
 pub record AllRest (w : WorldSeen) (tasks : Tasks) : Type 0 where
   pub script : ScriptRests w tasks.script
   pub guests : GuestsRest w (length tasks.guests) tasks.guests
+  pub jobs : w.table.jobs ≡ []
 
 -- each of the first n guests makes no entry
 abbrev pub GuestsHalt : WorldSeen → ℕ → List Task → Type 0
 GuestsHalt w n tasks =
     (g : ℕ) (task : Task) → g < n → slice_get tasks g ≡ Some task → Halts w g task
 
--- An entry was made, and less is left to do; or none was by the script and the first n guests, which can make none now.
-abbrev pub Goes : WorldSeen → Tasks → Tasks → ℕ → Bool → Type 0
-Goes v before after n true = steps_of_tasks after < steps_of_tasks before
-Goes v before after n false = ScriptHalts v after.script × GuestsHalt v n after.guests
+-- the first n slots have no job
+abbrev pub SlotsHalt : WorldSeen → ℕ → Type 0
+SlotsHalt w n = (slot : ℕ) → slot < n → job_in w.table slot ≡ None
+
+-- Something was done, and less is left to do; or nothing was by the script and the first n guests, which can make no entry now, nor
+-- for the first so many slots, which have no job.
+abbrev pub Goes : WorldSeen → WorldSeen → Tasks → Tasks → ℕ → ℕ → Bool → Type 0
+Goes w v before after n slots true = LeavesLess w v before after
+Goes w v before after n slots false =
+    ScriptHalts v after.script × GuestsHalt v n after.guests × SlotsHalt v slots
+
+-- the guests had their turns: less is left, or nothing was done, and the first n make no entry now
+abbrev pub AreGuestTurns : WorldSeen → WorldSeen → Tasks → Tasks → ℕ → Bool → Type 0
+AreGuestTurns w v before after n true = LeavesLess w v before after
+AreGuestTurns w v before after n false = (v ≡ w) × GuestsHalt v n after.guests
+
+-- so it is with the first n slots, which have no job then
+abbrev pub AreSlotTurns : WorldSeen → WorldSeen → Tasks → ℕ → Bool → Type 0
+AreSlotTurns w v tasks n true = LeavesLess w v tasks tasks
+AreSlotTurns w v tasks n false = (v ≡ w) × SlotsHalt v n
 
 -- a guest of a list had its turn
 pub record HasTurn (w v : WorldSeen) (before after : List Task) (g : ℕ)

@@ -1,5 +1,5 @@
 -- What a run of a script and traces is, seen from outside.
-use Rattle.std.specs.Prelude.{◌≡◌, ◌⊎◌, ℕ, ◌+◌, ◌<◌, ◌≤◌, Bool, true, false, List, [], ◌++◌, length, map, take, slice_get, All, Option, Some, None, IsSome, is_some, option_map}
+use Rattle.std.specs.Prelude.{◌≡◌, ◌⊎◌, ℕ, ◌+◌, ◌*◌, ◌<◌, ◌≤◌, Bool, true, false, List, [], ◌++◌, length, map, take, slice_get, All, Option, Some, None, IsSome, is_some, option_map}
 use Rattle.blk_base.specs.Counts.{HasFailedSince, Rose}
 use Rattle.blk_base.specs.Files.{IfTold}
 use Rattle.blk_base.specs.Written.{Written}
@@ -15,12 +15,15 @@ use Rattle.trace_codec.specs.declared.waits.Waits.{Waits}
 use Rattle.trace_codec.specs.declared.waits.Waits.TheVariants as waits
 use Rattle.qmp_rules.specs.Table.{RunTable}
 use Rattle.blk_history.specs.Fold.{With}
+use Rattle.blk_history.specs.Names.{JobLine, RowNames}
+use Rattle.blk_history.specs.Transcript.{transcript}
 use Rattle.blk_history.specs.declared.event.Event.{Event}
 use Rattle.flat_machine.specs.State.{State, filename_of}
 use Rattle.flat_machine.specs.Machine.{replay}
 use Rattle.flat_machine.specs.Opening.{start}
-use Rattle.flat_machine.specs.Comes.{IsHistoryOf, IsInOrder, HasEnded, guests_after, transcript_of}
+use Rattle.flat_machine.specs.Comes.{IsHistoryOf, IsInOrder, HasEnded, guests_after, jobs_from}
 use Rattle.flat_machine.specs.Courses.{Course, course_of, course_after}
+use Rattle.flat_machine.specs.Entries.{all_of}
 use Rattle.flat_machine.specs.Blocked.{IsStuck}
 use Rattle.flat_machine.specs.Licence.{Counts, AreLicensed, source_count, fault_at, faults_of}
 use Rattle.flat_machine.specs.Final.{AreLeftBy, bytes_named}
@@ -75,12 +78,13 @@ outside files opened faults failed_call sent sink_faults =
       sink_faults = sink_faults;
     }
 
--- What a run was: what it began with, the openings of devices in it, its history, and the counts of faults behind its last
--- event.
+-- What a run was: what it began with, the openings of devices in it, its history, the jobs that it started, and the counts of faults
+-- behind its last event.
 pub record Account : Type 0 where
   pub opening : Opening
   pub openings : List Opened
   pub events : List Event
+  pub jobs : List JobLine
   pub counts : Counts
 
 -- ---- counts of faults
@@ -146,10 +150,10 @@ IsFlushedAs new a (Some fault) =
 
 -- ---- the worlds of a run
 
--- the room that is taken of the history: of each line an entry, of the end of each actor, and for what each trace asks
+-- the room that is taken of the history: of each line four entries, of the end of each actor one, and for what each trace asks
 abbrev pub history_room : Work → Room
 history_room work = record {
-  entries = (length work.script + 1) + entries_for_all work.traces;
+  entries = (4 * length work.script + 1) + entries_for_all work.traces;
   bytes = bytes_for_all work.traces;
 }
 
@@ -157,24 +161,27 @@ history_room work = record {
 abbrev pub course_in : Work → Account → Course
 course_in work a = course_after (course_of work.script work.traces) a.events
 
--- A world was made over the store, the entries are its events, one after another, and it was closed. Between them nothing happens
--- but that the script's next line is put off; `had` says whether memory was had for each line.
+-- A world was made over the store, the entries are those of its events, one after another, and it was closed; `had` says whether
+-- memory was had for each line.
 pub record IsPlayedBy (work : Work) (had : Bool) (fault : Option FaultAt) (old new : StoreSeen)
     (a : Account) : Type 0 where
   pub near : WorldSeen
+  pub events : List (List Event)
+  pub all : all_of events ≡ a.events
   pub through : GoesThrough a.opening (course_of work.script work.traces)
-      (new_world old a.opening.guests (history_room work)) a.events near
+      (new_world old a.opening.guests (history_room work)) events near
   pub last : WorldSeen
   pub is_last : IsLast had (course_in work a).script near last
   pub comes : Comes a.opening last
   pub counts_are : a.counts ≡ counts_now last
+  pub jobs_are : a.jobs ≡ last.progress.jobs
   pub closed : EndsWorld last new fault
 
 -- ---- a run
 
 -- Each guest's requests are its trace's, in order, and so it is with the script; each fault that the history names is a
 -- rise of its count in this run, and is named once; where no count has risen, none is named. Of the last flush the first fault is
--- told. The numbers that an entry prints have 64 bits. The files are spoken of where the store tells them.
+-- told. The numbers that an entry prints have 64 bits. Of names of jobs and of files is spoken where the store tells its files.
 pub record IsRun (cast : Cast) (work : Work) (had : Bool) (fault : Option FaultAt)
     (old new : StoreSeen)
     (a : Account) : Type 0 where
@@ -188,12 +195,13 @@ pub record IsRun (cast : Cast) (work : Work) (had : Bool) (fault : Option FaultA
   pub flush : IsFlushedAs new a fault
   pub worlds : IsPlayedBy work had fault old new a
   pub small : All IsSmall a.events
+  pub names : is_some old.files ≡ true → a.jobs ≡ jobs_from (start a.opening) a.events
   pub files : IfTold old.files (λ told. With new.files (LeavesFiles a fault))
 
 -- Some actor is unfinished, and each of those is blocked; the first is named. The table in which that is so is one that the
 -- entries make, with what is dirty, and the state is the one that the history comes to, where the store tells its files. What
 -- blocked actors look at is fixed by the entries whatever the store tells: which guests have a device, how far each is, and that
--- no job is there (no command starts one yet).
+-- no job is there.
 pub record EndsStuck (is_told : Bool) (work : Work) (a : Account) (actor : ℕ)
     (what : Waits (List ℕ)) : Type 0 where
   pub state : State
@@ -217,8 +225,12 @@ HasRunStopped is_told work a =
 
 -- ---- what went out
 
+-- with the names of its guests and jobs
+abbrev pub names_by : Account → RowNames
+names_by a = record { guests = a.opening.guests; jobs = a.jobs }
+
 abbrev pub whole_transcript : Account → List ℕ
-whole_transcript a = transcript_of a.opening a.events
+whole_transcript a = transcript (names_by a) a.events
 
 -- script and traces are what the words name, they were run, and of the transcript the first n bytes went out
 pub record WasRun (cast : Cast) (work : Work) (fault : Option FaultAt) (old new : Setting)

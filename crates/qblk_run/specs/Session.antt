@@ -5,6 +5,7 @@ use Rattle.blk_base.specs.Written.{Written}
 use Rattle.blk_base.specs.declared.fault.FaultAt.{FaultAt}
 use Rattle.trace_codec.specs.declared.waits.Waits.{Waits}
 use Rattle.blk_history.specs.Fold.{With}
+use Rattle.blk_history.specs.Names.{JobLine}
 use Rattle.blk_history.specs.Recorded.{Recorded}
 use Rattle.flat_machine.specs.Agreement.{ReadAsDisks}
 use Rattle.flat_machine.specs.Final.{AreDisks}
@@ -29,10 +30,10 @@ pub record IsEnd (v : WorldSeen) (store : StoreSeen) (fault : Option FaultAt) : 
       → ReadAsDisks s (contents_of v) → With store.files (λ files. AreDisks files s)
   pub held : is_some v.files ≡ true → (name : List ℕ) → told_bytes store.files name ≡ held v name
 
--- A world was played until no actor could go on, and closed; told are its history, the first fault of the last flushes, and the
--- first actor that is not done.
+-- A world was played until no actor could go on, and closed; told are its history, the jobs that began, the first fault of the last
+-- flushes, and the first actor that is not done.
 pub record IsPlayed (w : WorldSeen) (before : Tasks) (store : StoreSeen) (log : Recorded)
-    (fault : Option FaultAt)
+    (jobs : List JobLine) (fault : Option FaultAt)
     (waiting : Option (ℕ × Waits Written)) : Type 0 where
   pub now : WorldSeen
   pub after : Tasks
@@ -41,6 +42,7 @@ pub record IsPlayed (w : WorldSeen) (before : Tasks) (store : StoreSeen) (log : 
   pub stays : StaysIn w now
   pub comes : ComesOn w now before.script.orders after.script.orders
   pub log_is : log ≡ now.progress.log
+  pub jobs_are : jobs ≡ now.progress.jobs
   pub end : IsEnd now store fault
   pub named : MatchOption waiting (AreDone after)
       (λ r. IsFirstUndone now after r.0 (seen_waits r.1))

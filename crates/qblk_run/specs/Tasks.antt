@@ -1,16 +1,17 @@
 -- What the actors of a run have still to do.
-use Rattle.std.specs.Prelude.{◌≡◌, ◌⊎◌, ℕ, zero, suc, ◌+◌, ◌^◌, ◌<◌, ◌≤◌, Bool, true, false, if◌then◌else◌, List, [], ◌∷◌, length, slice_get, Option, Some, None, IsSome}
+use Rattle.std.specs.Prelude.{◌≡◌, ◌⊎◌, ℕ, zero, suc, ◌+◌, ◌*◌, ◌^◌, ◌<◌, ◌≤◌, Bool, true, false, if◌then◌else◌, List, [], ◌∷◌, length, slice_get, get_or, Option, Some, None, IsSome}
 use Rattle.trace_codec.specs.declared.wish.Wish.{Wish}
 use Rattle.trace_codec.specs.declared.waits.Waits.{Waits}
 use Rattle.trace_codec.specs.declared.order.Order.TheVariants.{Give}
 use Rattle.trace_codec.specs.Request.{pieces_of}
 use Rattle.trace_codec.specs.Script.{Order}
+use Rattle.qmp_asks.specs.Naming.{is_name}
 use Rattle.qmp_rules.specs.Chains.{is_listed}
 use Rattle.blk_history.specs.Fold.{With}
 use Rattle.blk_history.specs.Legal.{IsFlightOver}
 use Rattle.blk_history.specs.Line.{IsActorNamed, shown_by}
 use Rattle.blk_history.specs.Machine.{Flight}
-use Rattle.blk_history.specs.Names.{RowNames}
+use Rattle.blk_history.specs.Names.{JobLine, RowNames, no_job}
 use Rattle.blk_history.specs.declared.event.Event.{Event}
 use Rattle.flat_machine.specs.State.{Guest}
 use Rattle.flat_machine.specs.Blocked.{ScriptWaits, TraceWaits}
@@ -50,8 +51,9 @@ abbrev pub entries_of_all : List Task → ℕ
 entries_of_all [] = 0
 entries_of_all (task ∷ tasks) = entries_to_come task + entries_of_all tasks
 
+-- four of each line: its reply, and those of a job
 abbrev pub entries_of_script : ScriptTask → ℕ
-entries_of_script script = length script.orders + end_entries script.is_done
+entries_of_script script = 4 * length script.orders + end_entries script.is_done
 
 abbrev pub entries_of_tasks : Tasks → ℕ
 entries_of_tasks tasks = entries_of_script tasks.script + entries_of_all tasks.guests
@@ -142,18 +144,31 @@ pub record KeepsTo (script : List Order) (traces : List (List Wish)) (h : List E
 
 -- ---- lines of the transcript
 
--- no job starts
-abbrev pub guests_only : List (List ℕ) → RowNames
-guests_only guests = record { guests = guests; jobs = [] }
+-- the guests, and the jobs that began so far
+abbrev pub names_in : List (List ℕ) → Progress → RowNames
+names_in guests p = record { guests = guests; jobs = p.jobs }
 
--- the entry's guest or actor has a name, and it shows at most one block
-pub record CanHaveLine (guests : List (List ℕ)) (e : Event) : Type 0 where
-  pub named : IsActorNamed (guests_only guests) e
+-- the entry's guest, actor or job has a name, and it shows at most one block
+pub record CanHaveLine (names : RowNames) (e : Event) : Type 0 where
+  pub named : IsActorNamed names e
   pub shown : length (shown_by e) ≤ 65536
 
-abbrev pub CanHaveLines : List (List ℕ) → List Event → Type 0
-CanHaveLines guests [] = Unit {0}
-CanHaveLines guests (e ∷ es) = CanHaveLine guests e × CanHaveLines guests es
+abbrev pub CanHaveLines : RowNames → List Event → Type 0
+CanHaveLines names [] = Unit {0}
+CanHaveLines names (e ∷ es) = CanHaveLine names e × CanHaveLines names es
+
+-- each id of a job is a name
+abbrev pub AreJobsNamed : List JobLine → Type 0
+AreJobsNamed jobs = (job : ℕ) → job < length jobs → is_name (get_or jobs job no_job).id ≡ true
+
+pub record CanPrint (names : RowNames) (events : List Event) : Type 0 where
+  pub lines : CanHaveLines names events
+  pub ids : AreJobsNamed names.jobs
+
+-- so it is with the entries so far, and each job that began has its name
+pub record CanPrintSoFar (guests : List (List ℕ)) (w : WorldSeen) : Type 0 where
+  pub can : CanPrint (names_in guests w.progress) w.progress.log.events
+  pub started : length w.progress.jobs ≡ w.table.started
 
 -- ---- actors that can go no further
 

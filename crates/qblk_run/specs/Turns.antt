@@ -5,23 +5,35 @@ use Rattle.trace_codec.specs.declared.wish.Wish.TheVariants.{Ask, Wait}
 use Rattle.trace_codec.specs.declared.order.Order.TheVariants.{Give, Watch}
 use Rattle.blk_history.specs.Fold.{With}
 use Rattle.blk_history.specs.Line.{shown_by}
+use Rattle.blk_history.specs.Names.{JobLine}
 use Rattle.blk_history.specs.declared.event.Event.{Event}
-use Rattle.blk_history.specs.declared.event.Event.TheVariants.{Admit, Refuse, Piece, Retire, Reply, Reached, Done}
+use Rattle.blk_history.specs.declared.event.Event.TheVariants.{Admit, Refuse, Piece, Retire, Reply, Reached, Start, Done}
+use Rattle.qmp_asks.specs.Naming.{is_name}
 use Rattle.flat_machine.specs.Comes.{guest_step}
 use Rattle.flat_machine.specs.Courses.{past_waits, is_answered}
 use Rattle.flat_machine.specs.Marks.{after_reply}
+use Rattle.flat_machine.specs.declared.opening.Opening.{Opening}
+use Rattle.world_parts.specs.Comes.{Comes}
 use Rattle.world_parts.specs.Face.{WorldSeen}
 use Rattle.world_parts.specs.Progress.{Progress, answered_in}
 use Rattle.qblk_inputs.specs.Room.{bytes_for}
-use Rattle.qblk_run.specs.Tasks.{Task, ScriptTask, IsTaskOf, entries_to_come, steps_of, Halts, ScriptRests}
+use Rattle.qblk_run.specs.Slots.{NoneFlies}
+use Rattle.qblk_run.specs.Tasks.{Task, ScriptTask, IsTaskOf, entries_of_script, entries_to_come, steps_of, Halts, ScriptRests}
 use Rattle.qblk_run.specs.Worlds.{IsPutOffBy}
 
--- the world of the same run: its store tells as much, and began with the same count and openings
+-- the world of the same run: its store tells as much, and began with the same count and openings, and it comes of what it came of
 pub record StaysIn (w v : WorldSeen) : Type 0 where
   pub told : is_some v.files ≡ is_some w.files
   pub first : v.first_faults ≡ w.first_faults
   pub earlier : v.earlier ≡ w.earlier
   pub room : v.room ≡ w.room
+  pub comes : (o : Opening) → Comes o w → Comes o v
+
+-- beside entries: drains stay, no job begins, and no copy is in flight where none was
+pub record KeepsBeside (w v : WorldSeen) : Type 0 where
+  pub drains : v.drains ≡ w.drains
+  pub started : v.table.started ≡ w.table.started
+  pub flights : NoneFlies w.works → NoneFlies v.works
 
 -- ---- guests
 
@@ -71,15 +83,16 @@ pub record IsMove (p q : Progress) (g : ℕ) (before after : Task) (e : Event) :
   pub entries : p.spare.entries + entries_to_come after ≤ q.spare.entries + entries_to_come before
   pub bytes : p.spare.bytes + bytes_for after.wishes ≤ q.spare.bytes + bytes_for before.wishes
   pub steps : steps_of after < steps_of before
+  pub aside : q.aside ≡ p.aside
+  pub jobs : q.jobs ≡ p.jobs
   pub shown : length (shown_by e) ≤ 65536
 
 abbrev pub MakesMove : Progress → Progress → ℕ → Task → Task → Type 0
 MakesMove p q g before after = (e : Event) × IsMove p q g before after e
 
--- drains are as they were
 abbrev pub GuestMoves : WorldSeen → WorldSeen → ℕ → Task → Task → Type 0
 GuestMoves w v g before after =
-    MakesMove w.progress v.progress g before after × (v.drains ≡ w.drains)
+    MakesMove w.progress v.progress g before after × KeepsBeside w v
 
 -- it makes none: it is done, waits or is held; waits that are over are passed
 pub record IsStill (w v : WorldSeen) (g : ℕ) (before after : Task) : Type 0 where
@@ -105,23 +118,45 @@ IsOwnOrder before after (Done actor) =
     (actor ≡ 0) × (before.orders ≡ []) × (after.orders ≡ []) × (after.is_done ≡ true)
 IsOwnOrder before after e = ⊥
 
--- the script, which was not done, makes an entry
-pub record IsScriptMove (p q : Progress) (before after : ScriptTask) (e : Event) : Type 0 where
+-- The script, which was not done, makes an entry, behind which others may stand. Its task takes no more room than before, and is
+-- less, by more than is set aside for a job.
+pub record IsScriptMove (p q : Progress) (before after : ScriptTask) (e : Event)
+    (es : List Event) : Type 0 where
   pub runs : before.is_done ≡ false
   pub own : IsOwnOrder before after e
-  pub events : q.log.events ≡ p.log.events ++ e ∷ []
+  pub events : q.log.events ≡ p.log.events ++ e ∷ es
   pub guests : q.guests ≡ p.guests
-  pub entries : p.spare.entries ≤ q.spare.entries + 1
+  pub entries : p.spare.entries + entries_of_script after
+      ≤ q.spare.entries + entries_of_script before
   pub bytes : p.spare.bytes ≤ q.spare.bytes
+  pub steps : entries_of_script after + q.aside < entries_of_script before + p.aside
 
 -- a reply ends the drain for a command that had to come again, and no other entry changes drains
 abbrev pub DrainsAfter : WorldSeen → WorldSeen → Event → Type 0
 DrainsAfter w v (Reply line given command text) = v.drains ≡ after_reply w.drains
 DrainsAfter w v e = v.drains ≡ w.drains
 
-abbrev pub ScriptMoves : WorldSeen → WorldSeen → ScriptTask → ScriptTask → Type 0
-ScriptMoves w v before after =
-    (e : Event) × IsScriptMove w.progress v.progress before after e × DrainsAfter w v e
+-- the next job begins, and has its name
+pub record IsNamedStart (w v : WorldSeen) (job : ℕ) : Type 0 where
+  pub number : job ≡ w.table.started
+  pub started : v.table.started ≡ w.table.started + 1
+  pub line : JobLine
+  pub named : is_name line.id ≡ true
+  pub jobs : v.progress.jobs ≡ w.progress.jobs ++ line ∷ []
+
+-- behind an entry stands nothing, or the start of a job
+abbrev pub NamesStarts : WorldSeen → WorldSeen → List Event → Type 0
+NamesStarts w v [] = (v.table.started ≡ w.table.started) × (v.progress.jobs ≡ w.progress.jobs)
+NamesStarts w v (Start job ∷ []) = IsNamedStart w v job
+NamesStarts w v es = ⊥
+
+pub record ScriptMoves (w v : WorldSeen) (before after : ScriptTask) : Type 0 where
+  pub entry : Event
+  pub behind : List Event
+  pub move : IsScriptMove w.progress v.progress before after entry behind
+  pub drains : DrainsAfter w v entry
+  pub starts : NamesStarts w v behind
+  pub flights : NoneFlies w.works → NoneFlies v.works
 
 pub record IsScriptStill (w v : WorldSeen) (before after : ScriptTask) : Type 0 where
   pub world : v ≡ w

@@ -1,25 +1,31 @@
 //! What rounds ask of a world.
-ghost use Rattle.std.specs.Prelude.{◌≡◌, ◌↔◌, ◌+◌, ◌^◌, ◌<◌, ◌≤◌, ℕ, List, length, slice_get, Some, IsTrue, IsNone, IfOk, IfSome, OnErr, Contains, is_none};
+ghost use Rattle.std.specs.Prelude.{◌≡◌, ◌↔◌, ◌+◌, ◌^◌, ◌<◌, ◌≤◌, ℕ, List, true, length, slice_get, Some, IsTrue, IsNone, IfOk, IfSome, OnErr, Contains, is_none};
 ghost use Rattle.blk_history.specs.Fold.{With};
 ghost use Rattle.blk_history.specs.Legal.{IsFlightOver};
 ghost use Rattle.blk_history.specs.Machine.{Flight};
 ghost use Rattle.trace_codec.specs.Awaits.{seen_await};
 ghost use Rattle.qmp_codec.specs.Lines.{command_at};
+ghost use Rattle.qmp_asks.specs.Naming.{is_name};
+ghost use Rattle.qmp_rules.specs.Table.{job_at};
+ghost use Rattle.qmp_rules.specs.declared.rows.JobRecord.{JobRecord};
 ghost use Rattle.flat_machine.specs.Legal.{IsMet, IsNotDone};
 ghost use Rattle.flat_machine.specs.declared.opening.Opening.{Opening};
 ghost use Rattle.world_parts.specs.Carrying.{IsExecuted, IsPutBack, IsPutBackIn};
 ghost use Rattle.world_parts.specs.Comes.{Comes};
 ghost use Rattle.world_parts.specs.Face.{WorldSeen, seen_state};
-ghost use Rattle.world_pieces.specs.Pieces.{IsPieceMade, HasPieceLicence};
 ghost use Rattle.world_parts.specs.Saying.{given_line};
 ghost use Rattle.world_parts.specs.Progress.{IsFree, HasNext, HasRoomFor, flight_at, answered_in, with_retirement};
 ghost use Rattle.world_parts.specs.Steps.{with_history, after_admission, IsAnswered, after_wait, after_actor_end, IsActorIdle};
+ghost use Rattle.qblk_run.specs.Slots.{HasSettled, HasTaken, HoldsTaken, IsTurned};
 ghost use Rattle.qblk_run.specs.Turns.{StaysIn};
+ghost use Rattle.qblk_run.specs.Worlds.{MakesPiece};
 
 use blk_base::{NoMemory, Outcome, Store};
+use blk_copy::Transfer;
 use blk_world::{Admission, Executed, World};
 use std::alloc::Global;
 use trace_codec::{Await, Op};
+use world_jobs::Turned;
 
 /// The events of a run, each one call. A world has them.
 pub(crate) trait Events {
@@ -37,12 +43,11 @@ pub(crate) trait Events {
         ensures stays { StaysIn (face self.old) (face self.new) }
         ensures comes { (o : Opening) → Comes o (face self.old) → Comes o (face self.new) };
 
-    /// Makes the next piece of a guest's request in flight.
+    /// Makes the next piece of a guest's request in flight. What a backup still needs of its block is copied before.
     fn piece(&mut self, guest: u32) -> Outcome
         requires { With (flight_at (face self.old).progress.guests guest) HasNext }
         ensures made { (f : Flight) → flight_at (face self.old).progress.guests guest ≡ Some f
-            → (made : IsPieceMade (face self.old) (face self.new) guest f result)
-            × HasPieceLicence (face self.old) (face self.new) guest f result made }
+            → MakesPiece (face self.old) (face self.new) guest f result }
         ensures stays { StaysIn (face self.old) (face self.new) }
         ensures comes { (o : Opening) → Comes o (face self.old) → Comes o (face self.new) };
 
@@ -53,15 +58,19 @@ pub(crate) trait Events {
         ensures stays { StaysIn (face self.old) (face self.new) }
         ensures comes { (o : Opening) → Comes o (face self.old) → Comes o (face self.new) };
 
-    /// Answers a line of the script. It has to come again where a request is in flight on a disk that it must drain.
+    /// Answers a line of the script, and begins the job that it starts. It has to come again where a request is in flight on a disk
+    /// that it must drain.
     fn execute(&mut self, alloc: Global, line: u32, text: &str) -> Result<Executed, NoMemory>
         requires open { IsNotDone (seen_state (face self.old)) 0 }
-        requires room { 0 < (face self.old).progress.spare.entries }
+        requires room { 4 ≤ (face self.old).progress.spare.entries }
         ensures done { IfOk result (λ answer.
             IsExecuted (face self.old) (face self.new) (given_line line text.now) answer) }
         ensures back { OnErr result (IsPutBack (face self.old) (face self.new)) }
         ensures back_in { OnErr result
             (IsPutBackIn (face self.old) (face self.new) (command_at text.now)) }
+        ensures named { (row : JobRecord)
+            → job_at (face self.new).table (face self.old).table.started ≡ Some row
+            → is_name row.id ≡ true }
         ensures stays { StaysIn (face self.old) (face self.new) }
         ensures comes { (o : Opening) → Comes o (face self.old) → Comes o (face self.new) };
 
@@ -86,6 +95,30 @@ pub(crate) trait Events {
         ensures stays { StaysIn (face self.old) (face self.new) }
         ensures comes { (o : Opening) → Comes o (face self.old) → Comes o (face self.new) };
 
+    /// Gives the job in a slot its turn: it ends, or says what is to be done for it.
+    fn job_turn(&mut self, slot: u32) -> Turned
+        requires { slot < 16 }
+        ensures turned { IsTurned (face self.old) (face self.new) slot result }
+        ensures stays { StaysIn (face self.old) (face self.new) }
+        ensures comes { (o : Opening) → Comes o (face self.old) → Comes o (face self.new) };
+
+    /// Reads the next block for the job in a slot.
+    fn take(&mut self, slot: u32, buffer: &mut [u8]) -> Option<Transfer>
+        requires slot { slot < 16 }
+        requires room { length buffer.old ≡ 65536 }
+        ensures took { HasTaken (face self.old) (face self.new) slot buffer.new result }
+        ensures bytes { IfSome result (λ t. HoldsTaken (face self.new) t buffer.new) }
+        ensures stays { StaysIn (face self.old) (face self.new) }
+        ensures comes { (o : Opening) → Comes o (face self.old) → Comes o (face self.new) };
+
+    /// Writes a block that was read for a job.
+    fn settle(&mut self, t: Transfer, bytes: &[u8]) -> bool
+        requires room { length bytes.now ≡ 65536 }
+        requires bytes { HoldsTaken (face self.old) t bytes.now }
+        ensures settled { HasSettled (face self.old) (face self.new) t bytes.now result }
+        ensures stays { StaysIn (face self.old) (face self.new) }
+        ensures comes { (o : Opening) → Comes o (face self.old) → Comes o (face self.new) };
+
     /// Whether a line of the script has its reply, or its wait is over.
     fn answered(&self, line: u32) -> bool
         ensures { IsTrue result ↔ Contains (answered_in (face self.now).progress.log.events) line };
@@ -107,7 +140,10 @@ impl<S: Store> Events for World<S> {
     }
 
     fn execute(&mut self, alloc: Global, line: u32, text: &str) -> Result<Executed, NoMemory> {
-        World::execute(self, alloc, line, text)
+        World::law(self);
+        let executed = World::execute(self, alloc, line, text);
+        World::law(self);
+        executed
     }
 
     fn reach(&mut self, line: u32, what: Await) -> Option<Await> {
@@ -116,6 +152,22 @@ impl<S: Store> Events for World<S> {
 
     fn finish(&mut self, actor: u32) {
         World::finish(self, actor);
+    }
+
+    fn job_turn(&mut self, slot: u32) -> Turned {
+        World::fault_law(self, slot);
+        World::job_turn(self, slot)
+    }
+
+    fn take(&mut self, slot: u32, buffer: &mut [u8]) -> Option<Transfer> {
+        let taken = World::take(self, slot, buffer);
+        World::law(self);
+        taken
+    }
+
+    fn settle(&mut self, t: Transfer, bytes: &[u8]) -> bool {
+        let len = World::block_len(self, t);
+        World::settle(self, t, &bytes[..len])
     }
 
     fn answered(&self, line: u32) -> bool {

@@ -48,8 +48,8 @@ pub fn runs_with_space_are_good()
         → (run : IsRun cast work had fault old new a)
         → HaveStood (counts_at_first old a) (counts_at_last new a)
         → HaveSpace a.opening (course_of work.script work.traces)
-        (new_world old a.opening.guests (history_room work)) a.events run.worlds.near
-        run.worlds.through
+        (new_world old a.opening.guests (history_room work)) run.worlds.events
+        run.worlds.near run.worlds.through
         → MeetsNone a.events }
 {}
 

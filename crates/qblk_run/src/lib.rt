@@ -12,6 +12,7 @@ mod rounds;
 mod run;
 mod script_turn;
 mod session;
+mod slot_turn;
 mod stuck;
 mod task;
 mod transcript;

@@ -4,7 +4,7 @@ ghost use Rattle.blk_base.specs.Written.{Written};
 ghost use Rattle.blk_history.specs.Transcript.{transcript};
 ghost use Rattle.qblk_core.specs.Session.{failed_as};
 ghost use Rattle.qblk_run.specs.Ending.{EndsAs, ended_as};
-ghost use Rattle.qblk_run.specs.Tasks.{CanHaveLines, guests_only};
+ghost use Rattle.qblk_run.specs.Tasks.{CanPrint};
 
 use crate::session::Made;
 use crate::transcript::text_for;
@@ -40,20 +40,22 @@ fn failed(fault: Option<FaultAt>, count: u64) -> Status
 
 /// Puts the transcript, and tells how the run ended. Nothing is put where memory isn't had.
 pub(crate) fn write_out<K: Sink>(alloc: Global, made: Made, names: Names1, out: &mut K) -> Status
-    requires lines { CanHaveLines names made.history.events }
+    requires lines { CanPrint (record { guests = names; jobs = made.jobs.items })
+        made.history.events }
     ensures { EndsAs made.fault made.waiting (K.sent out.old) (K.sent out.new)
-        (transcript (guests_only names) made.history.events) (K.faults out.old) (K.faults out.new)
-        result }
+        (transcript (record { guests = names; jobs = made.jobs.items }) made.history.events)
+        (K.faults out.old) (K.faults out.new) result }
 {
     let Made {
         history,
+        jobs,
         fault,
         waiting,
     } = made;
     let Ok(mut text) = text_for(alloc, &history, &names) else {
         return Status::NoMemory;
     };
-    let rows = Rows::new(names, Vec::new(alloc));
+    let rows = Rows::new(names, jobs);
     match send_transcript(&history, &rows, &mut text, out) {
         Ok(()) => ended(fault, waiting),
         Err(_) => failed(fault, out.faults()),

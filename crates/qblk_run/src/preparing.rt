@@ -1,5 +1,5 @@
 //! What a run begins with.
-ghost use Rattle.std.specs.Prelude.{◌≡◌, map, false, IfOk};
+ghost use Rattle.std.specs.Prelude.{◌≡◌, length, map, false, IfOk};
 ghost use Rattle.trace_codec.specs.Script.{seen_order};
 ghost use Rattle.qblk_run.specs.Beginning.{new_task, IsRunReady};
 
@@ -57,9 +57,18 @@ fn new_script(orders: VecDeque<Order>) -> Script
     }
 }
 
+/// A block of zeros, for what is copied.
+fn new_buffer(alloc: Global) -> Result<Vec<u8>, NoMemory>
+    ensures { IfOk result (λ buffer. length buffer.items ≡ 65536) }
+{
+    Ok(vec![in alloc; 0u8; 65536]?)
+}
+
 /// All that a run needs beside its store.
 pub(crate) struct Ready {
     pub actors: Actors,
+    /// For a block that is copied.
+    pub buffer: Vec<u8>,
     /// For the world, and for the transcript.
     pub guests: Names1,
     pub names: Names1,
@@ -68,8 +77,9 @@ pub(crate) struct Ready {
 
 /// Takes what a run needs beside its store.
 pub(crate) fn make_ready(alloc: Global, inputs: Inputs) -> Result<Ready, NoMemory>
-    ensures { IfOk result (λ r. IsRunReady (map seen_order inputs.script.items)
+    ensures ready { IfOk result (λ r. IsRunReady (map seen_order inputs.script.items)
         (map (λ t. t.items) inputs.traces.items) inputs.guests r.actors r.guests r.names r.room) }
+    ensures buffer { IfOk result (λ r. length r.buffer.items ≡ 65536) }
 {
     let Inputs {
         guests,
@@ -85,12 +95,14 @@ pub(crate) fn make_ready(alloc: Global, inputs: Inputs) -> Result<Ready, NoMemor
     let names = copied(alloc, &guests)?;
     let script = new_script(script);
     let tasks = new_guests(alloc, traces)?;
+    let buffer = new_buffer(alloc)?;
     let actors = Actors {
         script,
         guests: tasks,
     };
     Ok(Ready {
         actors,
+        buffer,
         guests,
         names,
         room,

@@ -79,6 +79,7 @@ fn run_inputs<S: Store, K: Sink>(
     let Ok(
         Ready {
             actors,
+            buffer,
             guests,
             names,
             room,
@@ -90,7 +91,7 @@ fn run_inputs<S: Store, K: Sink>(
     match World::new(alloc, store, guests, room) {
         Err((_, store)) => (Status::NoMemory, store),
         Ok(world) => {
-            let (made, store) = play(alloc, world, actors);
+            let (made, store) = play(alloc, world, actors, buffer);
             match made {
                 None => (Status::NoMemory, store),
                 Some(made) => (write_out(alloc, made, names, out), store),

@@ -2,7 +2,8 @@
 ghost use Rattle.std.specs.Prelude.{◌≡◌, ◌+◌, ◌<◌, ◌≤◌, ℕ, List, [], length, slice_get, get_or, IfOk, IfSome, Some};
 ghost use Rattle.blk_base.specs.Written.{memory_of};
 ghost use Rattle.qblk_core.specs.Output.{AllLinesFit};
-ghost use Rattle.qblk_run.specs.Tasks.{CanHaveLines, guests_only};
+ghost use Rattle.blk_history.specs.Names.{JobLine};
+ghost use Rattle.qblk_run.specs.Tasks.{CanPrint};
 ghost use Rattle.qblk_run.specs.Sending.{RepliesFit, NamesFit};
 
 use blk_base::{Names1, NoMemory, Text};
@@ -10,7 +11,7 @@ use blk_history::History;
 use qblk_core::CHUNK;
 use std::alloc::Global;
 
-/// How many bytes a line has at most beside names and texts, with the runs of a block.
+/// How many bytes a line has at most beside names of guests and texts, with the runs of a block, or the id of a job.
 const LINE: usize = 256 + 5 * 65536;
 
 /// The greatest length of a reply's text.
@@ -44,12 +45,13 @@ fn room_of(text: usize, name: usize) -> Option<usize>
     text.checked_add(name)?.checked_add(CHUNK + LINE)
 }
 
-/// A text with room for each line of a history.
+/// A text with room for each line of a history, whatever jobs it has that can be printed.
 pub(crate) fn text_for(alloc: Global, history: &History, names: &Names1) -> Result<Text, NoMemory>
-    requires lines { CanHaveLines names.now history.now.events }
     ensures empty { IfOk result (λ text. text.bytes ≡ []) }
-    ensures fits { IfOk result (λ text.
-        AllLinesFit (guests_only names.now) (memory_of text) history.now.events) }
+    ensures fits { IfOk result (λ text. (jobs : List JobLine)
+        → CanPrint (record { guests = names.now; jobs = jobs }) history.now.events
+        → AllLinesFit (record { guests = names.now; jobs = jobs }) (memory_of text)
+        history.now.events) }
 {
     let Some(room) = room_of(longest_reply(history), longest_name(names)) else {
         return Err(NoMemory);

@@ -56,6 +56,8 @@ fn is_built(command: &Command) -> bool
             | Command::DeviceAdd(_)
             | Command::DeviceDel(_)
             | Command::BlockdevSnapshot(_)
+            | Command::BlockdevBackup(_)
+            | Command::BlockJobCancel(_, _)
             | Command::QueryBlockJobs
             | Command::QueryNamedBlockNodes(_)
             | Command::BitmapAdd(_)

@@ -66,7 +66,6 @@ coherent-put t nodes now opened opened' p was alike out = record {
   within = was.within;
   allowed = was.allowed;
   count = was.count;
-  jobs = was.jobs;
   out = out;
 }
 

@@ -50,7 +50,6 @@ module _ (t : RunTable) (told : Told) (c : Adding) (none : refusal_to t told (co
     within = was.within;
     allowed = was.allowed;
     count = was.count;
-    jobs = was.jobs;
     out = out-same t old.nodes now.nodes old.store.opened (same-risen old.nodes.devices now.nodes.devices called.risen) was.out;
   }
 
@@ -131,5 +130,5 @@ module _ (t : RunTable) (told : Told) (c : Adding) (none : refusal_to t told (co
   whole looks has same =
       subst (λ (o : List Opened). IsCoherent (all_changed t (command_edits t told (command.BlockdevAdd c))) new.nodes o p) (sym (ap (λ (s : StoreInRun). s.opened) same))
       (coherent-of (all_changed t (command_edits t told (command.BlockdevAdd c))) new.nodes now.store.opened p
-      (command_rests t told told (command.BlockdevAdd c) was.table none).1
+      (command_rests t told told (command.BlockdevAdd c) refl was.table none).1
       (driver-case c.driver refl looks has))

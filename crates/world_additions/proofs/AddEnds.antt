@@ -93,6 +93,7 @@ module _ (w : WorldSeen) (coherent : IsCoherent w.table w.nodes w.opened w.progr
           table = ends.table ∙ sym unchanged;
           progress = refl;
           drains = refl;
+          works = refl;
           calm = λ is. All-nil (IsCalm w.table w.progress.guests);
           runs = runs-back w v refl is.between c.driver is.out (so is) ends.is;
           hides = subst (λ (r : Option Refusal). HidesNoFault w v (fault_told r)) ends.staged.is account.hides;
@@ -129,6 +130,7 @@ module _ (w : WorldSeen) (coherent : IsCoherent w.table w.nodes w.opened w.progr
           table = table;
           progress = refl;
           drains = refl;
+          works = refl;
           calm = λ is. All-nil (IsCalm w.table w.progress.guests);
           runs = runs;
           hides = subst (λ (r : Option Refusal). HidesNoFault w v (fault_told r)) ends.accepted.none account.hides;

@@ -33,7 +33,7 @@ alike-unsettled file (Some record') None is = is
 alike-unsettled file (Some record') (Some row) is = by_test (record'.id == file)
   where
     by_test : (b : Bool) → IsRowOf (cond b (unsettled record') record') row
-    by_test true = record { kind = is.kind; size = is.size; access = is.access; place = is.place; small = is.small; plain = is.plain }
+    by_test true = record { kind = is.kind; size = is.size; access = is.access; place = is.place; small = is.small }
     by_test false = is
 
 id-unsettled : (file : ℕ) (row : NodeRecord) → (node_changed file unsettled row).id ≡ row.id

@@ -129,7 +129,6 @@ module _ (t : RunTable) (nodes : Nodes) (alike : AreNodesOf t nodes) (joined : I
         access = refl;
         place = refl;
         small = subst (λ (n : ℕ). n ≤ most_length) (sym size-is) length-is.short;
-        plain = tt;
       })
       (ap (λ (n : Nodes). n.graph.nodes) has'.is) (ap (λ (n : Nodes). n.rows) has'.is) (ap (λ (n : Nodes). n.graph.edges) has'.is)
 

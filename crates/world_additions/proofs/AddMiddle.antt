@@ -31,7 +31,6 @@ pub record Middle (t : RunTable) (nodes : Nodes) (opened : List Opened) (p : Pro
   pub within : AreWithin t p.guests
   pub allowed : AreAllowed t p.guests
   pub count : length p.guests ≡ length t.guests
-  pub jobs : t.jobs ≡ []
   pub out : AreOut t nodes opened
 
 pub middle-of : (t : RunTable) (nodes : Nodes) (opened : List Opened) (p : Progress) → IsCoherent t nodes opened p → Middle t nodes opened p
@@ -44,7 +43,6 @@ middle-of t nodes opened p is = record {
   within = is.within;
   allowed = is.allowed;
   count = is.count;
-  jobs = is.jobs;
   out = is.out;
 }
 
@@ -59,7 +57,6 @@ coherent-of t nodes opened p rest is = record {
   within = is.within;
   allowed = is.allowed;
   count = is.count;
-  jobs = is.jobs;
   out = is.out;
 }
 
@@ -68,7 +65,6 @@ coherent-of t nodes opened p rest is = record {
 pub record HasMore (t t' : RunTable) (change : NodeRecord → NodeRecord) : Type 0 where
   pub access : (row : NodeRecord) → (change row).read_only ≡ row.read_only
   pub guests : t'.guests ≡ t.guests
-  pub jobs : t'.jobs ≡ t.jobs
   pub edges : (edge : Edge) (g : ℕ) → Contains t'.edges edge → edge.parent ≡ Guest g → Contains t.edges edge
 
 module _ (t t' : RunTable) (new but : ℕ) (change : NodeRecord → NodeRecord) (grows : GrowsByNode t t' new but change) (more : HasMore t t' change)
@@ -96,7 +92,6 @@ module _ (t t' : RunTable) (new but : ℕ) (change : NodeRecord → NodeRecord) 
     allowed = λ g f flies.
         subst (λ (d : Option DeviceRow). With d (λ device. IsForbidden f.op device.read_only → ⊥)) (sym (device-same t t' new but change grows g)) (was.allowed g f flies);
     count = was.count ∙ ap length (sym more.guests);
-    jobs = more.jobs ∙ was.jobs;
     out = out;
   }
 

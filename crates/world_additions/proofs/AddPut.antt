@@ -97,6 +97,7 @@ module _ (w : WorldSeen) (coherent : IsCoherent w.table w.nodes w.opened w.progr
       progress = refl;
       bitmaps = refl;
       drains = refl;
+      works = refl;
       runs = put-runs u;
       files = same-files;
       called = put.called;

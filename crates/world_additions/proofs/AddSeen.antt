@@ -1,5 +1,5 @@
 -- What a look at the store and at an image came to is what the files may tell.
-use Rattle.std.proofs.Common.{◌≡◌, ℕ, true, false, List, length, refl, sym, ◌∙◌, subst, Some, None}
+use Rattle.std.proofs.Common.{◌≡◌, ℕ, true, false, List, length, refl, sym, subst, Some, None}
 use Rattle.q2_format.specs.Header.{header_of}
 use Rattle.qmp_codec.specs.declared.nodes.AddRaw.{AddRaw}
 use Rattle.qmp_codec.specs.declared.nodes.AddQcow2.{AddQcow2}

@@ -25,7 +25,7 @@ use Rattle.qmp_rules.specs.declared.change.Change.TheVariants.{AddFile, AddFilte
 use Rattle.qmp_rules.specs.declared.rows.NodeRecord.{NodeRecord}
 use Rattle.flat_machine.specs.State.{filename_of}
 use Rattle.world_parts.specs.Adding.{Taken, opening_of}
-use Rattle.world_parts.specs.Coherent.{IsRowOf, IsOfFileLength, IsOfNoJob}
+use Rattle.world_parts.specs.Coherent.{IsRowOf, IsOfFileLength}
 use Rattle.world_parts.specs.Joining.{IsFileAdded, HasOver}
 use Rattle.world_parts.specs.Progress.{Progress}
 use Rattle.world_additions.proofs.AddFacts.{alike-filed, alike-filtered, alike-formatted, filed-filename, held-other}
@@ -101,7 +101,6 @@ module _ (t : RunTable) (nodes : Nodes) (opened : List Opened) (p : Progress) (w
     file-more = record {
       access = λ r. refl;
       guests = refl;
-      jobs = refl;
       edges = λ edge g there from. guest_edge (kinds_of (changed t (AddFile row)).nodes) t.edges edge g there from;
     }
 
@@ -112,7 +111,7 @@ module _ (t : RunTable) (nodes : Nodes) (opened : List Opened) (p : Progress) (w
     pub file-step : Middle (changed t (AddFile row)) now (opened ++ opening_of filename device ∷ []) p
     file-step =
         grown-middle t (changed t (AddFile row)) row.id row.id (λ r. r) file-grows file-more nodes now opened (opened ++ opening_of filename device ∷ []) p was
-        (alike-filed t nodes was.alike joined row own fresh now has.joined (record { kind = kind; size = size; access = refl; place = offset; small = small; plain = subst IsOfNoJob (sym kind) tt })
+        (alike-filed t nodes was.alike joined row own fresh now has.joined (record { kind = kind; size = size; access = refl; place = offset; small = small })
         (ap (λ (n : Nodes). n.graph.nodes) has.is) (ap (λ (n : Nodes). n.rows) has.is) (ap (λ (n : Nodes). n.graph.edges) has.is))
         (out-more t (changed t (AddFile row)) nodes now opened row.id filename device was.out number file-names (filed-filename t row filename fresh named) inside
         (ap (λ (n : Nodes). n.devices) has.is))
@@ -138,7 +137,6 @@ module _ (t : RunTable) (nodes : Nodes) (opened : List Opened) (p : Progress) (w
       format-more = record {
         access = unsettled-access child;
         guests = refl;
-        jobs = refl;
         edges = λ edge g there from.
             over-old row.id child backing t.edges edge g (guest_edge (kinds_of formatted.nodes) (with_format_edges row.id child backing t.edges) edge g there from) from;
       }
@@ -162,7 +160,6 @@ module _ (t : RunTable) (nodes : Nodes) (opened : List Opened) (p : Progress) (w
       filter-more = record {
         access = λ r. refl;
         guests = refl;
-        jobs = refl;
         edges = λ edge g there from.
             over-old row.id child None t.edges edge g (guest_edge (kinds_of filtered.nodes) (with_edge (node_edge row.id File child) t.edges) edge g there from) from;
       }

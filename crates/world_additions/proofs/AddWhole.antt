@@ -169,7 +169,7 @@ module _ (t : RunTable) (told : Told) (c : Adding) (none : refusal_to t told (co
       rw has.found
       (subst (λ (o : List Opened). Middle (changed t (AddFormat new_row row.id None)) new o p) (sym fresh)
       (format-step t nodes old.opened p was joined new_row (free_fresh t room) own
-      (record { kind = refl; size = refl; access = refl; place = refl; small = tt; plain = tt }) row.id _ new None has' (edges-apart row.id t.edges lone)))
+      (record { kind = refl; size = refl; access = refl; place = refl; small = tt }) row.id _ new None has' (edges-apart row.id t.edges lone)))
   whole-part raw (file_ref.Name name) e f (Some device) fresh has = absurd has
   whole-part raw (file_ref.Inline file) e f None fresh has = absurd has
   whole-part raw (file_ref.Inline file) e f (Some device) fresh has =
@@ -187,7 +187,7 @@ module _ (t : RunTable) (told : Told) (c : Adding) (none : refusal_to t told (co
       (under-is file device fresh has.between has.under has.first room closed) next' in
       format-step (t1 file device fresh has.between has.under has.first room closed) has.between now.opened p first has.first.joined new_row
       (fresh1 file device fresh has.between has.under has.first room closed) own
-      (record { kind = refl; size = part_is; access = refl; place = refl; small = tt; plain = tt }) (free_id t) _ new None next''
+      (record { kind = refl; size = part_is; access = refl; place = refl; small = tt }) (free_id t) _ new None next''
       (lone1 file device fresh has.between has.under has.first room closed)
 
   pub whole-image : (qcow2 : AddQcow2 (List ℕ)) (file : FileRef (List ℕ)) → c.driver ≡ added.Qcow2 qcow2 → qcow2.file ≡ file → (out : Option Taken)
@@ -210,7 +210,7 @@ module _ (t : RunTable) (told : Told) (c : Adding) (none : refusal_to t told (co
       rw has.found
       (subst (λ (o : List Opened). Middle (changed t (AddFormat new_row row.id over)) new o p) (sym fresh)
       (format-step t nodes old.opened p was joined new_row (free_fresh t room) own
-      (record { kind = refl; size = size; access = refl; place = refl; small = tt; plain = tt }) row.id _ new over has' (edges-apart row.id t.edges lone)))
+      (record { kind = refl; size = size; access = refl; place = refl; small = tt }) row.id _ new over has' (edges-apart row.id t.edges lone)))
   whole-image qcow2 (file_ref.Inline file) e f (Some device) (Some image) sized fresh has =
       let rest = rw (e, f) at (rest-asked t told c none) in
       let room : length t.nodes + 2 ≤ 64 = room-left t told 2 rest.1.1.1.1.0 in
@@ -228,7 +228,7 @@ module _ (t : RunTable) (told : Told) (c : Adding) (none : refusal_to t told (co
       (under-is file device fresh has.between has.under has.first room closed) next2' in
       format-step (t1 file device fresh has.between has.under has.first room closed) has.between now.opened p first has.first.joined new_row
       (fresh1 file device fresh has.between has.under has.first room closed) own
-      (record { kind = refl; size = size; access = refl; place = refl; small = tt; plain = tt }) (free_id t) bytes new over next3'
+      (record { kind = refl; size = size; access = refl; place = refl; small = tt }) (free_id t) bytes new over next3'
       (lone1 file device fresh has.between has.under has.first room closed)
   whole-image qcow2 (file_ref.Name name) e f None None sized fresh has = absurd has
   whole-image qcow2 (file_ref.Name name) e f (Some device) image sized fresh has = absurd has
@@ -248,4 +248,4 @@ module _ (t : RunTable) (told : Told) (c : Adding) (none : refusal_to t told (co
       let has' = subst (HasOver c.node_name own row.id None (disk_of nodes row.id) nodes new) (id-is room node has.lowest) has in
       subst (λ (o : List Opened). Middle (changed t (AddFilter new_row row.id)) new o p) (sym kept)
       (filter-step t nodes old.opened p was joined new_row (free_fresh t room) own
-      (record { kind = refl; size = size; access = refl; place = refl; small = tt; plain = tt }) row.id (disk_of nodes row.id) new has')
+      (record { kind = refl; size = size; access = refl; place = refl; small = tt }) row.id (disk_of nodes row.id) new has')

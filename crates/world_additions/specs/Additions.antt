@@ -14,7 +14,6 @@ use Rattle.qmp_codec.specs.declared.nodes.AddQcow2.{AddQcow2}
 use Rattle.qmp_codec.specs.declared.nodes.AddRaw.{AddRaw}
 use Rattle.qmp_codec.specs.declared.nodes.Added.{Added}
 use Rattle.qmp_codec.specs.declared.nodes.Added.TheVariants as added
-use Rattle.qmp_codec.specs.declared.nodes.BackingRef.TheVariants as said
 use Rattle.qmp_codec.specs.declared.nodes.FileRef.{FileRef}
 use Rattle.qmp_codec.specs.declared.nodes.FileRef.TheVariants as file_ref
 use Rattle.qmp_codec.specs.declared.nodes.InlineFile.{InlineFile}

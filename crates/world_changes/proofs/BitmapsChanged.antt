@@ -1,12 +1,11 @@
 -- What commands make of the bitmaps is what they make of the table and of what is dirty.
 use Rattle.std.proofs.Common.{◌≡◌, inl, inr, ℕ, ◌+◌, ◌-◌, ◌*◌, ◌^◌, ◌<◌, min, Bool, true, false, cond, List, [], ◌∷◌, ◌++◌, length, map, get_or, take, refl, sym, ap, subst, ◌∙◌, arith, Option, Some, None, option_map}
-use Rattle.std.specs.Prelude.{nat_le, is_some, option_and_then, unwrap_or, codes, Contains, Result, Ok, Err, OnOk, OnErr, IsOk, MatchOption, ◌⊎◌}
+use Rattle.std.specs.Prelude.{nat_le, is_some, option_and_then, unwrap_or, codes, Result, Ok, Err, OnOk, OnErr, IsOk, MatchOption, ◌⊎◌}
 use Rattle.blk_bitmaps.specs.declared.row.Bitmap.{Bitmap}
 use Rattle.blk_bitmaps.specs.declared.stop.BitmapStop.{BitmapStop}
 use Rattle.blk_bitmaps.specs.Calls.{with_first, with_source, without_first}
 use Rattle.blk_bitmaps.specs.Refusals.{add_refusal, busy_refusal, use_refusal, find as find_row, first_row}
 use Rattle.blk_bitmaps.specs.Rows.{dirty_below, is_granule_size as may_have, is_named}
-use Rattle.blk_graph.proofs.Members.{Contains-here, Contains-there}
 use Rattle.std.proofs.lemmas.List.{length-map, map_push, take_more}
 use Rattle.qmp_codec.specs.Commands.{Cmd, SeenSources}
 use Rattle.qmp_codec.specs.declared.bitmaps.BitmapAdd.{BitmapAdd}

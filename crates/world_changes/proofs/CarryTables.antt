@@ -13,14 +13,17 @@ use Rattle.qmp_codec.specs.declared.command.Command.TheVariants as command
 use Rattle.qmp_rules.specs.declared.change.Change.{Change}
 use Rattle.qmp_rules.specs.declared.change.Change.TheVariants as change
 use Rattle.qmp_rules.specs.declared.refusal.Refusal.{Refusal}
-use Rattle.qmp_rules.specs.declared.refusal.Refusal.TheVariants as refusal
 use Rattle.qmp_rules.specs.declared.told.Told.{Told}
-use Rattle.qmp_rules.specs.Table.{RunTable, node_by_id}
+use Rattle.qmp_rules.specs.Table.{RunTable, job_named, node_by_id}
+use Rattle.qmp_rules.specs.declared.rows.AskedEnd.{AskedEnd}
+use Rattle.qmp_rules.specs.declared.rows.JobRecord.{JobRecord}
+use Rattle.qmp_asks.specs.Values.{flag_or_false}
+use Rattle.flat_machine.specs.Replies.{begins_job}
 use Rattle.qmp_rules.specs.Asks.{id_or}
 use Rattle.qmp_asks.specs.BitmapAsks.{source_name, source_node}
 use Rattle.qmp_asks.specs.CommandAsks.{is_built}
 use Rattle.qmp_rules.specs.Changes.{changed, all_changed}
-use Rattle.qmp_rules.specs.Edits.{edits_of, merges}
+use Rattle.qmp_rules.specs.Edits.{asked_by_cancel, edits_of, merges}
 use Rattle.qmp_rules.specs.Answers.{answer, answer_by, told_none, refusal_to, command_edits, left_by}
 use Rattle.flat_machine.specs.State.{State, filename_of}
 use Rattle.flat_machine.specs.Agreement.{Contents}
@@ -44,11 +47,17 @@ use Rattle.world_parts.proofs.CountLemmas.{same-devices, runs-devices}
 use Rattle.world_parts.proofs.Uncalled.{called_itself}
 use Rattle.world_parts.proofs.CountsKept.{hides-same}
 use Rattle.world_parts.proofs.GuestsKept.{guests_same, guests_stand}
-use Rattle.world_parts.proofs.CarryPlain.{HasTableShape, maps_nothing, opens_nothing, plain_opens, quiet-self, quiet_cause, quiet_fault, table_quiet, told_counts}
+use Rattle.world_parts.proofs.CarryPlain.{maps_nothing, opens_nothing, plain_opens, quiet-self, quiet_cause, quiet_fault, table_quiet, told_counts}
 
--- ---- a table that differs in what is kept and negotiated alone
+-- ---- a table of which nodes, edges, devices and guests stay
 
-module _ (t u : RunTable) (shape : HasTableShape t u) where
+pub record KeepsWiring (t u : RunTable) : Type 0 where
+  pub nodes : u.nodes ≡ t.nodes
+  pub edges : u.edges ≡ t.edges
+  pub devices : u.devices ≡ t.devices
+  pub guests : u.guests ≡ t.guests
+
+module _ (t u : RunTable) (shape : KeepsWiring t u) where
   same-node : (id : ℕ) → node_by_id u id ≡ node_by_id t id
   same-node id = rw shape.nodes refl
 
@@ -70,7 +79,6 @@ module _ (t u : RunTable) (shape : HasTableShape t u) where
     within = stand.within;
     allowed = stand.allowed;
     count = was.count ∙ ap length (sym shape.guests);
-    jobs = shape.jobs ∙ was.jobs;
     out = record {
       each = λ device held.
           let is = was.out.each device held in
@@ -87,7 +95,7 @@ module _ (t u : RunTable) (shape : HasTableShape t u) where
 
 -- ---- what commands that change the table and bitmaps alone leave
 
--- those that open, make, add, drop and attach nothing
+-- those that open, make, add, drop and attach nothing, and put no filter
 abbrev pub stays_in_table : Cmd → Bool
 stays_in_table (command.BlockdevAdd c) = false
 stays_in_table (command.BlockdevCreate c) = false
@@ -95,17 +103,24 @@ stays_in_table (command.BlockdevDel c) = false
 stays_in_table (command.DeviceAdd c) = false
 stays_in_table (command.DeviceDel id) = false
 stays_in_table (command.BlockdevSnapshot c) = false
+stays_in_table (command.BlockdevBackup c) = false
 stays_in_table c = true
 
-same-shape : (t : RunTable) → HasTableShape t t
-same-shape t = record { nodes = refl; edges = refl; devices = refl; guests = refl; jobs = refl }
+same-shape : (t : RunTable) → KeepsWiring t t
+same-shape t = record { nodes = refl; edges = refl; devices = refl; guests = refl }
 
 merged-shape : (t : RunTable) (node target : List ℕ) (sources : SeenSources) (now : RunTable) → all_changed now (merges t node target sources) ≡ now
 unfolding changed
 merged-shape t node target [] now = refl
 merged-shape t node target (s ∷ sources) now = merged-shape t node target sources now
 
-pub table-edits : (t : RunTable) (c : Cmd) → stays_in_table c ≡ true → is_built c ≡ true → (t' : RunTable) → t' ≡ all_changed t (command_edits t told_none c) → HasTableShape t t'
+asked-shape : (t : RunTable) (ask : JobRecord → AskedEnd) (found : Option JobRecord)
+    → KeepsWiring t (all_changed t (elim found as (λ _. List Change) [ None ↦ [] | Some job ↦ change.AskJob job.number (ask job) ∷ [] ]))
+unfolding changed
+asked-shape t ask None = same-shape t
+asked-shape t ask (Some job) = record { nodes = refl; edges = refl; devices = refl; guests = refl }
+
+pub table-edits : (t : RunTable) (c : Cmd) → stays_in_table c ≡ true → is_built c ≡ true → (t' : RunTable) → t' ≡ all_changed t (command_edits t told_none c) → KeepsWiring t t'
 unfolding edits_of changed
 table-edits t (command.BlockdevAdd c) alone built u is = absurd cc
 table-edits t (command.BlockdevCreate c) alone built u is = absurd cc
@@ -113,20 +128,21 @@ table-edits t (command.BlockdevDel c) alone built u is = absurd cc
 table-edits t (command.DeviceAdd c) alone built u is = absurd cc
 table-edits t (command.DeviceDel id) alone built u is = absurd cc
 table-edits t (command.BlockdevSnapshot c) alone built u is = absurd cc
-table-edits t (command.Capabilities enable) alone built u is = rw is (record { nodes = refl; edges = refl; devices = refl; guests = refl; jobs = refl })
-table-edits t (command.JobDismiss id) alone built u is = rw is (record { nodes = refl; edges = refl; devices = refl; guests = refl; jobs = refl })
-table-edits t command.QueryBlockJobs alone built u is = rw is (record { nodes = refl; edges = refl; devices = refl; guests = refl; jobs = refl })
-table-edits t (command.QueryNamedBlockNodes flat) alone built u is = rw is (record { nodes = refl; edges = refl; devices = refl; guests = refl; jobs = refl })
-table-edits t (command.BitmapAdd c) alone built u is = rw is (record { nodes = refl; edges = refl; devices = refl; guests = refl; jobs = refl })
-table-edits t (command.BitmapRemove c) alone built u is = rw is (record { nodes = refl; edges = refl; devices = refl; guests = refl; jobs = refl })
-table-edits t (command.BitmapClear c) alone built u is = rw is (record { nodes = refl; edges = refl; devices = refl; guests = refl; jobs = refl })
-table-edits t (command.BitmapEnable c) alone built u is = rw is (record { nodes = refl; edges = refl; devices = refl; guests = refl; jobs = refl })
-table-edits t (command.BitmapDisable c) alone built u is = rw is (record { nodes = refl; edges = refl; devices = refl; guests = refl; jobs = refl })
+table-edits t (command.Capabilities enable) alone built u is = rw is (record { nodes = refl; edges = refl; devices = refl; guests = refl })
+table-edits t (command.JobDismiss id) alone built u is = rw is (record { nodes = refl; edges = refl; devices = refl; guests = refl })
+table-edits t command.QueryBlockJobs alone built u is = rw is (record { nodes = refl; edges = refl; devices = refl; guests = refl })
+table-edits t (command.QueryNamedBlockNodes flat) alone built u is = rw is (record { nodes = refl; edges = refl; devices = refl; guests = refl })
+table-edits t (command.BitmapAdd c) alone built u is = rw is (record { nodes = refl; edges = refl; devices = refl; guests = refl })
+table-edits t (command.BitmapRemove c) alone built u is = rw is (record { nodes = refl; edges = refl; devices = refl; guests = refl })
+table-edits t (command.BitmapClear c) alone built u is = rw is (record { nodes = refl; edges = refl; devices = refl; guests = refl })
+table-edits t (command.BitmapEnable c) alone built u is = rw is (record { nodes = refl; edges = refl; devices = refl; guests = refl })
+table-edits t (command.BitmapDisable c) alone built u is = rw is (record { nodes = refl; edges = refl; devices = refl; guests = refl })
+table-edits t (command.BlockJobCancel id force) alone built u is = rw is (asked-shape t (asked_by_cancel (flag_or_false force)) (job_named t id))
 table-edits t (command.BitmapMerge c) alone built u is = rw (is ∙ merged-shape t c.node c.target c.bitmaps t) (same-shape t)
 table-edits t _ alone built u is = absurd cc
 
 -- nodes and edges stay, and so does what nodes read as and what files hold
-shape-quiet : (w : WorldSeen) (u : RunTable) (b : List Bitmap) → HasTableShape w.table u → IsQuiet (contents_of w) (contents_of (record w { table = u; bitmaps = b }))
+shape-quiet : (w : WorldSeen) (u : RunTable) (b : List Bitmap) → KeepsWiring w.table u → IsQuiet (contents_of w) (contents_of (record w { table = u; bitmaps = b }))
 shape-quiet w u b shape = record {
   nodes = λ node other. refl;
   files = λ name other. rw shape.nodes refl;
@@ -141,6 +157,11 @@ merged-performed t node target [] s old new quiet = quiet
 merged-performed t node target (source ∷ sources) s old new quiet =
     let merge : Change = change.MergeBitmap (id_or 0 t (Some node)) target (id_or 0 t (Some (source_node node source))) (source_name source) in
     (new, quiet, merged-performed t node target sources (stepped s merge) new new (quiet-self new))
+
+asked-performed : (s : State) (ask : JobRecord → AskedEnd) (found : Option JobRecord) (old new : Contents) → IsQuiet old new
+    → AllPerformed s (elim found as (λ _. List Change) [ None ↦ [] | Some job ↦ change.AskJob job.number (ask job) ∷ [] ]) old new
+asked-performed s ask None old new quiet = quiet
+asked-performed s ask (Some job) old new quiet = (new, quiet, quiet-self new)
 
 pub alone-performed : (s : State) (c : Cmd) (old new : Contents) → stays_in_table c ≡ true → is_built c ≡ true → IsQuiet old new
     → (t : RunTable) → AllPerformed s (command_edits t told_none c) old new
@@ -160,6 +181,7 @@ alone-performed s (command.BitmapRemove c) old new alone built quiet t = (new, q
 alone-performed s (command.BitmapClear c) old new alone built quiet t = (new, quiet, quiet-self new)
 alone-performed s (command.BitmapEnable c) old new alone built quiet t = (new, quiet, quiet-self new)
 alone-performed s (command.BitmapDisable c) old new alone built quiet t = (new, quiet, quiet-self new)
+alone-performed s (command.BlockJobCancel id force) old new alone built quiet t = asked-performed s (asked_by_cancel (flag_or_false force)) (job_named t id) old new quiet
 alone-performed s (command.BitmapMerge c) old new alone built quiet t = merged-performed t c.node c.target c.bitmaps s old new quiet
 alone-performed s _ old new alone built quiet t = absurd cc
 
@@ -169,6 +191,15 @@ stays-opens (command.BlockdevCreate c) alone = absurd cc
 stays-opens (command.BlockdevSnapshot c) alone = absurd cc
 stays-opens _ alone = refl
 
+-- none that is carried out so begins a job
+stays-begun : (c : Cmd) → stays_in_table c ≡ true → is_built c ≡ true → begins_job c ≡ false
+stays-begun (command.BlockStream c) alone built = absurd cc
+stays-begun (command.BlockCommit c) alone built = absurd cc
+stays-begun (command.BlockdevMirror c) alone built = absurd cc
+stays-begun (command.BlockdevBackup c) alone built = absurd cc
+stays-begun (command.Transaction c) alone built = absurd cc
+stays-begun _ alone built = refl
+
 -- it leaves store and nodes as they are, accepted or refused
 stays-leaves : (t : RunTable) (told : Told) (c : Cmd) (first : Option Refusal) (u : RunTable) (x : Site) → stays_in_table c ≡ true → Leaves t told c first u x x
 stays-leaves t told (command.BlockdevAdd c) first u x alone = absurd cc
@@ -177,6 +208,7 @@ stays-leaves t told (command.BlockdevDel c) first u x alone = absurd cc
 stays-leaves t told (command.DeviceAdd c) first u x alone = absurd cc
 stays-leaves t told (command.DeviceDel id) first u x alone = absurd cc
 stays-leaves t told (command.BlockdevSnapshot c) first u x alone = absurd cc
+stays-leaves t told (command.BlockdevBackup c) first u x alone = absurd cc
 stays-leaves t told _ None u x alone = refl
 stays-leaves t told _ (Some cause) u x alone = refl
 
@@ -192,7 +224,7 @@ module _ (w : WorldSeen) (u : RunTable) (b : List Bitmap) (c : Cmd) (alone : sta
   abbrev then : WorldSeen
   then = record w { table = u; bitmaps = b }
 
-  shape-by : (first : Option Refusal) → refusal_to w.table told_none c ≡ first → u ≡ all_changed w.table (answer_by w.table told_none c first).changes → HasTableShape w.table u
+  shape-by : (first : Option Refusal) → refusal_to w.table told_none c ≡ first → u ≡ all_changed w.table (answer_by w.table told_none c first).changes → KeepsWiring w.table u
   shape-by None none is = table-edits w.table c alone (built_accepted w.table told_none c none) u is
   shape-by (Some cause) some is =
       let same : u ≡ w.table = is ∙ ap (all_changed w.table) (stays-left w.table c cause alone) in
@@ -201,10 +233,9 @@ module _ (w : WorldSeen) (u : RunTable) (b : List Bitmap) (c : Cmd) (alone : sta
         edges = ap (λ (t : RunTable). t.edges) same;
         devices = ap (λ (t : RunTable). t.devices) same;
         guests = ap (λ (t : RunTable). t.guests) same;
-        jobs = ap (λ (t : RunTable). t.jobs) same;
       }
 
-  performed-by : (s : State) (first : Option Refusal) → refusal_to w.table told_none c ≡ first → HasTableShape w.table u
+  performed-by : (s : State) (first : Option Refusal) → refusal_to w.table told_none c ≡ first → KeepsWiring w.table u
       → AllPerformed s (answer_by w.table told_none c first).changes (contents_of w) (contents_of then)
   performed-by s None none shape =
       alone-performed s c (contents_of w) (contents_of then) alone (built_accepted w.table told_none c none) (shape-quiet w u b shape) w.table
@@ -213,7 +244,7 @@ module _ (w : WorldSeen) (u : RunTable) (b : List Bitmap) (c : Cmd) (alone : sta
 
   rests-by : (first : Option Refusal) → refusal_to w.table told_none c ≡ first → u ≡ all_changed w.table (answer_by w.table told_none c first).changes
       → TableAtRest w.table → TableAtRest u
-  rests-by None none is was = subst TableAtRest (sym is) (command_rests w.table told_none told_none c was none).1
+  rests-by None none is was = subst TableAtRest (sym is) (command_rests w.table told_none told_none c (stays-begun c alone (built_accepted w.table told_none c none)) was none).1
   rests-by (Some cause) some is was =
       let same : u ≡ w.table = is ∙ ap (all_changed w.table) (stays-left w.table c cause alone) in subst TableAtRest (sym same) was
 
@@ -242,6 +273,7 @@ module _ (w : WorldSeen) (u : RunTable) (b : List Bitmap) (c : Cmd) (alone : sta
           table = is ∙ ap (all_changed w.table) (sym changes);
           progress = refl;
           drains = refl;
+          works = refl;
           calm = λ is. undrained w c alone (built_accepted w.table told_none c (judged ∙ is));
           runs = runs-devices w then refl refl refl refl refl refl (same-devices w.nodes.devices);
           hides = subst (HidesNoFault w then) (sym (quiet_fault refusal' (λ cause some. table_quiet w.table c cause (judged ∙ some))))
@@ -270,12 +302,13 @@ module _ (w : WorldSeen) (u : RunTable) (b : List Bitmap) (c : Cmd) (alone : sta
 -- want of memory, where the table stays
 pub table_put_back : (w : WorldSeen) (u : RunTable) → u ≡ w.table → IsPutBack w (record w { table = u })
 table_put_back w u same =
-    let shape : HasTableShape w.table u = rw same (record { nodes = refl; edges = refl; devices = refl; guests = refl; jobs = refl }) in
+    let shape : KeepsWiring w.table u = rw same (record { nodes = refl; edges = refl; devices = refl; guests = refl }) in
     record {
       table = same;
       progress = refl;
       bitmaps = refl;
       drains = refl;
+      works = refl;
       runs = runs-devices w (record w { table = u }) refl refl refl refl refl refl (same-devices w.nodes.devices);
       files = refl;
       called = called_itself w.nodes;

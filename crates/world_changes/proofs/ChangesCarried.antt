@@ -38,6 +38,7 @@ use Rattle.world_parts.proofs.CountLemmas.{runs-devices, same-devices}
 use Rattle.world_parts.proofs.CountsKept.{hides-same}
 use Rattle.world_parts.proofs.DisksKept.{as_in}
 use Rattle.world_parts.proofs.GuestsKept.{guests_stand}
+use Rattle.world_parts.proofs.JobsAnswered.{begins_not, jobs_kept}
 use Rattle.world_parts.proofs.NodesRewired.{nodes_rewired, same_rewired}
 use Rattle.world_parts.proofs.Placed.{answer-is}
 use Rattle.world_parts.proofs.Accepted.{built_accepted}
@@ -45,6 +46,7 @@ use Rattle.world_changes.specs.Changing.{TellsMappedAlone, is_change, is_snapsho
 use Rattle.world_changes.proofs.BitmapsChanged.{after-follow}
 use Rattle.world_changes.proofs.CarryTables.{alone-performed, table-edits}
 use Rattle.world_changes.proofs.ChangesMade.{IsAfter, after_command, performed_added, performed_gone, performed_made, quiet_same}
+use Rattle.world_changes.proofs.ChangesReady.{starts_none}
 use Rattle.world_changes.proofs.DeviceAdded.{table_is}
 use Rattle.world_changes.proofs.SnapshotTold.{told_so}
 
@@ -81,6 +83,7 @@ module _ (t : RunTable) (told : Told) (old now : List Bitmap) (was : AreBitmapsO
 
   follow_command : (c : Cmd) → is_change c ≡ true → (is_snapshot c ≡ false → told ≡ told_none) → refusal_to t told c ≡ None → AreAfter t c old now → Follows told c
   follow_command (command.BlockdevDel name) is untold none after = absurd cc
+  follow_command (command.BlockdevBackup c) is untold none after = absurd cc
   follow_command (command.BitmapAdd c) is untold none after =
       of_bitmaps (command.BitmapAdd c) (untold refl) none (λ n. after-follow t old now (command.BitmapAdd c) was refl n after)
   follow_command (command.BitmapRemove c) is untold none after =
@@ -128,7 +131,7 @@ module _ (w : WorldSeen) (whole : IsWholeWorld w) (joined : IsJoined w.nodes) (c
   changed_coherent =
       let stands = made.stand (guests_stand t w.nodes w.opened w.progress was) in
       record {
-        table = subst TableAtRest (sym table) (command_rests t told told c was.table none).1;
+        table = subst TableAtRest (sym table) (command_rests t told told c (begins_not t c (starts_none t c is (built_accepted t told c none))) was.table none).1;
         drives = stands.drives;
         disks = stands.disks;
         alike = nodes_rewired t u w.nodes was.alike was.table.stands.apart joined made.rows;
@@ -137,7 +140,6 @@ module _ (w : WorldSeen) (whole : IsWholeWorld w) (joined : IsJoined w.nodes) (c
         within = stands.within;
         allowed = stands.allowed;
         count = was.count ∙ ap length (sym made.names);
-        jobs = made.jobs ∙ was.jobs;
         out = record {
           each = λ d held.
               let out = was.out.each d held in
@@ -175,6 +177,7 @@ module _ (w : WorldSeen) (whole : IsWholeWorld w) (joined : IsJoined w.nodes) (c
         subst (λ (x : Told). Done x (command.DeviceDel id)) (sym same)
         (performed_gone w whole joined u nodes put made.rows s id (subst (λ (x : Told). refusal_to t x (command.DeviceDel id) ≡ None) same none)
         (table ∙ ap (λ (x : Told). all_changed t (command_edits t x (command.DeviceDel id))) same))
+    performed_by (command.BlockdevBackup c) is tells none table = absurd cc
     performed_by c is tells none table =
         let same = tells.none refl in
         let built = built_accepted t told c none in
@@ -196,6 +199,7 @@ module _ (w : WorldSeen) (whole : IsWholeWorld w) (joined : IsJoined w.nodes) (c
       by_command (command.BlockdevSnapshot c) is tells none table = (refl, put)
       by_command (command.DeviceAdd c) is tells none table = (refl, put)
       by_command (command.DeviceDel id) is tells none table = (refl, put)
+      by_command (command.BlockdevBackup c) is tells none table = absurd cc
       by_command c is tells none table =
           let same = tells.none refl in
           let shape = table-edits t c refl (built_accepted t told c none) u (table ∙ ap (λ (x : Told). all_changed t (command_edits t x c)) same) in
@@ -223,6 +227,7 @@ module _ (w : WorldSeen) (whole : IsWholeWorld w) (joined : IsJoined w.nodes) (c
         table = table ∙ sym (ap (all_changed t) answer_is);
         progress = refl;
         drains = refl;
+        works = refl;
         runs = runs-devices w v refl refl refl refl refl refl (same-devices w.nodes.devices);
         hides = hides-same w v refl refl refl;
         opens = opens_none c is w.opened;
@@ -244,4 +249,5 @@ module _ (w : WorldSeen) (whole : IsWholeWorld w) (joined : IsJoined w.nodes) (c
     tell = whole.tell;
     counted = whole.counted;
     bitmaps = subst (λ (x : RunTable). AreBitmapsOf x.bitmaps b) (sym (table ∙ sym (ap (all_changed t) answer_is))) changed_follows.listed;
+    jobs = jobs_kept w whole joined c told u (λ accepted. starts_none t c is (built_accepted t told c accepted)) (table ∙ sym (ap (all_changed t) answer_is));
   }

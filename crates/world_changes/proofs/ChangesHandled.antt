@@ -58,7 +58,7 @@ few_drives t nodes alike joined g some = by_drive (drive_of t g) refl some
 
 -- the world with other drains belongs together as before
 whole-drains : (w : WorldSeen) (drains : Drained) → IsWholeWorld w → IsWholeWorld (record w { drains = drains })
-whole-drains w drains is = record { coherent = is.coherent; tell = is.tell; counted = is.counted; bitmaps = is.bitmaps }
+whole-drains w drains is = record { coherent = is.coherent; tell = is.tell; counted = is.counted; bitmaps = is.bitmaps; jobs = is.jobs }
 
 abbrev pub staged : WorldSeen → Scene → WorldSeen
 staged w y = record w { nodes = y.nodes; table = y.table; drains = y.drains; bitmaps = y.bitmaps }
@@ -124,6 +124,7 @@ module _ (w : WorldSeen) (whole : IsWholeWorld w) (joined : IsJoined w.nodes) (g
           table = sym (ap (all_changed w.table) changes);
           progress = refl;
           drains = refl;
+          works = refl;
           calm = λ none. absurd (let bad : ⊥ = cc none in bad);
           runs = runs-devices w w refl refl refl refl refl refl (same-devices w.nodes.devices);
           hides = subst (HidesNoFault w w) (sym (quiet_named cause quiet)) (hides-same w w refl refl refl);

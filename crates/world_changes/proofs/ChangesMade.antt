@@ -41,11 +41,10 @@ use Rattle.world_changes.proofs.DeviceAdded as added
 use Rattle.world_changes.proofs.DeviceGone as gone
 use Rattle.world_changes.proofs.SnapshotMade as made
 
--- nodes, guests' names and jobs stay, and what is so of guests
+-- nodes and guests' names stay, and what is so of guests
 pub record IsAfter (t u : RunTable) (guests : List Guest) : Type 0 where
   pub rows : u.nodes ≡ t.nodes
   pub names : u.guests ≡ t.guests
-  pub jobs : u.jobs ≡ t.jobs
   pub stand : GuestsStand t guests → GuestsStand u guests
 
 -- ---- the table
@@ -59,7 +58,6 @@ module _ (t : RunTable) (h : TableStands t) (guests : List Guest) (told : Told) 
       subst (λ (u : RunTable). IsAfter t u guests) (sym is) (record {
         rows = (added.is_with t h c none).rows;
         names = added.guests_kept t h c none;
-        jobs = added.jobs_kept t h c none;
         stand = guests_added t (added.table_then t h c none) (added.device t h c none) (added.row t h c none).id (added.is_with t h c none)
             (added.is_on_disk t h c none) h graph (subst (λ (u : RunTable). IsFit graph u.edges) is fit) guests;
       })
@@ -72,7 +70,6 @@ module _ (t : RunTable) (h : TableStands t) (guests : List Guest) (told : Told) 
       subst (λ (changes : List Change). IsAfter t (all_changed t changes) guests) (sym (gone.edits t id at.device at.named)) (record {
         rows = refl;
         names = refl;
-        jobs = refl;
         stand = λ was.
             guests_left t (changed t (RemoveDevice at.device.number)) at.device.number refl refl refl h guests (gone.idle t id at.device at.named guests was calm) was;
       })
@@ -83,7 +80,6 @@ module _ (t : RunTable) (h : TableStands t) (guests : List Guest) (told : Told) 
       subst (λ (u : RunTable). IsAfter t u guests) (sym (made.table_is t h c told none)) (record {
         rows = refl;
         names = refl;
-        jobs = refl;
         stand = made.guests_then t h c told none guests;
       })
 
@@ -103,13 +99,13 @@ module _ (t : RunTable) (h : TableStands t) (guests : List Guest) (told : Told) 
       let same : told ≡ told_none = untold refl in
       subst (λ (x : Told). IsAfter t (all_changed t (command_edits t x (command.DeviceDel id))) guests) (sym same)
       (device_gone id (subst (λ (x : Told). refusal_to t x (command.DeviceDel id) ≡ None) same none) calm)
+  after_command (command.BlockdevBackup c) is untold none calm fit = absurd cc
   after_command c is untold none calm fit =
       let same : told ≡ told_none = untold refl in
       let shape = table-edits t c refl (built_accepted t told c none) (all_changed t (command_edits t told c)) (ap (λ (x : Told). all_changed t (command_edits t x c)) same) in
       record {
         rows = shape.nodes;
         names = shape.guests;
-        jobs = shape.jobs;
         stand = guests_same t (all_changed t (command_edits t told c)) guests shape.nodes shape.edges shape.devices;
       }
 

@@ -16,9 +16,13 @@ use Rattle.qmp_codec.specs.declared.nodes.DeviceAdd.{DeviceAdd}
 use Rattle.qmp_rules.specs.Answers.{command_edits, conflict_in, conflict_refusal, out_of_turn, refusal_behind, refusal_to, unbuilt, told_none}
 use Rattle.qmp_rules.specs.Asks.{first_unmet_ask, is_file}
 use Rattle.qmp_rules.specs.Changes.{all_changed, changed}
-use Rattle.qmp_rules.specs.Edits.{device_uses, edits_of, file_uses, merges, new_device, node_ids, of_row}
+use Rattle.qmp_rules.specs.Edits.{asked_by_cancel, device_uses, edits_of, file_uses, merges, new_device, node_ids, of_row}
 use Rattle.qmp_rules.specs.Fitting.{AllChangesFit}
-use Rattle.qmp_rules.specs.Table.{RunTable, device_named, kinds_of, node_named}
+use Rattle.qmp_rules.specs.Table.{RunTable, device_named, job_named, kinds_of, node_named}
+use Rattle.qmp_rules.specs.declared.rows.AskedEnd.{AskedEnd}
+use Rattle.qmp_rules.specs.declared.rows.JobRecord.{JobRecord}
+use Rattle.qmp_asks.specs.Values.{flag_or_false}
+use Rattle.world_parts.proofs.JobsAnswered.{StartsNoJob, begins_not}
 use Rattle.qmp_rules.specs.declared.change.Change.{Change}
 use Rattle.qmp_rules.specs.declared.change.Change.TheVariants as change
 use Rattle.qmp_rules.specs.declared.rows.DeviceRow.{DeviceRow}
@@ -67,17 +71,24 @@ module _ (t : RunTable) (told : Told) where
   gone-keep None = tt
   gone-keep (Some device) = (refl, tt)
 
+  asked-keep : (ask : JobRecord → AskedEnd) (found : Option JobRecord)
+      → AllKeepNodes (elim found as (λ _. List Change) [ None ↦ [] | Some job ↦ change.AskJob job.number (ask job) ∷ [] ])
+  asked-keep ask None = tt
+  asked-keep ask (Some job) = (refl, tt)
+
   pub edits_keep : (c : Cmd) → is_change c ≡ true → is_built c ≡ true → AllKeepNodes (command_edits t told c)
   unfolding edits_of
   edits_keep (command.BlockdevAdd c) is built = absurd cc
   edits_keep (command.BlockdevCreate c) is built = absurd cc
   edits_keep (command.BlockdevDel name) is built = absurd cc
+  edits_keep (command.BlockdevBackup c) is built = absurd cc
   edits_keep (command.QueryNamedBlockNodes flat) is built = absurd cc
   edits_keep (command.Capabilities enable) is built = (refl, tt)
   edits_keep (command.JobDismiss id) is built = (refl, tt)
   edits_keep (command.DeviceAdd c) is built = device-keep c (node_named t c.drive)
   edits_keep (command.DeviceDel id) is built = gone-keep (device_named t id)
   edits_keep (command.BlockdevSnapshot c) is built = (refl, (refl, tt))
+  edits_keep (command.BlockJobCancel id force) is built = asked-keep (asked_by_cancel (flag_or_false force)) (job_named t id)
   edits_keep command.QueryBlockJobs is built = tt
   edits_keep (command.BitmapAdd c) is built = (refl, tt)
   edits_keep (command.BitmapRemove c) is built = (refl, tt)
@@ -86,6 +97,15 @@ module _ (t : RunTable) (told : Told) where
   edits_keep (command.BitmapDisable c) is built = (refl, tt)
   edits_keep (command.BitmapMerge c) is built = merges-keep t c.node c.target c.bitmaps
   edits_keep _ is built = absurd cc
+
+-- those that begin a job are not carried out so
+pub starts_none : (t : RunTable) (c : Cmd) → is_change c ≡ true → is_built c ≡ true → StartsNoJob t c
+starts_none t (command.Transaction c) is built = absurd cc
+starts_none t (command.BlockStream c) is built = absurd cc
+starts_none t (command.BlockCommit c) is built = absurd cc
+starts_none t (command.BlockdevMirror c) is built = absurd cc
+starts_none t (command.BlockdevBackup c) is built = absurd cc
+starts_none t _ is built = record { one = tt; none = refl }
 
 -- they are the same whatever is told
 pub edits_untold : (t : RunTable) (told : Told) (c : Cmd) → is_change c ≡ true → command_edits t told c ≡ command_edits t told_none c
@@ -134,6 +154,7 @@ module _ (t : RunTable) (told : Told) (rule : KeepsPermissions t.edges) (derived
   by_command (command.DeviceAdd c) is built after = after
   by_command (command.BlockdevSnapshot c) is built after = after
   by_command (command.DeviceDel id) is built after = gone_rule (device_named t id)
+  by_command (command.BlockdevBackup c) is built after = absurd cc
   by_command c is built after =
       let shape = table-edits t c refl built (all_changed t (command_edits t told_none c)) refl in
       no_conflict (all_changed t (command_edits t told_none c)) (subst KeepsPermissions (sym shape.edges) rule)
@@ -150,7 +171,7 @@ pub accepted_wiring : (t : RunTable) (nodes : Nodes) (told : Told) (c : Cmd) →
     → IsWiring nodes (kinds_of (all_changed t (command_edits t told c)).nodes) (all_changed t (command_edits t told c)).edges
 accepted_wiring t nodes told c is rests alike joined none fit =
     changes_wiring t nodes rests.stands alike joined (command_edits t told c) (edits_keep t told c is (built_accepted t told c none))
-    (command_rests t told told c rests none).0 fit (edits_rule t told rule derived c is none)
+    (command_rests t told told c (begins_not t c (starts_none t c is (built_accepted t told c none))) rests none).0 fit (edits_rule t told rule derived c is none)
   where
     rule : KeepsPermissions t.edges
     rule = subst KeepsPermissions alike.edges joined.sound.just.rule

@@ -115,10 +115,6 @@ module _ (t : RunTable) (h : TableStands t) (c : DeviceAdd (List ℕ)) (none : r
   unfolding changed
   guests_kept = (shape_by t file).guests
 
-  pub jobs_kept : table_then.jobs ≡ t.jobs
-  unfolding changed
-  jobs_kept = (shape_by t file).jobs
-
   -- each node keeps its children
   pub children_kept : AreChildrenKept t.edges table_then.edges
   children_kept n role =

@@ -1,5 +1,5 @@
 -- A snapshot that nothing refuses: its overlay may be put over the node.
-use Rattle.std.proofs.Common.{◌≡◌, ℕ, List, refl, sym, ap, subst, ◌∙◌, Option, Some, None}
+use Rattle.std.proofs.Common.{◌≡◌, ℕ, true, List, refl, sym, ap, subst, ◌∙◌, Option, Some, None}
 use Rattle.std.specs.Prelude.{◌==◌, IsSome}
 use Rattle.std.specs.List.{Contains}
 use Rattle.std.proofs.lemmas.Bool.{eqb-true}
@@ -9,6 +9,7 @@ use Rattle.blk_graph.specs.declared.edge.Role.TheVariants.{File, Backing}
 use Rattle.blk_graph.specs.declared.kind.Kind.{Kind}
 use Rattle.blk_graph.specs.declared.kind.Kind.TheVariants.{Qcow2}
 use Rattle.blk_graph.specs.Edits.{child_of}
+use Rattle.blk_graph.specs.Permissions.{has_role}
 use Rattle.blk_graph.proofs.Members.{find-Some}
 use Rattle.qmp_rules.specs.declared.rows.NodeRecord.{NodeRecord}
 use Rattle.qmp_rules.specs.Chains.{filter_role}
@@ -24,8 +25,8 @@ use Rattle.blk_nodes.specs.Nodes.{Nodes, row_at, file_of, driver_kind}
 use Rattle.blk_nodes.specs.declared.row.Driver.{Driver}
 use Rattle.blk_nodes.specs.declared.row.Driver.TheVariants as drivers
 use Rattle.blk_nodes.specs.declared.row.Row.{Row}
-use Rattle.world_parts.specs.Coherent.{AreAlike, AreNodesOf, IsRowOf, IsOfNoJob}
-use Rattle.world_parts.proofs.JobFilters.{no_image, of_no_job}
+use Rattle.world_parts.specs.Coherent.{AreAlike, AreNodesOf, IsRowOf}
+use Rattle.world_parts.proofs.JobFilters.{no_image, filtered_role}
 
 -- ---- a table with an overlay that has no parent and no backing node
 
@@ -78,12 +79,21 @@ module _ (t : RunTable) (node overlay : NodeRecord) (over : LiesOver t node over
         child_is : child t parent File ≡ Some node.id
         child_is = ap (child_of (Node parent) File) (sym alike.edges) ∙ file
 
-        by_driver : (r : NodeRecord) (driver : Driver) → r.kind ≡ driver_kind driver → IsOfNoJob r.kind → IsSome (filter_role r.kind) → driver ≡ drivers.CopyOnRead
-        by_driver r drivers.CopyOnRead is plain filter = refl
-        by_driver r (drivers.Filter kind) is plain filter = absurd (of_no_job kind (subst IsOfNoJob is plain))
-        by_driver r drivers.File is plain filter = let none = subst (λ (k : Kind). IsSome (filter_role k)) is filter in absurd (let bad : ⊥ = cc none in bad)
-        by_driver r (drivers.Raw part) is plain filter = let none = subst (λ (k : Kind). IsSome (filter_role k)) is filter in absurd (let bad : ⊥ = cc none in bad)
-        by_driver r (drivers.Qcow2 x) is plain filter = let none = subst (λ (k : Kind). IsSome (filter_role k)) is filter in absurd (let bad : ⊥ = cc none in bad)
+        -- a job's filter has no file
+        by_driver : (r : NodeRecord) (driver : Driver) → r.kind ≡ driver_kind driver → has_role r.kind File ≡ true → IsSome (filter_role r.kind)
+            → driver ≡ drivers.CopyOnRead
+        by_driver r drivers.CopyOnRead is may filter = refl
+        by_driver r (drivers.Filter kind) is may filter =
+            let filters = filtered_role kind File (subst (λ (k : Kind). has_role k File ≡ true) is may) in
+            absurd (let bad : ⊥ = cc filters in bad)
+        by_driver r drivers.File is may filter = let none = subst (λ (k : Kind). IsSome (filter_role k)) is filter in absurd (let bad : ⊥ = cc none in bad)
+        by_driver r (drivers.Raw part) is may filter = let none = subst (λ (k : Kind). IsSome (filter_role k)) is filter in absurd (let bad : ⊥ = cc none in bad)
+        by_driver r (drivers.Qcow2 x) is may filter = let none = subst (λ (k : Kind). IsSome (filter_role k)) is filter in absurd (let bad : ⊥ = cc none in bad)
+
+        role_of : (r : NodeRecord) → Contains t.nodes r → r.id ≡ parent → has_role r.kind File ≡ true
+        role_of r r_there id =
+            let to = role_edge (Node parent) File t.edges node.id child_is in
+            subst (λ (role : Role). has_role r.kind role ≡ true) to.role_is (h.roles to.edge r to.there r_there (to.from ∙ ap Node (sym id)))
 
         filtered : (r : NodeRecord) → Contains t.nodes r → r.id ≡ parent → IsSome (filter_role r.kind)
         filtered r r_there id = by_name node.filename refl
@@ -116,7 +126,8 @@ module _ (t : RunTable) (node overlay : NodeRecord) (over : LiesOver t node over
         by_row (Some r) is same =
             let here = find-Some (λ (x : NodeRecord). x.id == parent) t.nodes r is in
             let of : IsRowOf r row = subst (AreAlike (Some r)) there same in
-            by_driver r row.driver of.kind of.plain (filtered r here.0 (eqb-true r.id parent here.1))
+            let id : r.id ≡ parent = eqb-true r.id parent here.1 in
+            by_driver r row.driver of.kind (role_of r here.0 id) (filtered r here.0 id)
 
     pub cover_of : IsCover nodes node.id overlay.id
     cover_of = record {

@@ -1,5 +1,5 @@
 -- What commands that leave the nodes are told is what the flat machine says: of a snapshot whether its overlay maps a cluster, of others nothing.
-use Rattle.std.proofs.Common.{◌≡◌, ℕ, true, false, inl, List, map, refl, sym, ap, subst, None}
+use Rattle.std.proofs.Common.{◌≡◌, ℕ, true, inl, List, map, refl, sym, ap, subst, None}
 use Rattle.std.specs.Prelude.{is_some}
 use Rattle.std.proofs.lemmas.Bool.{false≢true}
 use Rattle.qmp_codec.specs.Commands.{Cmd}

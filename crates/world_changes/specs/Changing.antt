@@ -20,11 +20,12 @@ use Rattle.world_parts.specs.Snapshots.{TellsMapped}
 
 -- ---- which commands these are
 
--- all that add, make and drop no node, and those of jobs, which are refused; the query of what is dirty is told more
+-- all that add, make and drop no node and put no filter; the query of what is dirty is told more
 abbrev pub is_change : Cmd → Bool
 is_change (command.BlockdevAdd c) = false
 is_change (command.BlockdevCreate c) = false
 is_change (command.BlockdevDel name) = false
+is_change (command.BlockdevBackup c) = false
 is_change (command.QueryNamedBlockNodes flat) = false
 is_change c = true
 

@@ -94,6 +94,7 @@ fn carry_or_wait<D: Device>(
     told: &Told,
     edits: Edits,
 ) -> Result<Carried, NoMemory>
+    requires is { is_change (seen_command command.now) ≡ true }
     requires few { (g : ℕ) → IsSome (drive_of names.old.table g) → g < 80 }
     requires alike { AreBitmapsOf names.old.table.bitmaps bitmaps.old }
     requires tells { TellsMappedAlone names.old.table nodes.old (seen_command command.now)

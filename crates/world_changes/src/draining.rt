@@ -6,6 +6,7 @@ ghost use Rattle.qmp_rules.specs.Table.{device_named};
 ghost use Rattle.flat_machine.specs.Marks.{drained_by, ids_of};
 ghost use Rattle.flat_machine.specs.State.{State, disk_of_guest, drive_of};
 ghost use Rattle.world_parts.specs.Draining.{IsFirstOf, held_if};
+ghost use Rattle.world_changes.specs.Changing.{is_change};
 
 use blk_base::NoMemory;
 use blk_graph::NodeId;
@@ -35,9 +36,10 @@ fn listed(alloc: Global, node: Option<NodeId>) -> Result<Vec<NodeId>, NoMemory>
     Ok(disks)
 }
 
-/// The disks that a command must drain, where it is carried out so far.
+/// The disks that a command must drain, of those that are carried out so.
 fn drained_by(alloc: Global, names: &Names, command: &Command) -> Result<Vec<NodeId>, NoMemory>
-    requires { is_built (seen_command command.now) ≡ true }
+    requires is { is_change (seen_command command.now) ≡ true }
+    requires built { is_built (seen_command command.now) ≡ true }
     ensures { IfOk result (λ disks.
         disks.items ≡ drained_by names.now.table (seen_command command.now)) }
 {
@@ -56,6 +58,7 @@ pub(crate) fn drain(
     drained: &mut Drained,
     command: &Command,
 ) -> Result<Option<InTheWay>, NoMemory>
+    requires is { is_change (seen_command command.now) ≡ true }
     requires built { is_built (seen_command command.now) ≡ true }
     requires few { (g : ℕ) → IsSome (drive_of names.now.table g) → g < 80 }
     ensures first { IfOk result

@@ -8,7 +8,7 @@ use Rattle.q2_format.specs.Contents.{file_disk, raw_disk, image_disk}
 use Rattle.blk_graph.specs.Edits.{child_of}
 use Rattle.blk_graph.specs.declared.edge.Parent.TheVariants.{Node}
 use Rattle.blk_graph.specs.declared.edge.Role.{Role}
-use Rattle.blk_graph.specs.declared.edge.Role.TheVariants.{File as FileRole, Backing}
+use Rattle.blk_graph.specs.declared.edge.Role.TheVariants.{File as FileRole, Backing, Filtered}
 use Rattle.blk_graph.specs.declared.kind.Kind.{Kind}
 use Rattle.blk_graph.specs.declared.kind.Kind.TheVariants.{Protocol}
 use Rattle.blk_graph.specs.Graph.{PathsAreShort}
@@ -17,11 +17,13 @@ use Rattle.blk_graph.specs.declared.edge.Edge.{Edge}
 use Rattle.blk_graph.proofs.GraphLemmas.{PathsAreShort-from_IsSound}
 use Rattle.blk_graph.proofs.ChildLemmas.{HasEdge, child-edge}
 use Rattle.blk_graph.proofs.Members.{find-Some}
-use Rattle.blk_nodes.specs.Contents.{told, disk_under, bytes_by, bytes_of as bytes_at, file_node_disk, disk_by, disk_down, disk_of, Unfolds}
+use Rattle.blk_nodes.specs.Contents.{told, disk_through, disk_under, bytes_by, bytes_of as bytes_at, file_node_disk, disk_by, disk_down, disk_of, Unfolds}
 use Rattle.blk_nodes.specs.Joined.{IsJoined, IsFile, IsPartOfFile, IsOverlay, HasBelow, IsSized}
-use Rattle.blk_nodes.specs.Nodes.{Nodes, DeviceSeen, row_at, device_in, driver_kind, size_by, node_size, file_of, backing_of}
+use Rattle.blk_nodes.specs.Nodes.{Nodes, DeviceSeen, row_at, device_in, driver_kind, filter_kind, size_by, node_size, file_of, backing_of, filtered_of}
 use Rattle.blk_nodes.specs.declared.row.Driver.{Driver}
 use Rattle.blk_nodes.specs.declared.row.Driver.TheVariants as drivers
+use Rattle.blk_nodes.specs.declared.row.FilterKind.{FilterKind}
+use Rattle.blk_nodes.specs.declared.row.FilterKind.TheVariants as filters
 use Rattle.blk_nodes.specs.declared.row.Row.{Row}
 use Rattle.qmp_rules.specs.declared.rows.NodeRecord.{NodeRecord}
 use Rattle.qmp_rules.specs.Asks.{stands_for}
@@ -35,7 +37,10 @@ use Rattle.flat_machine.specs.Wiring.{IsDiskOf}
 use Rattle.world_parts.specs.Coherent.{IsCoherent, AreAlike, IsRowOf, offset_by_driver}
 use Rattle.world_parts.specs.Face.{WorldSeen, held, held_in_file, told_bytes, contents_of}
 use Rattle.world_files.proofs.CloseHeld.{none-passes}
-use Rattle.world_parts.proofs.JobFilters.{none_yet}
+use Rattle.world_parts.proofs.JobFilters.{filters_role}
+use Rattle.job_edges.specs.Held.{is_job_filter}
+use Rattle.job_tables.specs.Jobs.{JobsStand}
+use Rattle.job_tables.proofs.Changes.{filter_of}
 
 -- the node stands for the file of its name, and for no other
 over-own : (row : NodeRecord) (name : List ℕ) → row.filename ≡ Some name → stands_for name row ≡ true
@@ -56,6 +61,18 @@ bytes-same (Some device) = by_content device.content
     by_content None = refl
     by_content (Some bytes) = refl
 
+-- a job's filter is over the source of its job
+job_filter : (kind : FilterKind) → is_job_filter (filter_kind kind) ≡ true
+job_filter filters.BeforeWrite = refl
+job_filter filters.Mirror = refl
+job_filter filters.Commit = refl
+
+source_below : (t : RunTable) → JobsStand t → (row : NodeRecord) → Contains t.nodes row → is_job_filter row.kind ≡ true → (below : ℕ) × (child t row.id Filtered ≡ Some below)
+source_below t jobs row there of_job =
+    let its = jobs.filters row there of_job in
+    let f = filter_of t its.row its.row.kind (jobs.each its.row its.there).shape row.id its.filter in
+    (its.row.source, subst (λ n. child t n Filtered ≡ Some its.row.source) f.3 f.2.over)
+
 -- each path from a node has less edges
 abbrev Short : Nodes → ℕ → ℕ → Type 0
 Short nodes k n = (path : List Edge) (to : ℕ) → IsPath nodes.graph.edges n path to → length path < k
@@ -72,7 +89,7 @@ none-long nodes n joined path to is =
     omega (arith, less, joined.sound.few_nodes)
 
 module _ (w : WorldSeen) (files : List File) (joined : IsJoined w.nodes) (unfolds : Unfolds w.nodes) (whole : IsCoherent w.table w.nodes w.opened w.progress)
-    (holds : (name : List ℕ) → bytes_named files name ≡ held w name) where
+    (jobs : JobsStand w.table) (holds : (name : List ℕ) → bytes_named files name ≡ held w name) where
   -- ---- `file` nodes
 
   node-over-is : (n : ℕ) (row : NodeRecord) (name : List ℕ) → Contains w.table.nodes row → row.id ≡ n → row.filename ≡ Some name
@@ -123,6 +140,19 @@ module _ (w : WorldSeen) (files : List File) (joined : IsJoined w.nodes) (unfold
   below-same f g None each = refl
   below-same f g (Some c) each = each c refl
 
+  filter-bytes : (reads : ℕ → List ℕ) (r : NodeRecord) (kind : FilterKind) → row_bytes files w.table reads r (filter_kind kind) ≡ below_as reads (filtered w.table r.id)
+  filter-bytes reads r filters.BeforeWrite = refl
+  filter-bytes reads r filters.Mirror = refl
+  filter-bytes reads r filters.Commit = refl
+
+  -- what a job's filter is over, in the nodes
+  filtered-is : (n : ℕ) (r : NodeRecord) (kind : FilterKind) → node_by_id w.table n ≡ Some r → r.kind ≡ filter_kind kind → filtered w.table n ≡ filtered_of w.nodes n
+  filtered-is n r kind found is =
+      ap (λ (x : Option NodeRecord). option_and_then (child w.table n) (option_and_then (λ (y : NodeRecord). filter_role y.kind) x)) found
+      ∙ ap (λ (k : Kind). option_and_then (child w.table n) (filter_role k)) is
+      ∙ ap (option_and_then (child w.table n)) (filters_role kind)
+      ∙ ap (child_of (Node n) Filtered) (sym whole.alike.edges)
+
   by-driver : (n turns : ℕ) (r : NodeRecord) (row : Row) → node_by_id w.table n ≡ Some r → r.id ≡ n → row_at w.nodes n ≡ Some row → IsRowOf r row
       → ((c : ℕ) → HasEdge w.nodes.graph.edges (Node n) c → node_bytes_in turns files w.table c ≡ disk_of w.nodes c)
       → (d : Driver) → row.driver ≡ d → row_bytes files w.table (node_bytes_in turns files w.table) r (driver_kind d) ≡ disk_by w.nodes (disk_of w.nodes) n d
@@ -165,7 +195,17 @@ module _ (w : WorldSeen) (files : List File) (joined : IsJoined w.nodes) (unfold
           let kind : r.kind ≡ driver_kind drivers.CopyOnRead = is.kind ∙ ap driver_kind driver in
           let its : node_by_id w.table r.id ≡ Some r = ap (node_by_id w.table) id ∙ found in
           rw (its, kind, id, whole.alike.edges) refl
-  by-driver n turns r row found id there is next (drivers.Filter kind) driver = absurd (none_yet r row kind is driver)
+  by-driver n turns r row found id there is next (drivers.Filter kind) driver =
+      let of : r.kind ≡ filter_kind kind = is.kind ∙ ap driver_kind driver in
+      let at = find-Some (λ (x : NodeRecord). x.id == n) w.table.nodes r found in
+      let below = source_below w.table jobs r at.0 (ap is_job_filter of ∙ job_filter kind) in
+      let over : filtered_of w.nodes n ≡ Some below.0 =
+      ap (child_of (Node n) Filtered) whole.alike.edges ∙ ap (λ (m : ℕ). child w.table m Filtered) (sym id) ∙ below.1 in
+      filter-bytes (node_bytes_in turns files w.table) r kind
+      ∙ ap (λ (m : ℕ). below_as (node_bytes_in turns files w.table) (filtered w.table m)) id
+      ∙ ap (below_as (node_bytes_in turns files w.table)) (filtered-is n r kind found of ∙ over)
+      ∙ next below.0 (child-edge (Node n) Filtered w.nodes.graph.edges below.0 over)
+      ∙ sym (ap (disk_through (node_size w.nodes n) (disk_of w.nodes)) over)
 
   by-rows : (n turns : ℕ) (found : Option NodeRecord) (its : Option Row) → node_by_id w.table n ≡ found → row_at w.nodes n ≡ its → AreAlike found its
       → ((c : ℕ) → HasEdge w.nodes.graph.edges (Node n) c → node_bytes_in turns files w.table c ≡ disk_of w.nodes c)
@@ -221,7 +261,9 @@ module _ (w : WorldSeen) (files : List File) (joined : IsJoined w.nodes) (unfold
           ∙ ap (λ (k : Kind). option_and_then (child w.table n) (filter_role k)) (alike.kind ∙ ap driver_kind driver)
           ∙ ap (child_of (Node n) FileRole) (sym whole.alike.edges) in
           sym (unfolds n row there ∙ ap (disk_by w.nodes (disk_of w.nodes) n) driver ∙ ap (disk_under (disk_of w.nodes)) (sym file ∙ is))
-      by_driver r row found there alike (drivers.Filter kind) driver is = absurd (none_yet r row kind alike driver)
+      by_driver r row found there alike (drivers.Filter kind) driver is =
+          sym (unfolds n row there ∙ ap (disk_by w.nodes (disk_of w.nodes) n) driver
+          ∙ ap (disk_through (node_size w.nodes n) (disk_of w.nodes)) (sym (filtered-is n r kind found (alike.kind ∙ ap driver_kind driver)) ∙ is))
 
       by_row : (found : Option NodeRecord) → node_by_id w.table n ≡ found → (its : Option Row) → row_at w.nodes n ≡ its → AreAlike (node_by_id w.table n) (row_at w.nodes n)
           → disk_of w.nodes below' ≡ disk_of w.nodes n
@@ -273,7 +315,7 @@ module _ (w : WorldSeen) (files : List File) (joined : IsJoined w.nodes) (unfold
           agrees (disk_node w.table n) row (ap (λ (t : RunTable). node_by_id t (disk_node w.table n)) same ∙ found) (record { settled = is; own = own n row found })
 
 -- as the store tells its files
-pub all-disks : (w : WorldSeen) (files : Option (List File)) → IsJoined w.nodes → Unfolds w.nodes → IsCoherent w.table w.nodes w.opened w.progress → is_some files ≡ true
-    → ((name : List ℕ) → told_bytes files name ≡ held w name) → (s : State) → s.table ≡ w.table → ReadAsDisks s (contents_of w) → With files (λ fs. AreDisks fs s)
-all-disks w None joined unfolds whole some holds s same agrees = absurd (false≢true some)
-all-disks w (Some files) joined unfolds whole some holds s same agrees = disks-read w files joined unfolds whole holds s same agrees
+pub all-disks : (w : WorldSeen) (files : Option (List File)) → IsJoined w.nodes → Unfolds w.nodes → IsCoherent w.table w.nodes w.opened w.progress → JobsStand w.table
+    → is_some files ≡ true → ((name : List ℕ) → told_bytes files name ≡ held w name) → (s : State) → s.table ≡ w.table → ReadAsDisks s (contents_of w) → With files (λ fs. AreDisks fs s)
+all-disks w None joined unfolds whole jobs some holds s same agrees = absurd (false≢true some)
+all-disks w (Some files) joined unfolds whole jobs some holds s same agrees = disks-read w files joined unfolds whole jobs holds s same agrees

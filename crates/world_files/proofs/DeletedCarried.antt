@@ -7,6 +7,7 @@ use Rattle.std.proofs.lemmas.List.Elements.{All-nil}
 use Rattle.blk_base.specs.declared.file.File.{File as StoreFile}
 use Rattle.blk_base.specs.declared.file.Opened.{Opened}
 use Rattle.blk_bitmaps.specs.declared.row.Bitmap.{Bitmap}
+use Rattle.block_jobs.specs.Work.{JobWork}
 use Rattle.blk_graph.proofs.Members.{Contains-filter}
 use Rattle.qmp_codec.specs.Commands.{Cmd}
 use Rattle.qmp_codec.specs.declared.command.Command.TheVariants as command
@@ -27,13 +28,14 @@ use Rattle.blk_nodes.specs.Dropping.{nodes_without}
 use Rattle.blk_nodes.specs.Contents.{Unfolds}
 use Rattle.blk_nodes.specs.Joined.{IsJoined}
 use Rattle.blk_nodes.specs.Nodes.{DeviceSeen, device_in}
-use Rattle.world_parts.specs.Coherent.{IsWholeWorld}
+use Rattle.world_parts.specs.Coherent.{AreJobsKept, IsWholeWorld}
 use Rattle.world_parts.specs.Counting.{RunsOn}
 use Rattle.world_parts.specs.Carrying.{opened_names}
 use Rattle.world_parts.specs.Deleting.{name_under, with_back, Ground, ground_of, left, all_left, going, HasLeft, HaveLeft, made_with, with_node_below, IsDeleted}
 use Rattle.world_files.specs.Deletions.{CanLeave, after_deletion, Belong, bitmaps_left}
 use Rattle.world_parts.specs.Face.{WorldSeen, contents_of}
 use Rattle.world_parts.specs.Handling.{bitmaps_but, bitmaps_named}
+use Rattle.world_parts.specs.Progress.{Progress}
 use Rattle.world_files.proofs.Belonging.{belong_of}
 use Rattle.world_parts.proofs.CarryPlain.{quiet-self}
 use Rattle.world_files.proofs.CloseCounts.{same-back}
@@ -46,6 +48,7 @@ use Rattle.world_files.proofs.DeletedSteps.{Parts, parts_left, entered_left, dev
 use Rattle.world_files.proofs.DeletedWhole.{WorldTells, step_removes}
 use Rattle.world_parts.proofs.EasedTables.{eased_use}
 use Rattle.world_parts.proofs.GuestEdges.{asks_left}
+use Rattle.world_parts.proofs.JobsAnswered.{jobs_kept}
 use Rattle.world_files.proofs.KeptDrives.{drives_kept, disks_kept, within_kept, writable_kept}
 use Rattle.world_parts.proofs.Placed.{placed, answer-is, CarriedUntold, carried_by, rests_by, allowed_same, table_with_use, state_used, shape_used, shape_by, table_used, changed_used, performed_used}
 use Rattle.world_files.proofs.Together.{BelongsTogether, goes_of, goes_shape, coherent_of}
@@ -75,10 +78,6 @@ module _ (w : WorldSeen) (node : ℕ) (goes : BelongsTogether w) (can : CanLeave
   unfolding changed
   guests_left = refl
 
-  jobs_left : (changed w.table (RemoveNode node)).jobs ≡ w.table.jobs
-  unfolding changed
-  jobs_left = refl
-
   pub goes_left : BelongsTogether v
   goes_left =
       let keeps = entered_left w.table (ground_of w) node goes.parts can has in
@@ -94,7 +93,6 @@ module _ (w : WorldSeen) (node : ℕ) (goes : BelongsTogether w) (can : CanLeave
         within = within_kept w.table v.table keeps w.progress.guests goes.within;
         allowed = allowed_same w.table v.table w.progress.guests keeps.devices goes.allowed;
         count = goes.count ∙ ap length (sym guests_left);
-        jobs = jobs_left ∙ goes.jobs;
         alone = λ name a b over over'. goes.alone name a b (stood name a over) (stood name b over');
         drivers = λ name row over. goes.drivers name row (stood name row over);
       }
@@ -294,6 +292,10 @@ module _ (w : WorldSeen) (whole : IsWholeWorld w) (joined : IsJoined w.nodes) (u
   last_drains None = refl
   last_drains (Some file) = refl
 
+  last_works : (made : Option ℕ) → (last made).works ≡ w.works
+  last_works None = refl
+  last_works (Some file) = refl
+
   abbrev final : WorldSeen
   final = last (made_with w.table node)
 
@@ -307,7 +309,7 @@ module _ (w : WorldSeen) (whole : IsWholeWorld w) (joined : IsJoined w.nodes) (u
       ∙ ap (all_changed w.table) (sym edits)
 
   rest : TableAtRest final.table
-  rest = rests_by w final.table c none final_table whole.coherent.table
+  rest = rests_by w final.table c refl none final_table whole.coherent.table
 
   -- the openings keep their names
   final_names : opened_names final.opened ≡ opened_names w.opened
@@ -356,7 +358,7 @@ module _ (w : WorldSeen) (whole : IsWholeWorld w) (joined : IsJoined w.nodes) (u
 
   final_carried : CarriedUntold w final_with c None
   final_carried =
-      carried_by w final_with c refl refl none final_table (last_progress (made_with w.table node)) (last_drains (made_with w.table node)) (All-nil (IsCalm w.table w.progress.guests)) final_names (runs_with end.runs)
+      carried_by w final_with c refl refl none final_table (last_progress (made_with w.table node)) (last_drains (made_with w.table node)) (last_works (made_with w.table node)) (All-nil (IsCalm w.table w.progress.guests)) final_names (runs_with end.runs)
       (hides-kept w final_with (counts_with end.counts)) (subst (IsDeleted w.table name (ground_of w)) end.ground_is deleted) (λ was. coherent_of final end.goes rest)
       (λ o s told shows. subst (λ (changes : List Change). AllPerformed s changes (contents_of w) (contents_of final)) (sym edits)
       (end.performed s told shows.table.table_is))
@@ -375,8 +377,12 @@ module _ (w : WorldSeen) (whole : IsWholeWorld w) (joined : IsJoined w.nodes) (u
       ap (λ (v : WorldSeen). let f : WorldSeen = record v { bitmaps = bitmaps } in f) placed_is
       ∙ ap (λ (rows : List Bitmap). let f : WorldSeen = record (placed w x u) { bitmaps = rows } in f) (sym same_rows) in
       let listed : AreBitmapsOf final.table.bitmaps bitmaps = subst (λ (t : RunTable). AreBitmapsOf t.bitmaps bitmaps) (sym final_table) follow.listed in
+      let jobs : AreJobsKept final.table final.works final.progress.aside =
+      subst (AreJobsKept final.table final.works) (sym (ap (λ (p : Progress). p.aside) (last_progress (made_with w.table node))))
+      (subst (λ (works : List JobWork). AreJobsKept final.table works w.progress.aside) (sym (last_works (made_with w.table node)))
+      (jobs_kept w whole joined c told_none final.table (λ accepted. record { one = tt; none = refl }) final_table)) in
       let whole_then : IsWholeWorld final_with =
-      record { coherent = coherent_of final end.goes rest; tell = end.goes.tell; counted = end.goes.counted; bitmaps = listed } in (
+      record { coherent = coherent_of final end.goes rest; tell = end.goes.tell; counted = end.goes.counted; bitmaps = listed; jobs = jobs } in (
         subst (λ (v : WorldSeen). CarriedUntold w v c None) same final_carried,
         subst IsWholeWorld same whole_then,
         subst (λ (rows : List Bitmap). FollowChanges w.table w.bitmaps rows (answer w.table told_none c).changes) (sym same_rows) follow,

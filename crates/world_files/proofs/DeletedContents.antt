@@ -30,9 +30,11 @@ use Rattle.flat_machine.proofs.Finds.{bytes_eq-same, same-bytes_eq, bytes_eq-oth
 use Rattle.blk_nodes.specs.Contents.{told, disk_under, disk_of, disk_down, disk_by, bytes_by, bytes_of, file_node_disk, Unfolds}
 use Rattle.blk_nodes.specs.Dropping.{nodes_without}
 use Rattle.blk_nodes.specs.Joined.{IsJoined, IsPartOfFile, IsOverlay}
-use Rattle.blk_nodes.specs.Nodes.{Nodes, DeviceSeen, AreTold, is_device_of, row_at, device_in, driver_kind, size_by, node_size, backing_of}
+use Rattle.blk_nodes.specs.Nodes.{Nodes, DeviceSeen, AreTold, is_device_of, row_at, device_in, driver_kind, filter_kind, size_by, node_size, backing_of}
 use Rattle.blk_nodes.specs.declared.row.Driver.{Driver}
 use Rattle.blk_nodes.specs.declared.row.Driver.TheVariants.{File, Raw, Qcow2, CopyOnRead, Filter}
+use Rattle.blk_nodes.specs.declared.row.FilterKind.{FilterKind}
+use Rattle.blk_nodes.specs.declared.row.FilterKind.TheVariants.{BeforeWrite, Mirror, Commit}
 use Rattle.blk_nodes.specs.declared.row.Row.{Row}
 use Rattle.blk_nodes.proofs.Dropped.{other_device}
 use Rattle.world_parts.specs.Coherent.{AreAlike, AreNodesOf, IsRowOf, AreOut, offset_by_driver}
@@ -42,7 +44,7 @@ use Rattle.world_parts.specs.Face.{WorldSeen, node_over, told_bytes, held_in_fil
 use Rattle.world_parts.proofs.DeletedLists.{find_none}
 use Rattle.world_files.proofs.DeletedParts.{nodes_left}
 use Rattle.world_parts.proofs.OverFiles.{over, over-row, over_by, stands-named}
-use Rattle.world_parts.proofs.JobFilters.{no_file, none_yet}
+use Rattle.world_parts.proofs.JobFilters.{no_file}
 
 -- ---- lists
 
@@ -80,6 +82,12 @@ file_at-put_other f name (g ∷ files) apart = by_test (bytes_eq f.name g.name) 
         let same : f.name ≡ g.name = same-bytes_eq f.name g.name is in
         rw (bytes_eq-other name f.name apart, bytes_eq-other name g.name (λ e. apart (e ∙ sym same))) refl
     by_test false is rest = ap (λ (found : Option StoreFile). cond (bytes_eq name g.name) (Some g) found) rest
+
+-- a job's filter has no file of its own
+no_own_file : (t : RunTable) (row : NodeRecord) (kind : FilterKind) → own_filename t row (filter_kind kind) ≡ None
+no_own_file t row BeforeWrite = refl
+no_own_file t row Mirror = refl
+no_own_file t row Commit = refl
 
 -- ---- the node that goes
 
@@ -316,7 +324,10 @@ module _ (w : WorldSeen) (node : ℕ) (joined : IsJoined w.nodes) (unfolds : Unf
       let kind : row.kind ≡ kinds.CopyOnRead = same.kind ∙ ap driver_kind is in
       let bad : None ≡ Some name = ap (own_filename t row) (sym kind) ∙ under in
       absurd (let e : ⊥ = cc bad in e)
-  alone_by row own (Filter kind) at there is same none name under = absurd (none_yet row own kind same is)
+  alone_by row own (Filter kind) at there is same none name under =
+      let kind_is : row.kind ≡ filter_kind kind = same.kind ∙ ap driver_kind is in
+      let bad : None ≡ Some name = sym (no_own_file t row kind) ∙ ap (own_filename t row) (sym kind_is) ∙ under in
+      absurd (let e : ⊥ = cc bad in e)
 
   -- ---- the removal, as the flat machine makes it
 

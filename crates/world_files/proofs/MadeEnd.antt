@@ -66,6 +66,7 @@ refused_first w c cause some =
       table = sym (ap (all_changed w.table) changes);
       progress = refl;
       drains = refl;
+      works = refl;
       calm = λ is. All-nil (IsCalm w.table w.progress.guests);
       runs = runs-devices w w refl refl refl refl refl refl (same-devices w.nodes.devices);
       hides = subst (HidesNoFault w w) (sym (quiet_named cause quiet)) (hides-same w w refl refl refl);

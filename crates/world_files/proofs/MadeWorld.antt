@@ -48,6 +48,7 @@ use Rattle.world_files.proofs.MadeMoves.{IsEasedTo, Moves, eased_image, eased_sp
 use Rattle.world_files.proofs.MadePerformed.{performed_failed, performed_image, performed_made, performed_stopped}
 use Rattle.world_files.proofs.MadeTold.{stopped-none, told_by_failure, told_by_room}
 use Rattle.world_parts.proofs.BitmapsLeft.{left-listed}
+use Rattle.world_parts.proofs.JobsAnswered.{jobs_kept}
 use Rattle.world_parts.proofs.Placed.{placed, answer-is}
 
 -- carried out, and told this
@@ -58,7 +59,7 @@ CarriedTold w v c refusal told = (carried : IsCarried w v c refusal) × (carried
 rests-created : (w : WorldSeen) (c : BlockdevCreate (List ℕ)) (told : Told) → refusal_to w.table told (command.BlockdevCreate c) ≡ None → TableAtRest w.table
     → TableAtRest (all_changed w.table (create_edits w.table c))
 unfolding edits_of
-rests-created w c told none was = (command_rests w.table told told (command.BlockdevCreate c) was none).1
+rests-created w c told none was = (command_rests w.table told told (command.BlockdevCreate c) refl was none).1
 
 pub changes-created : (t : RunTable) (told : Told) (c : BlockdevCreate (List ℕ)) → refusal_to t told (command.BlockdevCreate c) ≡ None
     → (answer t told (command.BlockdevCreate c)).changes ≡ create_edits t c
@@ -79,7 +80,7 @@ clean_failed id options room cause =
 
 -- ---- accepted
 
-module _ (w : WorldSeen) (whole : IsWholeWorld w) (c : BlockdevCreate (List ℕ)) (none : refusal_to w.table (create_told c.options w.room) (command.BlockdevCreate c) ≡ None)
+module _ (w : WorldSeen) (whole : IsWholeWorld w) (joined : IsJoined w.nodes) (c : BlockdevCreate (List ℕ)) (none : refusal_to w.table (create_told c.options w.room) (command.BlockdevCreate c) ≡ None)
     (x : Ground) (created_is : HasCreated w.table c.options (ground_of w) x) where
   abbrev v : WorldSeen
   v = placed w x (all_changed w.table (create_edits w.table c))
@@ -99,6 +100,7 @@ module _ (w : WorldSeen) (whole : IsWholeWorld w) (c : BlockdevCreate (List ℕ)
         table = ap (all_changed w.table) (sym changes);
         progress = refl;
         drains = refl;
+        works = refl;
         runs = moved_runs w v moves;
         hides = hides;
         opens = ap opened_names moves.opened;
@@ -108,8 +110,11 @@ module _ (w : WorldSeen) (whole : IsWholeWorld w) (c : BlockdevCreate (List ℕ)
         coherent = moved_coherent w v moves rest;
         shows = λ told_files o s shows. told_by_room o s w v c shows
             (subst (λ (cs : List Change). AllPerformed s cs (contents_of w) (contents_of v)) (sym changes) (performed s told_files shows.table.table_is));
-      } in
-      ((carried, refl), moved_whole w v moves rest (left-listed w.table told (command.BlockdevCreate c) w.bitmaps v.table refl carried.table whole.bitmaps) whole)
+      } in (
+        (carried, refl),
+        moved_whole w v moves rest (left-listed w.table told (command.BlockdevCreate c) w.bitmaps v.table refl carried.table whole.bitmaps)
+            (jobs_kept w whole joined (command.BlockdevCreate c) told v.table (λ accepted. record { one = tt; none = refl }) carried.table) whole,
+      )
 
 -- ---- a call failed
 
@@ -123,7 +128,7 @@ files-of (refusal.Io source count) fits = tt
 files-of (refusal.NoSpace dev) fits = tt
 files-of _ fits = absurd fits
 
-module _ (w : WorldSeen) (whole : IsWholeWorld w) (c : BlockdevCreate (List ℕ)) (none : refusal_to w.table (create_told c.options w.room) (command.BlockdevCreate c) ≡ None)
+module _ (w : WorldSeen) (whole : IsWholeWorld w) (joined : IsJoined w.nodes) (c : BlockdevCreate (List ℕ)) (none : refusal_to w.table (create_told c.options w.room) (command.BlockdevCreate c) ≡ None)
     (x : Ground) (cause : Refusal) (ended : HasEndedSo w.table (command.BlockdevCreate c) (ground_of w) x cause) where
   abbrev failed_then : WorldSeen
   failed_then = placed w x (all_changed w.table (spoiled w.table c.options))
@@ -147,6 +152,7 @@ module _ (w : WorldSeen) (whole : IsWholeWorld w) (c : BlockdevCreate (List ℕ)
         table = ap (all_changed w.table) (sym changes);
         progress = refl;
         drains = refl;
+        works = refl;
         runs = moved_runs w failed_then moves;
         hides = hides;
         opens = ap opened_names moves.opened;
@@ -157,8 +163,11 @@ module _ (w : WorldSeen) (whole : IsWholeWorld w) (c : BlockdevCreate (List ℕ)
         coherent = moved_coherent w failed_then moves rest;
         shows = λ told_files o s shows. told_by_failure o s w failed_then c.job_id c.options (ground_of w) x cause shows none ended.failed
             (subst (λ (cs : List Change). AllPerformed s cs (contents_of w) (contents_of failed_then)) (sym changes) (performed s told_files shows.table.table_is));
-      } in
-      ((carried, refl), moved_whole w failed_then moves rest (left-listed w.table told (command.BlockdevCreate c) w.bitmaps failed_then.table refl carried.table whole.bitmaps) whole)
+      } in (
+        (carried, refl),
+        moved_whole w failed_then moves rest (left-listed w.table told (command.BlockdevCreate c) w.bitmaps failed_then.table refl carried.table whole.bitmaps)
+            (jobs_kept w whole joined (command.BlockdevCreate c) told failed_then.table (λ accepted. record { one = tt; none = refl }) carried.table) whole,
+      )
 
 -- ---- by what is created
 
@@ -176,7 +185,7 @@ module _ (w : WorldSeen) (whole : IsWholeWorld w) (joined : IsJoined w.nodes) (i
       let asked = file_asked w.table (create_told (created.File c) w.room) id c none in
       subst (λ (y : Ground). CarriedTold w (made_then (created.File c) y) (command.BlockdevCreate (asks_for (created.File c))) None (create_told (created.File c) w.room)
       × IsWholeWorld (made_then (created.File c) y)) (sym is)
-      (accepted_carried w whole (asks_for (created.File c)) none (made_ground w whole id c) refl (moves_made w whole id c)
+      (accepted_carried w whole joined (asks_for (created.File c)) none (made_ground w whole id c) refl (moves_made w whole id c)
       (hides-same w (made_then (created.File c) (made_ground w whole id c)) refl refl refl)
       (λ s told same. performed_made w whole id c asked.closed s told))
   made_world (created.Qcow2 c) none is =
@@ -189,7 +198,7 @@ module _ (w : WorldSeen) (whole : IsWholeWorld w) (joined : IsJoined w.nodes) (i
       let eased : IsEasedTo w.table (all_changed w.table (create_edits w.table (asks_for (created.Qcow2 c)))) =
       subst (λ (n : ℕ). IsEasedTo w.table (all_changed w.table (KeepId id ∷ FormatFile n name size c.backing_file c.backing_fmt ∷ []))) (sym same)
       (eased_image w.table rest.stands row name lone id size c) in
-      accepted_carried w whole (asks_for (created.Qcow2 c)) none x is
+      accepted_carried w whole joined (asks_for (created.Qcow2 c)) none x is
       (moves_image w whole joined x after (id_or 0 w.table (Some c.file)) (creation_for c) (Ok tt) is _ eased)
       (hides_formatted w whole joined x (all_changed w.table (create_edits w.table (asks_for (created.Qcow2 c)))) (id_or 0 w.table (Some c.file)) (creation_for c) (Ok tt) is is.format.formatted.cause)
       (λ s told at.
@@ -208,7 +217,7 @@ module _ (w : WorldSeen) (whole : IsWholeWorld w) (joined : IsJoined w.nodes) (i
   spoiled_world (created.File c) cause none ended least =
       let asked = file_asked w.table (create_told (created.File c) w.room) id c none in
       let nodes = sym ended.failed.0 in
-      stopped_carried w whole (asks_for (created.File c)) none x cause ended
+      stopped_carried w whole joined (asks_for (created.File c)) none x cause ended
       (subst (λ (n : Nodes). Moves w (spoiled_then (created.File c) (record { store = x.store; nodes = n }))) nodes (moves_failed w whole id c none x.store cause ended.failed.1 least))
       (hides_failed w whole joined x (all_changed w.table (spoiled w.table (created.File c))) c.filename (amount_or 0 (Some c.size)) cause ended.failed.0 ended.failed.1)
       (λ s told same.
@@ -221,7 +230,7 @@ module _ (w : WorldSeen) (whole : IsWholeWorld w) (joined : IsJoined w.nodes) (i
       let lone = lone_file w.table rest id c w.room none in
       let same = id_is w.table rest id c w.room none in
       let eased = eased_spoiled w.table rest.stands row name lone in
-      stopped_carried w whole (asks_for (created.Qcow2 c)) none x cause ended
+      stopped_carried w whole joined (asks_for (created.Qcow2 c)) none x cause ended
       (moves_image w whole joined x after (id_or 0 w.table (Some c.file)) (creation_for c) (Err ended.failed.why) ended.failed.formatted _ eased)
       (hides_unformatted w whole joined x (all_changed w.table (spoiled w.table (created.Qcow2 c))) (id_or 0 w.table (Some c.file)) (creation_for c) (Err ended.failed.why) ended.failed.formatted cause
       ended.failed.why ended.failed.formatted.format.formatted.cause ended.failed.is)

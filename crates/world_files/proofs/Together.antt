@@ -1,5 +1,5 @@
 -- What belongs together while nodes go, and a table of which rows and guests stay.
-use Rattle.std.proofs.Common.{◌≡◌, ℕ, ◌==◌, List, [], Option, Some, None, refl, sym, ◌∙◌, ap, subst, ◌≤◌, length}
+use Rattle.std.proofs.Common.{◌≡◌, ℕ, ◌==◌, List, Option, Some, None, refl, sym, ◌∙◌, ap, subst, ◌≤◌, length}
 use Rattle.std.specs.Prelude.{Contains, find, option_map}
 use Rattle.std.proofs.lemmas.Bool.{eqb-true}
 use Rattle.blk_graph.specs.declared.edge.Parent.TheVariants.{Node, Guest as GuestOf}
@@ -54,7 +54,6 @@ pub record BelongsTogether (w : WorldSeen) : Type 0 where
   pub within : AreWithin w.table w.progress.guests
   pub allowed : AreAllowed w.table w.progress.guests
   pub count : length w.progress.guests ≡ length w.table.guests
-  pub jobs : w.table.jobs ≡ []
   pub alone : StandAlone w.table
   pub drivers : AreFileNodes w.table
 
@@ -73,7 +72,6 @@ goes_of w whole joined unfolds =
       within = is.within;
       allowed = is.allowed;
       count = is.count;
-      jobs = is.jobs;
       alone = is.table.stands.alone;
       drivers = is.table.stands.drivers;
     }
@@ -89,7 +87,6 @@ coherent_of w goes rest = record {
   within = goes.within;
   allowed = goes.allowed;
   count = goes.count;
-  jobs = goes.jobs;
   out = goes.parts.out;
 }
 
@@ -124,7 +121,6 @@ goes_shape w now shape e goes =
       within = within_kept w.table now keeps w.progress.guests goes.within;
       allowed = allowed_same w.table now w.progress.guests keeps.devices goes.allowed;
       count = goes.count ∙ ap length (sym shape.guests);
-      jobs = shape.jobs ∙ goes.jobs;
       alone = λ name a b over over'. goes.alone name a b (stood name a over) (stood name b over');
       drivers = λ name row over. goes.drivers name row (stood name row over);
     }

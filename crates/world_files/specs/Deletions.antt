@@ -14,7 +14,7 @@ use Rattle.qmp_rules.specs.declared.change.Change.TheVariants.{RemoveNode}
 use Rattle.flat_machine.specs.Wiring.{HaveDistinctIds}
 use Rattle.world_parts.specs.Coherent.{AreNodesOf, AreOut}
 use Rattle.world_parts.specs.Face.{WorldSeen}
-use Rattle.world_parts.specs.Deleting.{Ground, IsDeleted, ground_of, left, made_with, name_under}
+use Rattle.world_parts.specs.Deleting.{Ground, IsDeleted, ground_of, left, name_under}
 use Rattle.blk_bitmaps.specs.declared.row.Bitmap.{Bitmap}
 use Rattle.qmp_codec.specs.Commands.{Cmd}
 use Rattle.qmp_codec.specs.declared.command.Command.TheVariants as command

@@ -3,10 +3,17 @@ use Rattle.std.proofs.Common.{◌≡◌, ℕ, Bool, true, false, List, [], ◌�
 use Rattle.std.specs.Prelude.{is_some}
 use Rattle.std.specs.List.{list_all}
 use Rattle.std.proofs.lemmas.Bool.{false≢true}
+use Rattle.std.proofs.lemmas.List.{append-nil}
 use Rattle.std.proofs.lemmas.List.Elements.{All-nil}
 use Rattle.blk_history.specs.declared.event.Event.{Event}
 use Rattle.blk_history.specs.declared.event.Event.TheVariants.{Reply}
-use Rattle.blk_base.specs.declared.fault.FaultAt.{FaultAt}
+use Rattle.block_jobs.specs.Work.{JobWork}
+use Rattle.blk_nodes.specs.Contents.{disk_of}
+use Rattle.job_ends.specs.Images.{HeldAreUnsure}
+use Rattle.job_entries.specs.Found.{HaveBegun}
+use Rattle.job_progress.specs.Going.{AreJobsAhead}
+use Rattle.job_progress.proofs.Entries.{entries_leave}
+use Rattle.job_tables.specs.TargetFiles.{TargetFilesStand}
 use Rattle.blk_base.specs.declared.fault.FaultFrom.TheVariants as from
 use Rattle.qmp_codec.specs.declared.nodes.Created.{Created}
 use Rattle.qmp_codec.specs.declared.nodes.Created.TheVariants as created
@@ -24,16 +31,18 @@ use Rattle.qmp_rules.specs.Changes.{all_changed}
 use Rattle.qmp_rules.specs.Edits.{spoiled}
 use Rattle.qmp_rules.specs.Answers.{Answer, answer, answer_by, refusal_to, left_by, returned, answer_data, line_text, line_answer, answer_for}
 use Rattle.flat_machine.specs.State.{State, Guest}
-use Rattle.flat_machine.specs.Machine.{after}
+use Rattle.flat_machine.specs.Machine.{after, replay}
+use Rattle.flat_machine.specs.Opening.{start}
+use Rattle.flat_machine.specs.Wiring.{TableAtRest}
 use Rattle.flat_machine.specs.Changed.{all_stepped}
 use Rattle.flat_machine.specs.Legal.{Fits, IsNotDone}
 use Rattle.flat_machine.specs.Marks.{AreCalm, IsCalm, marks_of, reply_marks}
-use Rattle.flat_machine.specs.Replies.{IsAnswer, is_accepted, edits_by}
+use Rattle.flat_machine.specs.Replies.{IsAnswer, begins_job, is_accepted, edits_by}
 use Rattle.flat_machine.specs.Sights.{IsTold}
 use Rattle.flat_machine.specs.Licence.{named_in}
 use Rattle.flat_machine.specs.Final.{bytes_named}
 use Rattle.flat_machine.specs.Agreement.{Agrees}
-use Rattle.flat_machine.specs.Performing.{AllCan}
+use Rattle.flat_machine.specs.Performing.{AllCan, AllPerformed}
 use Rattle.flat_machine.specs.Standing.{Stands, StandsAtRest}
 use Rattle.flat_machine.specs.Suiting.{AllSuit}
 use Rattle.flat_machine.specs.Imaging.{ImagesAreSound, ShowsImages, AllKeepImages}
@@ -42,11 +51,13 @@ use Rattle.flat_machine.proofs.Accepted.{accepted_can}
 use Rattle.flat_machine.proofs.Answered.{reads_refused}
 use Rattle.flat_machine.proofs.Kept.{changes_keep}
 use Rattle.flat_machine.proofs.ImagesChanged.{all_images_keep}
-use Rattle.flat_machine.proofs.Resting.{answer_rests}
+use Rattle.flat_machine.proofs.Resting.{RestsBehindStart, answer_rests}
 use Rattle.flat_machine.proofs.Recorded.{all_stepped-dirty}
 use Rattle.flat_machine.specs.Recording.{dirty_after}
 use Rattle.world_parts.specs.Progress.{Progress, with_bare_entry, ended_in}
-use Rattle.world_parts.specs.Face.{WorldSeen, contents_of, dirty_of, held, seen_state}
+use Rattle.world_parts.specs.Coherent.{AreJobsKept}
+use Rattle.world_parts.specs.Face.{WorldSeen, contents_of, counts_now, dirty_of, first_counts, held, seen_state}
+use Rattle.world_parts.specs.Keeping.{AreRises, ShowsJobs, all_faults}
 use Rattle.world_parts.specs.Counting.{RunsOn, IsReachedBy}
 use Rattle.world_parts.specs.Comes.{Comes, ShowsState}
 use Rattle.world_parts.specs.Saying.{IsSaid}
@@ -58,7 +69,8 @@ use Rattle.world_parts.proofs.Coherence.{coherent-same}
 use Rattle.world_parts.proofs.Pushing.{comes-push}
 use Rattle.world_parts.proofs.Quiet.{undone}
 use Rattle.world_parts.proofs.Counted.{answer-counted}
-use Rattle.world_parts.proofs.CountLemmas.{licensed-on}
+use Rattle.world_parts.proofs.JobsAnswered.{StartsNoJob, begins_not, answer_begun, answer_files, answer_goes, answer_unsure}
+use Rattle.world_parts.proofs.Rises.{rises-entry}
 use Rattle.world_lines.proofs.CarryCalm.{marked_calm}
 use Rattle.world_lines.proofs.CarryWords.{IsTellable}
 use Rattle.world_lines.proofs.CarryNames.{not_found_word}
@@ -69,13 +81,14 @@ use Rattle.world_parts.proofs.Accepted.{built_accepted}
 
 -- ---- answers
 
-plain-by : (t : RunTable) (told : Told) (c : Cmd) (first : Option Refusal) → refusal_to t told c ≡ first → list_all is_plain_change (answer_by t told c first).changes ≡ true
-plain-by t told c None is = edits_plain t told c (built_accepted t told c is)
-plain-by t told c (Some cause) is = left_plain t told c cause
+plain-by : (t : RunTable) (told : Told) (c : Cmd) → (refusal_to t told c ≡ None → StartsNoJob t c) → (first : Option Refusal) → refusal_to t told c ≡ first
+    → list_all is_plain_change (answer_by t told c first).changes ≡ true
+plain-by t told c starts None is = edits_plain t told c (built_accepted t told c is) (starts is)
+plain-by t told c starts (Some cause) is = left_plain t told c cause
 
-answer-plain : (t : RunTable) (told : Told) (c : Cmd) → list_all is_plain_change (answer t told c).changes ≡ true
+pub answer_plain : (t : RunTable) (told : Told) (c : Cmd) → (refusal_to t told c ≡ None → StartsNoJob t c) → list_all is_plain_change (answer t told c).changes ≡ true
 unfolding answer
-answer-plain t told c = plain-by t told c (refusal_to t told c) refl
+answer_plain t told c starts = plain-by t told c starts (refusal_to t told c) refl
 
 -- ---- its changes can be made
 
@@ -106,6 +119,15 @@ can-change s c told seen stands is_told same = at (refusal_to s.table seen c) re
     at (Some cause) some None same = absurd (let reply : Err cause ≡ Ok (returned s.table told c) = ap (λ (a : Answer). a.reply) same in cc reply)
     at first is (Some cause) same = left-can s c cause
 
+-- one answer is no refusal where the same one, told other things, is none
+none_too : (t : RunTable) (c : Cmd) (seen told : Told) → answer t seen c ≡ answer t told c → refusal_to t seen c ≡ None → refusal_to t told c ≡ None
+unfolding answer
+none_too t c seen told same none = at (refusal_to t told c) refl (subst (λ (first : Option Refusal). answer_by t seen c first ≡ answer t told c) none same)
+  where
+    at : (other : Option Refusal) → refusal_to t told c ≡ other → answer_by t seen c None ≡ answer_by t told c other → refusal_to t told c ≡ None
+    at None is same = is
+    at (Some cause) is same = absurd (let reply : Ok (returned t seen c) ≡ Err cause = ap (λ (a : Answer). a.reply) same in let bad : ⊥ = cc reply in bad)
+
 -- ---- parts of the world
 
 pub runs-onward : (w u : WorldSeen) (f : Progress → Progress) → RunsOn w u → RunsOn w (with_history u f)
@@ -118,10 +140,6 @@ runs-onward w u f is = record {
   openings = is.openings;
   devices = is.devices;
 }
-
-reached-onward : (w u : WorldSeen) (f : Progress → Progress) (fault : Option FaultAt) → IsReachedBy w u fault → IsReachedBy w (with_history u f) fault
-reached-onward w u f None is = tt
-reached-onward w u f (Some fault) is = record { rise = is.rise; new = is.new; fits = is.fits }
 
 -- a refusal can be told: its numbers fit, and a name that isn't found has no blank
 module _ (w u : WorldSeen) (c : Cmd) (refusal' : Option Refusal) (is : IsCarried w u c refusal') where
@@ -152,9 +170,12 @@ module _ (w u : WorldSeen) (c : Cmd) (refusal' : Option Refusal) (is : IsCarried
   reply-reached = reached-by (refusal_to w.table is.told c) (rw is.answered is.cause)
 
   module _ (given text : List ℕ) (line : command_at given ≡ Ok c) (said : IsSaid given (answer w.table is.told c).reply text)
-      (dirty : dirty_of u ≡ dirty_after w.table (dirty_of w) (answer w.table is.told c).changes) where
+      (dirty : dirty_of u ≡ dirty_after w.table (dirty_of w) (answer w.table is.told c).changes) (starts : refusal' ≡ None → StartsNoJob w.table c) where
     abbrev reply : ℕ → Event
     reply number = Reply number given (Some c) text
+
+    starts-by : refusal_to w.table is.told c ≡ None → StartsNoJob w.table c
+    starts-by none = starts (sym is.answered ∙ none)
 
     names-reached : (number : ℕ) → IsReachedBy w u (named_in (reply number))
     names-reached number = rw (said_fault given _ text said can_tell) reply-reached
@@ -210,6 +231,12 @@ module _ (w u : WorldSeen) (c : Cmd) (refusal' : Option Refusal) (is : IsCarried
       told-same : answer s.table in-it.seen c ≡ answer s.table is.told c
       told-same = subst (λ (t : RunTable). answer t in-it.seen c ≡ answer t is.told c) (sym same-table) in-it.same
 
+      starts-s : refusal_to s.table is.told c ≡ None → StartsNoJob s.table c
+      starts-s = subst (λ (t : RunTable). refusal_to t is.told c ≡ None → StartsNoJob t c) (sym same-table) starts-by
+
+      begins-seen : refusal_to s.table in-it.seen c ≡ None → begins_job c ≡ false
+      begins-seen none = begins_not s.table c (starts-s (none_too s.table c in-it.seen is.told told-same none))
+
       stands-for : edits_by s text (command_at given) ≡ changes
       stands-for =
           let can = subst (λ (t : RunTable). CanBeTold (answer t is.told c).reply) (sym same-table) can_tell in
@@ -236,6 +263,12 @@ module _ (w u : WorldSeen) (c : Cmd) (refusal' : Option Refusal) (is : IsCarried
         answered = text-said;
       }
 
+      rests-behind : RestsBehindStart s given answers.told
+      unfolding answers
+      rests-behind other line' begins none =
+          let same : other ≡ c = cc (sym line' ∙ line) in
+          absurd (false≢true (sym (begins-seen (subst (λ (x : Cmd). refusal_to s.table in-it.seen x ≡ None) same none)) ∙ ap begins_job (sym same) ∙ begins))
+
       calm : (number : ℕ) → AreCalm s.table s.guests (marks_of s (reply number))
       calm number =
           subst (λ (t : RunTable). AreCalm t s.guests (reply_marks t given text)) (sym same-table)
@@ -244,7 +277,7 @@ module _ (w u : WorldSeen) (c : Cmd) (refusal' : Option Refusal) (is : IsCarried
       -- ---- the state after it
 
       plain : list_all is_plain_change changes ≡ true
-      plain = answer-plain w.table is.told c
+      plain = answer_plain w.table is.told c starts-by
 
       abbrev now : State
       now = all_stepped s changes
@@ -263,12 +296,12 @@ module _ (w u : WorldSeen) (c : Cmd) (refusal' : Option Refusal) (is : IsCarried
       suit-all : AllSuit s changes
       suit-all =
           subst (λ (t : RunTable). AllSuit s (answer t is.told c).changes) same-table
-          (answer_suits s c is.told in-it.seen shows.stands in-it.is_told told-same)
+          (answer_suits s c is.told in-it.seen begins-seen shows.stands in-it.is_told told-same)
 
       keep-all : AllKeepImages s changes
       keep-all =
           subst (λ (t : RunTable). AllKeepImages s (answer t is.told c).changes) same-table
-          (answer_keeps_images s is.told c shows.stands.stands (built_accepted s.table is.told c))
+          (answer_keeps_images s is.told c shows.stands.stands (built_accepted s.table is.told c) (λ none. begins_not s.table c (starts-s none)))
 
       images : ShowsImages now (contents_of u)
       images =
@@ -307,27 +340,91 @@ module _ (w u : WorldSeen) (c : Cmd) (refusal' : Option Refusal) (is : IsCarried
             images = λ node. record { noted = (images node).noted; mapped = (images node).mapped };
           }
 
+      -- ---- jobs
+
+      module _ (kept : AreJobsKept w.table w.works w.progress.aside) (going : ShowsJobs o w.progress.log.events s w) (rest : TableAtRest w.table) where
+        rest-s : TableAtRest s.table
+        rest-s = subst TableAtRest (sym same-table) rest
+
+        kept-s : AreJobsKept s.table w.works w.progress.aside
+        kept-s = subst (λ (t : RunTable). AreJobsKept t w.works w.progress.aside) (sym same-table) kept
+
+        as-changes : (P : List Change → Type 0) → P (answer s.table is.told c).changes → P changes
+        as-changes P = subst (λ (t : RunTable). P (answer t is.told c).changes) same-table
+
+        begun-now : HaveBegun now
+        begun-now =
+            as-changes (λ cs. HaveBegun (all_stepped s cs)) (answer_begun s is.told c w.works w.progress.aside rest-s kept-s starts-s going.begun)
+
+        files-now : TargetFilesStand now
+        files-now =
+            as-changes (λ cs. TargetFilesStand (all_stepped s cs)) (answer_files s is.told c w.works w.progress.aside rest-s kept-s starts-s shows.table.rest.started going.files)
+
+        unsure-now : HeldAreUnsure now
+        unsure-now =
+            as-changes (λ cs. HeldAreUnsure (all_stepped s cs)) (answer_unsure s is.told c w.works w.progress.aside rest-s kept-s starts-s going.unsure)
+
+        abbrev Goes : List Change → Type 0
+        Goes cs = AllPerformed s cs (contents_of w) (contents_of u) → AreJobsAhead (start o) w.progress.log.events s (disk_of w.nodes) w.works
+            → AreJobsAhead (start o) w.progress.log.events (all_stepped s cs) (disk_of u.nodes) w.works
+
+        ahead-now : AreJobsAhead (start o) w.progress.log.events now (disk_of u.nodes) u.works
+        ahead-now =
+            subst (AreJobsAhead (start o) w.progress.log.events now (disk_of u.nodes)) (sym is.works)
+            (as-changes Goes
+            (answer_goes s is.told c w.works w.progress.aside rest-s kept-s starts-s (start o) w.progress.log.events (contents_of w) (contents_of u))
+            in-it.performed going.ahead)
+
+        going-now : (number : ℕ) → ShowsJobs o (w.progress.log.events ++ reply number ∷ []) now (with_history u (with_bare_entry (reply number)))
+        going-now number = record {
+          begun = begun-now;
+          files = files-now;
+          unsure = unsure-now;
+          ahead = entries_leave (start o) now now w.progress.log.events (reply number) (disk_of u.nodes) u.works refl refl refl ahead-now;
+        }
+
+        going-behind : (number : ℕ) → ShowsJobs o (w.progress.log.events ++ reply number ∷ []) (after s (reply number)) (with_history u (with_bare_entry (reply number)))
+        going-behind number =
+            subst (λ (cs : List Change). ShowsJobs o (w.progress.log.events ++ reply number ∷ []) (all_stepped s cs) (with_history u (with_bare_entry (reply number))))
+            (sym stands-for) (going-now number)
+
     fits-now : (number : ℕ) (o : Opening) → IsNotDone (seen_state w) 0 → (s : State) (told : is_some w.files ≡ true) (shows : ShowsState o s w)
         → Fits s (reply number) × AreCalm s.table s.guests (marks_of s (reply number)) × ShowsState o (after s (reply number)) (with_history u (with_bare_entry (reply number)))
     fits-now number o not_done s told shows =
         let means = stands-for o s told shows in
-        let stays = subst (λ (cs : List Change). StandsAtRest (all_stepped s cs)) means (answer_rests s given (Some c) text shows.stands (answers o s told shows)) in
+        let stays = subst (λ (cs : List Change). StandsAtRest (all_stepped s cs)) means (answer_rests s given (Some c) text shows.stands (answers o s told shows) (rests-behind o s told shows)) in
         let after_it = subst (λ (cs : List Change). ShowsState o (all_stepped s cs) (with_history u (with_bare_entry (reply number)))) (sym means) (shows-now o s told shows number stays) in
         ((shows.table.rest, (undone o s w 0 shows not_done, answers o s told shows)), calm o s told shows number, after_it)
 
     -- ---- the whole
 
-    pub carried_comes : (is_some u.files ≡ true → ImagesAreSound u.table (held u)) → (number : ℕ) (o : Opening) → IsNotDone (seen_state w) 0 → Comes o w
+    pub carried_comes : (is_some u.files ≡ true → ImagesAreSound u.table (held u)) → AreJobsKept u.table u.works u.progress.aside → (number : ℕ) (o : Opening) → IsNotDone (seen_state w) 0 → Comes o w
         → Comes o (with_history u (with_bare_entry (reply number)))
-    carried_comes sound number o not_done comes = comes-push o w (with_history u (with_bare_entry (reply number))) (reply number) comes (record {
+    carried_comes sound kept number o not_done comes = comes-push o w (with_history u (with_bare_entry (reply number))) (reply number ∷ []) comes (record {
       events = ap (λ (p : Progress). p.log.events ++ reply number ∷ []) is.progress;
-      names = ap (λ (t : RunTable). t.guests) is.table ∙ (all_tables_keep (answer w.table is.told c).changes w.table (answer-plain w.table is.told c)).guests;
+      names = ap (λ (t : RunTable). t.guests) is.table ∙ (all_tables_keep (answer w.table is.told c).changes w.table (answer_plain w.table is.told c starts-by)).guests;
       told = is.runs.told;
       guests = ap (λ (p : Progress). p.guests) is.progress;
-      table = answered-by;
+      table = (u.table, dirty_of u, answered-by, (refl, refl));
       counted = λ was. (let first = is.runs.first in let now = is.runs.store in omega arith);
       coherent = λ was. coherent-same u.table u.nodes u.opened u.progress (is.coherent was) (with_bare_entry (reply number) u.progress) refl;
-      licensed = licensed-on w (with_history u (with_bare_entry (reply number))) (runs-onward w u (with_bare_entry (reply number)) is.runs) w.progress.log.events (reply number) (reached-onward w u (with_bare_entry (reply number)) (named_in (reply number)) (names-reached number));
+      jobs = λ was. kept;
+      kept = λ was. kept-then number was;
       sound = sound;
-      fits = λ told s shows. fits-now number o not_done s told shows;
+      fits = λ told shows going.
+          let s : State = replay (start o) w.progress.log.events in
+          let fits = fits-now number o not_done s told shows in
+          record {
+            legal = (fits.0, tt);
+            marks = (fits.1, tt);
+            shows = fits.2;
+            going = going-behind o s told shows comes.jobs going comes.coherent.table number;
+            names = ap (λ (p : Progress). p.jobs) is.progress ∙ sym (append-nil w.progress.jobs);
+          };
     })
+      where
+        kept-then : (number : ℕ) → AreRises (first_counts w) (counts_now w) (all_faults w.progress.log.events w.works)
+            → AreRises (first_counts u) (counts_now u) (all_faults (w.progress.log.events ++ reply number ∷ []) u.works)
+        kept-then number was =
+            subst (λ (works : List JobWork). AreRises (first_counts u) (counts_now u) (all_faults (w.progress.log.events ++ reply number ∷ []) works)) (sym is.works)
+            (rises-entry w u is.runs w.progress.log.events w.works (reply number) (names-reached number) was)

@@ -27,12 +27,16 @@ use Rattle.qmp_rules.specs.declared.rows.DeviceRow.{DeviceRow}
 use Rattle.qmp_rules.specs.declared.rows.NodeRecord.{NodeRecord}
 use Rattle.qmp_asks.specs.declared.look.Look.TheVariants as look
 use Rattle.qmp_rules.specs.declared.told.Told.{Told}
-use Rattle.qmp_rules.specs.Table.{RunTable, device_named, node_named}
+use Rattle.qmp_rules.specs.Table.{RunTable, device_named, job_named, node_named}
+use Rattle.qmp_rules.specs.declared.rows.AskedEnd.{AskedEnd}
+use Rattle.qmp_rules.specs.declared.rows.JobRecord.{JobRecord}
+use Rattle.flat_machine.specs.Replies.{begins_job}
+use Rattle.qmp_asks.specs.Values.{flag_or_false}
 use Rattle.qmp_rules.specs.Answers.{Answer, answer, answer_by, refusal_to, command_edits, left_by, returned, out_of_turn, refusal_behind}
 use Rattle.qmp_asks.specs.Asking.{Asking, place}
 use Rattle.qmp_rules.specs.Asks.{holds, first_unmet_ask, is_file}
 use Rattle.qmp_asks.specs.CommandAsks.{asks_of, is_built}
-use Rattle.qmp_rules.specs.Edits.{edits_of, created_change, spoiled, file_of_node, raw_edits, qcow2_edits, added_edits, file_uses, file_under, with_inline, goes_with_node, row_gone, of_row, device_uses, new_device, merges, snapshot_edits}
+use Rattle.qmp_rules.specs.Edits.{asked_by_cancel, edits_of, created_change, spoiled, file_of_node, raw_edits, qcow2_edits, added_edits, file_uses, file_under, with_inline, goes_with_node, row_gone, of_row, device_uses, new_device, merges, snapshot_edits}
 use Rattle.qmp_rules.specs.Changes.{changed}
 use Rattle.qmp_asks.specs.NodeAsks.{is_read_only, backing_name, snapshot_values, snapshot_names, snapshot_rest}
 use Rattle.qmp_rules.specs.Places.{IsOfTable}
@@ -254,24 +258,30 @@ module _ (t : RunTable) (told : Told) where
   merges-leave node target [] = refl
   merges-leave node target (s ∷ sources) = merges-leave node target sources
 
-  edits-leave : (c : Cmd) → is_built c ≡ true → moves c ≡ false → list_all leaves_images (command_edits t told c) ≡ true
+  asked-leaves : (ask : JobRecord → AskedEnd) (found : Option JobRecord)
+      → list_all leaves_images (elim found as (λ _. List Change) [ None ↦ [] | Some job ↦ change.AskJob job.number (ask job) ∷ [] ]) ≡ true
+  asked-leaves ask None = refl
+  asked-leaves ask (Some job) = refl
+
+  edits-leave : (c : Cmd) → is_built c ≡ true → begins_job c ≡ false → moves c ≡ false → list_all leaves_images (command_edits t told c) ≡ true
   unfolding edits_of
-  edits-leave (command.Capabilities enable) built still = refl
-  edits-leave (command.BlockdevCreate c) built still = created-leaves c.options
-  edits-leave (command.JobDismiss id) built still = refl
-  edits-leave (command.BlockdevAdd c) built still = added-leaves c.node_name (is_read_only c.options) c.driver
-  edits-leave (command.BlockdevDel name) built still = gone-leaves (node_named t name)
-  edits-leave (command.DeviceAdd c) built still = device-leaves c (node_named t c.drive)
-  edits-leave (command.DeviceDel id) built still = removed-leaves (device_named t id)
-  edits-leave (command.BitmapAdd c) built still = refl
-  edits-leave (command.BitmapRemove c) built still = refl
-  edits-leave (command.BitmapClear c) built still = refl
-  edits-leave (command.BitmapEnable c) built still = refl
-  edits-leave (command.BitmapDisable c) built still = refl
-  edits-leave (command.BitmapMerge c) built still = merges-leave c.node c.target c.bitmaps
-  edits-leave command.QueryBlockJobs built still = refl
-  edits-leave (command.QueryNamedBlockNodes flat) built still = refl
-  edits-leave _ built still = absurd cc
+  edits-leave (command.Capabilities enable) built begins still = refl
+  edits-leave (command.BlockdevCreate c) built begins still = created-leaves c.options
+  edits-leave (command.JobDismiss id) built begins still = refl
+  edits-leave (command.BlockdevAdd c) built begins still = added-leaves c.node_name (is_read_only c.options) c.driver
+  edits-leave (command.BlockdevDel name) built begins still = gone-leaves (node_named t name)
+  edits-leave (command.DeviceAdd c) built begins still = device-leaves c (node_named t c.drive)
+  edits-leave (command.DeviceDel id) built begins still = removed-leaves (device_named t id)
+  edits-leave (command.BitmapAdd c) built begins still = refl
+  edits-leave (command.BitmapRemove c) built begins still = refl
+  edits-leave (command.BitmapClear c) built begins still = refl
+  edits-leave (command.BitmapEnable c) built begins still = refl
+  edits-leave (command.BitmapDisable c) built begins still = refl
+  edits-leave (command.BitmapMerge c) built begins still = merges-leave c.node c.target c.bitmaps
+  edits-leave (command.BlockJobCancel id force) built begins still = asked-leaves (asked_by_cancel (flag_or_false force)) (job_named t id)
+  edits-leave command.QueryBlockJobs built begins still = refl
+  edits-leave (command.QueryNamedBlockNodes flat) built begins still = refl
+  edits-leave _ built begins still = absurd cc
 
 -- parents of a node move to its overlay, which is no `file` node
 snapshot-keeps : (s : State) (told : Told) (c : Snapshot (List ℕ)) → Stands s
@@ -282,11 +292,11 @@ snapshot-keeps s told c h asks =
     subst (AllKeepImages s) (sym (edits_are s.table c of))
     (tt, ((λ n name image is. moved_files s of.node of.overlay of.over of.bare h n name is), tt))
 
-edits-keep : (s : State) (told : Told) (c : Cmd) → Stands s → refusal_to s.table told c ≡ None → is_built c ≡ true
+edits-keep : (s : State) (told : Told) (c : Cmd) → Stands s → refusal_to s.table told c ≡ None → is_built c ≡ true → begins_job c ≡ false
     → AllKeepImages s (command_edits s.table told c)
 unfolding asks_of edits_of
-edits-keep s told (command.BlockdevSnapshot c) h none built = snapshot-keeps s told c h (asked s.table told (command.BlockdevSnapshot c) none)
-edits-keep s told c h none built = all-kept (command_edits s.table told c) s (edits-leave s.table told c built refl)
+edits-keep s told (command.BlockdevSnapshot c) h none built begins = snapshot-keeps s told c h (asked s.table told (command.BlockdevSnapshot c) none)
+edits-keep s told c h none built begins = all-kept (command_edits s.table told c) s (edits-leave s.table told c built begins refl)
 
 -- ---- answers
 
@@ -306,14 +316,14 @@ left-suit s (command.BlockdevCreate c) (refusal.NoSpace dev) = spoiled-suit c.op
 left-suit s (command.BlockdevCreate c) _ = tt
 left-suit s _ cause = tt
 
-pub answer_suits : (s : State) (c : Cmd) (told seen : Told) → StandsAtRest s → IsTold s c seen → answer s.table seen c ≡ answer s.table told c
+pub answer_suits : (s : State) (c : Cmd) (told seen : Told) → (refusal_to s.table seen c ≡ None → begins_job c ≡ false) → StandsAtRest s → IsTold s c seen → answer s.table seen c ≡ answer s.table told c
     → AllSuit s (answer s.table told c).changes
 unfolding answer
-answer_suits s c told seen rests is_told same = at (refusal_to s.table seen c) refl (refusal_to s.table told c) same
+answer_suits s c told seen begins rests is_told same = at (refusal_to s.table seen c) refl (refusal_to s.table told c) same
   where
     at : (first : Option Refusal) → refusal_to s.table seen c ≡ first → (other : Option Refusal)
         → answer_by s.table seen c first ≡ answer_by s.table told c other → AllSuit s (answer_by s.table told c other).changes
-    at None none None same = accepted_suits s seen told c rests is_told.refusal none
+    at None none None same = accepted_suits s seen told c (begins none) rests is_told.refusal none
     at (Some cause) some None same = absurd (let reply : Err cause ≡ Ok (returned s.table told c) = ap (λ (a : Answer). a.reply) same in cc reply)
     at first is (Some cause) same = left-suit s c cause
 
@@ -339,10 +349,10 @@ left-keeps s told (command.BlockdevCreate c) _ stands is = tt
 left-keeps s told _ cause stands is = tt
 
 pub answer_keeps_images : (s : State) (told : Told) (c : Cmd) → Stands s → (refusal_to s.table told c ≡ None → is_built c ≡ true)
-    → AllKeepImages s (answer s.table told c).changes
+    → (refusal_to s.table told c ≡ None → begins_job c ≡ false) → AllKeepImages s (answer s.table told c).changes
 unfolding answer
-answer_keeps_images s told c h built = at (refusal_to s.table told c) refl
+answer_keeps_images s told c h built begins = at (refusal_to s.table told c) refl
   where
     at : (first : Option Refusal) → refusal_to s.table told c ≡ first → AllKeepImages s (answer_by s.table told c first).changes
-    at None is = edits-keep s told c h is (built is)
+    at None is = edits-keep s told c h is (built is) (begins is)
     at (Some cause) is = left-keeps s told c cause h.table is

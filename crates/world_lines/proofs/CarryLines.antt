@@ -1,7 +1,9 @@
 -- Replies to lines: what they may name, and that the world still comes of its opening.
-use Rattle.std.proofs.Common.{◌≡◌, ℕ, Bool, true, false, List, [], refl, sym, ◌∙◌, ap, subst, Option, Some, None, Ok, Err}
+use Rattle.std.proofs.Common.{◌≡◌, ℕ, Bool, true, false, List, [], ◌∷◌, ◌++◌, inl, refl, sym, ◌∙◌, ap, subst, Option, Some, None, Ok, Err}
 use Rattle.std.specs.Prelude.{Result, if◌then◌else◌, is_some}
+use Rattle.std.proofs.lemmas.List.{append-nil}
 use Rattle.std.proofs.lemmas.List.Elements.{All-nil}
+use Rattle.blk_nodes.specs.Contents.{disk_of}
 use Rattle.blk_history.specs.declared.event.Event.{Event}
 use Rattle.blk_history.specs.declared.event.Event.TheVariants.{Reply}
 use Rattle.serde_json.specs.Data.{Data, object, no_members}
@@ -17,6 +19,9 @@ use Rattle.qmp_rules.specs.Changes.{all_changed}
 use Rattle.qmp_rules.specs.Answers.{Answer, answer, answer_by, answer_for, told_none, accepted, refused_so, refusal_to, line_refusal, stop_refusal, member_refusal, out_of_turn, line_answer, line_text}
 use Rattle.flat_machine.specs.State.{State}
 use Rattle.flat_machine.specs.Legal.{Fits, IsNotDone}
+use Rattle.flat_machine.specs.Machine.{replay}
+use Rattle.flat_machine.specs.Opening.{start}
+use Rattle.job_progress.proofs.Entries.{entries_leave}
 use Rattle.flat_machine.specs.Marks.{IsCalm, after_later, after_reply, drained_by, reply_marks, snapshot_marks}
 use Rattle.flat_machine.specs.Replies.{is_accepted, command_read, replied, edits_by}
 use Rattle.flat_machine.specs.Changed.{all_stepped}
@@ -29,9 +34,12 @@ use Rattle.flat_machine.specs.declared.opening.Opening.{Opening}
 use Rattle.world_parts.specs.Progress.{Progress, with_bare_entry}
 use Rattle.world_parts.specs.Face.{WorldSeen, counts_now, contents_of, dirty_of, held, seen_state}
 use Rattle.world_parts.specs.Counting.{seen_sources, counts_within, RunsOn, HidesNoFault}
+use Rattle.world_parts.specs.Coherent.{AreJobsKept}
 use Rattle.world_parts.specs.Comes.{Comes, ShowsState}
+use Rattle.world_parts.specs.Keeping.{ShowsJobs}
+use Rattle.world_parts.specs.Tabling.{IsAnsweredBy}
 use Rattle.world_parts.specs.Saying.{Given, IsSaid}
-use Rattle.world_parts.specs.Carrying.{IsCarried, IsCarriedIn, IsCarriedAs, HasAnswerCause, HasFitted, IsReplied, with_counts, counts_of, reply_entry, would_pass, IsLate, IsPutOff, fault_named, fault_told}
+use Rattle.world_parts.specs.Carrying.{IsCarried, IsCarriedIn, IsCarriedAs, HasAnswerCause, HasFitted, AnswersLine, IsReplied, with_counts, counts_of, reply_entry, would_pass, IsLate, IsPutOff, fault_named, fault_told}
 use Rattle.world_parts.specs.Leaving.{Leaves, LeavesBitmaps, clean_told}
 use Rattle.world_parts.specs.Staging.{site_of}
 use Rattle.world_parts.specs.Steps.{with_history, lifted}
@@ -39,13 +47,15 @@ use Rattle.world_parts.proofs.InStep.{ended-push}
 use Rattle.world_parts.proofs.Coherence.{coherent-same}
 use Rattle.world_parts.proofs.CountLemmas.{same-devices, runs-devices}
 use Rattle.world_parts.proofs.CountsKept.{hides-same}
-use Rattle.world_parts.proofs.Quiet.{quiet, undone, shows-onward}
-use Rattle.world_parts.proofs.Pushing.{comes-drains}
+use Rattle.world_parts.proofs.JobsAnswered.{StartsNoJob}
+use Rattle.world_parts.proofs.Quiet.{undone, shows-onward}
+use Rattle.world_parts.proofs.Pushing.{comes-push, comes-drains, rises-quiet}
 use Rattle.world_lines.proofs.CarryWords.{IsTellable, full_named}
 use Rattle.world_lines.proofs.CarrySaid.{reply_fault, full_of, CanBeTold, said_fault, said_full}
 use Rattle.world_parts.proofs.CarryPlain.{quiet-self}
 use Rattle.world_parts.proofs.Counted.{answer-counted, refusal-counted}
-use Rattle.world_lines.proofs.CarryComes.{can_tell, runs-onward, carried_comes}
+use Rattle.world_lines.proofs.CarryComes.{answer_plain, can_tell, runs-onward, carried_comes}
+use Rattle.world_lines.proofs.CarryState.{all_tables_keep}
 
 -- ---- texts
 
@@ -169,6 +179,7 @@ module _ (w : WorldSeen) (line : Given) (text : List ℕ) (why : Stop) (bad : co
         bitmaps = rw bad refl;
         progress = ap (λ (e : Event). with_bare_entry e w.progress) same;
         drains = refl;
+        works = refl;
         calm = rw bad tt;
         runs = runs-devices w (lifted (with_history w (with_bare_entry entry))) refl refl refl refl refl refl (same-devices w.nodes.devices);
         licensed = licensed-of w (lifted (with_history w (with_bare_entry entry))) line told-then text (line_answer w.table told_none line.text).reply said mild.can
@@ -211,25 +222,57 @@ module _ (w : WorldSeen) (line : Given) (text : List ℕ) (why : Stop) (bad : co
       at false = refl
 
   entry_comes : (o : Opening) → IsNotDone (seen_state w) 0 → Comes o w → Comes o (with_history w (with_bare_entry entry))
-  entry_comes o not_done comes = quiet o w (with_bare_entry entry w.progress) entry comes refl refl
-      (record {
+  entry_comes o not_done comes = comes-push o w (with_history w (with_bare_entry entry)) (entry ∷ []) comes (record {
+    events = refl;
+    names = refl;
+    told = refl;
+    guests = refl;
+    table = (w.table, dirty_of w, answered-so, (refl, refl));
+    counted = λ was. was;
+    coherent = λ was. coherent-same w.table w.nodes w.opened w.progress was (with_bare_entry entry w.progress) refl;
+    jobs = λ was. was;
+    kept = rises-quiet _ _ w.progress.log.events w.works entry names-none;
+    sound = comes.sound;
+    fits = λ told shows going.
+        let s : State = replay (start o) w.progress.log.events in
+        record {
+          legal = (fits o s not_done shows, tt);
+          marks = (rw (unmarked s.table) (All-nil (IsCalm s.table s.guests)), tt);
+          shows =
+              subst (λ (now : State). ShowsState o now (with_history w (with_bare_entry entry))) (sym (stays s))
+              (shows-onward o s w (with_bare_entry entry w.progress) s.guests s.ended shows shows.guests.guests_are
+              (shows.guests.ended_are ∙ sym (ended-push w.progress.log.events entry refl)));
+          going =
+              subst (λ (now : State). ShowsJobs o (w.progress.log.events ++ entry ∷ []) now (with_history w (with_bare_entry entry))) (sym (stays s))
+              (record {
+                begun = going.begun;
+                files = going.files;
+                unsure = going.unsure;
+                ahead = entries_leave (start o) s s w.progress.log.events entry (disk_of w.nodes) w.works refl refl refl going.ahead;
+              });
+          names = sym (append-nil w.progress.jobs);
+        };
+  })
+    where
+      answered-so : IsAnsweredBy w.progress.guests w.table (dirty_of w) line.text text w.table (dirty_of w)
+      answered-so = record {
         calm = rw (unmarked w.table) (All-nil (IsCalm w.table w.progress.guests));
         told = told-then;
         counts = refl;
         says = text_is w.table told-then line.text text said-then;
         changes = sym (ap (all_changed w.table) none-changed);
         dirty = sym (ap (dirty_after w.table (dirty_of w)) none-changed);
-      })
-      (λ was. coherent-same w.table w.nodes w.opened w.progress was (with_bare_entry entry w.progress) refl) names-none (λ s. unmarked s.table)
-      (λ s shows. (
-        fits o s not_done shows,
-        subst (λ (now : State). ShowsState o now (with_history w (with_bare_entry entry))) (sym (stays s))
-            (shows-onward o s w (with_bare_entry entry w.progress) s.guests s.ended shows shows.guests.guests_are
-            (shows.guests.ended_are ∙ sym (ended-push w.progress.log.events entry refl))),
-      ))
+      }
 
   pub no_command_comes : (o : Opening) → IsNotDone (seen_state w) 0 → Comes o w → Comes o (lifted (with_history w (with_bare_entry entry)))
   no_command_comes o not_done comes = comes-drains o (with_history w (with_bare_entry entry)) (after_reply w.drains) (entry_comes o not_done comes)
+
+  pub no_command_answers : AnswersLine w (lifted (with_history w (with_bare_entry entry))) line
+  no_command_answers = record {
+    between = lifted (with_history w (with_bare_entry entry));
+    replied = no_command_replied;
+    begins = inl (record { started = refl; kept = refl });
+  }
 
 -- ---- commands
 
@@ -334,6 +377,7 @@ module _ (w u : WorldSeen) (c : Cmd) (refusal' : Option Refusal) (is : IsCarried
         bitmaps = rw good (subst (λ (first : Option Refusal). LeavesBitmaps w.table c first w.bitmaps u.bitmaps) (sym refused-so) bitmaps);
         progress = ap (λ (e : Event). with_bare_entry e u.progress) same ∙ ap (with_bare_entry (reply_entry w told-so line)) is.progress;
         drains = ap after_reply is.drains;
+        works = is.works;
         calm = rw good (λ none. is.calm (sym is.answered ∙ sym (refusal-counted is.told (counts_of w) w.table c) ∙ none));
         runs = runs-lifted w (with_history u (with_bare_entry reply)) (runs-onward w u (with_bare_entry reply) is.runs);
         licensed = licensed-of w (lifted (with_history u (with_bare_entry reply))) line told-so text (answer w.table is.told c).reply said (can_tell w u c refusal' is) (text_is w.table told-so line.text text line-said) (rw is-command (called-by (refusal_to w.table is.told c) cause-first)) (rose-by (refusal_to w.table is.told c) cause-first) (rw is-command (full-by (refusal_to w.table is.told c) cause-first));
@@ -352,10 +396,25 @@ module _ (w u : WorldSeen) (line : Given) (text : List ℕ) (c : Cmd) (good : co
   pub answered_replied : IsReplied w (lifted (with_history u (with_bare_entry (Reply line.number line.text (Some c) text)))) line
   answered_replied = command_replied w u c is.refusal is.carried line text good is.said is.dirty is.bitmaps
 
-  pub answered_comes : (is_some u.files ≡ true → ImagesAreSound u.table (held u)) → (o : Opening) → IsNotDone (seen_state w) 0 → Comes o w
-      → Comes o (lifted (with_history u (with_bare_entry (Reply line.number line.text (Some c) text))))
-  answered_comes sound o not_done comes =
-      comes-drains o (with_history u (with_bare_entry (Reply line.number line.text (Some c) text))) (after_reply u.drains) (carried_comes w u c is.refusal is.carried line.text text good is.said is.dirty sound line.number o not_done comes)
+  -- a command that begins no job
+  module _ (starts : is.refusal ≡ None → StartsNoJob w.table c) where
+    none_started : u.table.started ≡ w.table.started
+    none_started =
+        let plain = answer_plain w.table is.carried.told c (λ none. starts (sym is.carried.answered ∙ none)) in
+        ap (λ (t : RunTable). t.started) is.carried.table ∙ (all_tables_keep (answer w.table is.carried.told c).changes w.table plain).started
+
+    pub answered_answers : AnswersLine w (lifted (with_history u (with_bare_entry (Reply line.number line.text (Some c) text)))) line
+    answered_answers = record {
+      between = lifted (with_history u (with_bare_entry (Reply line.number line.text (Some c) text)));
+      replied = answered_replied;
+      begins = inl (record { started = none_started; kept = refl });
+    }
+
+    pub answered_comes : (is_some u.files ≡ true → ImagesAreSound u.table (held u)) → AreJobsKept u.table u.works u.progress.aside → (o : Opening) → IsNotDone (seen_state w) 0 → Comes o w
+        → Comes o (lifted (with_history u (with_bare_entry (Reply line.number line.text (Some c) text))))
+    answered_comes sound kept o not_done comes =
+        comes-drains o (with_history u (with_bare_entry (Reply line.number line.text (Some c) text))) (after_reply u.drains)
+        (carried_comes w u c is.refusal is.carried line.text text good is.said is.dirty starts sound kept line.number o not_done comes)
 
 -- ---- what became of a line
 

@@ -21,16 +21,20 @@ use Rattle.qmp_rules.specs.declared.refusal.Refusal.TheVariants as refusal
 use Rattle.qmp_rules.specs.declared.rows.NodeRecord.{NodeRecord}
 use Rattle.qmp_rules.specs.declared.rows.DeviceRow.{DeviceRow}
 use Rattle.qmp_rules.specs.declared.told.Told.{Told}
-use Rattle.qmp_rules.specs.Table.{RunTable, device_named, node_named}
+use Rattle.qmp_rules.specs.Table.{RunTable, device_named, job_named, node_named}
+use Rattle.qmp_rules.specs.declared.rows.AskedEnd.{AskedEnd}
+use Rattle.qmp_rules.specs.declared.rows.JobRecord.{JobRecord}
+use Rattle.qmp_asks.specs.Values.{flag_or_false}
 use Rattle.qmp_rules.specs.Changes.{changed, all_changed}
 use Rattle.qmp_asks.specs.CommandAsks.{is_built}
-use Rattle.qmp_rules.specs.Edits.{edits_of, created_change, spoiled, raw_edits, qcow2_edits, added_edits, file_uses, file_under, with_inline, goes_with_node, row_gone, of_row, device_uses, new_device, merges}
+use Rattle.qmp_rules.specs.Edits.{asked_by_cancel, edits_of, created_change, spoiled, raw_edits, qcow2_edits, added_edits, file_uses, file_under, with_inline, goes_with_node, row_gone, of_row, device_uses, new_device, merges}
 use Rattle.qmp_rules.specs.Asks.{is_file, name_of_file}
 use Rattle.qmp_asks.specs.NodeAsks.{is_read_only, backing_name}
 use Rattle.qmp_rules.specs.Answers.{command_edits, left_by}
 use Rattle.flat_machine.specs.State.{State, Content, Left, filename_of, content_in}
 use Rattle.flat_machine.specs.Changed.{beside, stepped, all_stepped, put, name_file, know_if, add_file, note_image, add_format, leave, remove_node}
 use Rattle.flat_machine.specs.Contents.{file_bytes}
+use Rattle.world_parts.proofs.JobsAnswered.{StartsNoJob}
 
 -- ---- the kinds of changes that the commands carried out so far make
 
@@ -53,6 +57,7 @@ is_plain_change (change.TurnBitmap node name on) = true
 is_plain_change (change.ClearBitmap node name) = true
 is_plain_change (change.MergeBitmap node name source_node source) = true
 is_plain_change (change.RemoveDevice number) = true
+is_plain_change (change.AskJob number asked) = true
 is_plain_change (change.Attach overlay node) = true
 is_plain_change (change.Move from to but) = true
 is_plain_change c = false
@@ -117,25 +122,31 @@ module _ (t : RunTable) (told : Told) where
   removed-plain None = refl
   removed-plain (Some device) = refl
 
-  pub edits_plain : (c : Cmd) → is_built c ≡ true → list_all is_plain_change (command_edits t told c) ≡ true
+  asked-plain : (ask : JobRecord → AskedEnd) (found : Option JobRecord)
+      → list_all is_plain_change (elim found as (λ _. List Change) [ None ↦ [] | Some job ↦ change.AskJob job.number (ask job) ∷ [] ]) ≡ true
+  asked-plain ask None = refl
+  asked-plain ask (Some job) = refl
+
+  pub edits_plain : (c : Cmd) → is_built c ≡ true → StartsNoJob t c → list_all is_plain_change (command_edits t told c) ≡ true
   unfolding edits_of
-  edits_plain (command.Capabilities enable) built = refl
-  edits_plain (command.BlockdevCreate c) built = created-plain c.options
-  edits_plain (command.JobDismiss id) built = refl
-  edits_plain (command.BlockdevAdd c) built = added-plain c.node_name (is_read_only c.options) c.driver
-  edits_plain (command.BlockdevDel name) built = gone-plain (node_named t name)
-  edits_plain (command.DeviceAdd c) built = device-plain c (node_named t c.drive)
-  edits_plain (command.DeviceDel id) built = removed-plain (device_named t id)
-  edits_plain (command.BlockdevSnapshot c) built = refl
-  edits_plain command.QueryBlockJobs built = refl
-  edits_plain (command.QueryNamedBlockNodes flat) built = refl
-  edits_plain (command.BitmapAdd c) built = refl
-  edits_plain (command.BitmapRemove c) built = refl
-  edits_plain (command.BitmapClear c) built = refl
-  edits_plain (command.BitmapEnable c) built = refl
-  edits_plain (command.BitmapDisable c) built = refl
-  edits_plain (command.BitmapMerge c) built = merges-plain c.node c.target c.bitmaps
-  edits_plain _ built = absurd cc
+  edits_plain (command.Capabilities enable) built starts = refl
+  edits_plain (command.BlockdevCreate c) built starts = created-plain c.options
+  edits_plain (command.JobDismiss id) built starts = refl
+  edits_plain (command.BlockdevAdd c) built starts = added-plain c.node_name (is_read_only c.options) c.driver
+  edits_plain (command.BlockdevDel name) built starts = gone-plain (node_named t name)
+  edits_plain (command.DeviceAdd c) built starts = device-plain c (node_named t c.drive)
+  edits_plain (command.DeviceDel id) built starts = removed-plain (device_named t id)
+  edits_plain (command.BlockdevSnapshot c) built starts = refl
+  edits_plain (command.BlockJobCancel id force) built starts = asked-plain (asked_by_cancel (flag_or_false force)) (job_named t id)
+  edits_plain command.QueryBlockJobs built starts = refl
+  edits_plain (command.QueryNamedBlockNodes flat) built starts = refl
+  edits_plain (command.BitmapAdd c) built starts = refl
+  edits_plain (command.BitmapRemove c) built starts = refl
+  edits_plain (command.BitmapClear c) built starts = refl
+  edits_plain (command.BitmapEnable c) built starts = refl
+  edits_plain (command.BitmapDisable c) built starts = refl
+  edits_plain (command.BitmapMerge c) built starts = merges-plain c.node c.target c.bitmaps
+  edits_plain _ built starts = absurd cc
 
   pub spoiled_plain : (options : Created (List ℕ)) → list_all is_plain_change (spoiled t options) ≡ true
   spoiled_plain (created.File c) = refl
@@ -162,7 +173,6 @@ pub record KeepsGuests (s v : State) : Type 0 where
 
 pub record KeepsTable (t u : RunTable) : Type 0 where
   pub guests : u.guests ≡ t.guests
-  pub jobs : u.jobs ≡ t.jobs
   pub started : u.started ≡ t.started
 
 same : (s : State) → KeepsGuests s s
@@ -229,32 +239,34 @@ beside-keeps s (change.TurnBitmap node name on) plain = same s
 beside-keeps s (change.ClearBitmap node name) plain = record { room = refl; guests = refl; starts = refl; ending = refl; ended = refl }
 beside-keeps s (change.MergeBitmap node name source_node source) plain = record { room = refl; guests = refl; starts = refl; ending = refl; ended = refl }
 beside-keeps s (change.RemoveDevice number) plain = same s
+beside-keeps s (change.AskJob number asked) plain = same s
 beside-keeps s (change.Attach overlay node) plain = record { room = refl; guests = refl; starts = refl; ending = refl; ended = refl }
 beside-keeps s (change.Move from to but) plain = same s
 beside-keeps s _ plain = absurd cc
 
 table-keeps : (t : RunTable) (c : Change) → is_plain_change c ≡ true → KeepsTable t (changed t c)
 unfolding changed
-table-keeps t change.Negotiate plain = record { guests = refl; jobs = refl; started = refl }
-table-keeps t (change.KeepId id) plain = record { guests = refl; jobs = refl; started = refl }
-table-keeps t (change.DropId id) plain = record { guests = refl; jobs = refl; started = refl }
-table-keeps t (change.MakeFile name size) plain = record { guests = refl; jobs = refl; started = refl }
-table-keeps t (change.FormatFile node name size backing_file backing_fmt) plain = record { guests = refl; jobs = refl; started = refl }
-table-keeps t (change.SpoilFile name) plain = record { guests = refl; jobs = refl; started = refl }
-table-keeps t (change.UseFile name) plain = record { guests = refl; jobs = refl; started = refl }
-table-keeps t (change.AddFile row) plain = record { guests = refl; jobs = refl; started = refl }
-table-keeps t (change.AddFormat row file backing) plain = record { guests = refl; jobs = refl; started = refl }
-table-keeps t (change.AddFilter row child) plain = record { guests = refl; jobs = refl; started = refl }
-table-keeps t (change.RemoveNode node) plain = record { guests = refl; jobs = refl; started = refl }
-table-keeps t (change.AddDevice device node) plain = record { guests = refl; jobs = refl; started = refl }
-table-keeps t (change.AddBitmap row) plain = record { guests = refl; jobs = refl; started = refl }
-table-keeps t (change.RemoveBitmap node name) plain = record { guests = refl; jobs = refl; started = refl }
-table-keeps t (change.TurnBitmap node name on) plain = record { guests = refl; jobs = refl; started = refl }
-table-keeps t (change.ClearBitmap node name) plain = record { guests = refl; jobs = refl; started = refl }
-table-keeps t (change.MergeBitmap node name source_node source) plain = record { guests = refl; jobs = refl; started = refl }
-table-keeps t (change.RemoveDevice number) plain = record { guests = refl; jobs = refl; started = refl }
-table-keeps t (change.Attach overlay node) plain = record { guests = refl; jobs = refl; started = refl }
-table-keeps t (change.Move from to but) plain = record { guests = refl; jobs = refl; started = refl }
+table-keeps t change.Negotiate plain = record { guests = refl; started = refl }
+table-keeps t (change.KeepId id) plain = record { guests = refl; started = refl }
+table-keeps t (change.DropId id) plain = record { guests = refl; started = refl }
+table-keeps t (change.MakeFile name size) plain = record { guests = refl; started = refl }
+table-keeps t (change.FormatFile node name size backing_file backing_fmt) plain = record { guests = refl; started = refl }
+table-keeps t (change.SpoilFile name) plain = record { guests = refl; started = refl }
+table-keeps t (change.UseFile name) plain = record { guests = refl; started = refl }
+table-keeps t (change.AddFile row) plain = record { guests = refl; started = refl }
+table-keeps t (change.AddFormat row file backing) plain = record { guests = refl; started = refl }
+table-keeps t (change.AddFilter row child) plain = record { guests = refl; started = refl }
+table-keeps t (change.RemoveNode node) plain = record { guests = refl; started = refl }
+table-keeps t (change.AddDevice device node) plain = record { guests = refl; started = refl }
+table-keeps t (change.AddBitmap row) plain = record { guests = refl; started = refl }
+table-keeps t (change.RemoveBitmap node name) plain = record { guests = refl; started = refl }
+table-keeps t (change.TurnBitmap node name on) plain = record { guests = refl; started = refl }
+table-keeps t (change.ClearBitmap node name) plain = record { guests = refl; started = refl }
+table-keeps t (change.MergeBitmap node name source_node source) plain = record { guests = refl; started = refl }
+table-keeps t (change.RemoveDevice number) plain = record { guests = refl; started = refl }
+table-keeps t (change.AskJob number asked) plain = record { guests = refl; started = refl }
+table-keeps t (change.Attach overlay node) plain = record { guests = refl; started = refl }
+table-keeps t (change.Move from to but) plain = record { guests = refl; started = refl }
 table-keeps t _ plain = absurd cc
 
 -- ---- one change after another
@@ -280,13 +292,12 @@ all_keep (c ∷ changes) s plain =
     (all_keep changes (stepped s c) p.1)
 
 pub all_tables_keep : (changes : List Change) (t : RunTable) → list_all is_plain_change changes ≡ true → KeepsTable t (all_changed t changes)
-all_tables_keep [] t plain = record { guests = refl; jobs = refl; started = refl }
+all_tables_keep [] t plain = record { guests = refl; started = refl }
 all_tables_keep (c ∷ changes) t plain =
     let p = parts c changes plain in
     let one = table-keeps t c p.0 in
     let rest = all_tables_keep changes (changed t c) p.1 in
     record {
       guests = rest.guests ∙ one.guests;
-      jobs = rest.jobs ∙ one.jobs;
       started = rest.started ∙ one.started;
     }

@@ -6,16 +6,21 @@ use Rattle.std.proofs.lemmas.List.Elements.{All-nil}
 use Rattle.blk_base.specs.declared.memory.Room.{Room}
 use Rattle.qmp_rules.specs.Table.{opening_table}
 use Rattle.flat_machine.specs.Opening.{start, new_guest}
-use Rattle.flat_machine.specs.Licence.{Counts, AreLicensed, IsBetweenCounts}
+use Rattle.flat_machine.specs.Licence.{Counts, IsBetweenCounts}
 use Rattle.flat_machine.specs.declared.opening.Opening.{Opening}
 use Rattle.flat_machine.proofs.Openings.{start_rests, start_agrees}
 use Rattle.world_parts.specs.Face.{contents_of}
 use Rattle.world_parts.specs.Comes.{Comes, ShowsState}
-use Rattle.world_parts.proofs.Coherence.{coherent-new}
+use Rattle.world_parts.proofs.Coherence.{coherent-new, jobs-new}
+use Rattle.world_parts.proofs.Rises.{licensed-kept}
+use Rattle.world_parts.specs.Keeping.{AreRises}
+use Rattle.job_ends.proofs.Held.{opening_held}
+use Rattle.job_entries.proofs.Found.{opening_begun}
+use Rattle.job_tables.proofs.TargetEvents.{opening_files}
 use Rattle.world_parts.specs.Steps.{StoreSeen, new_world, IsOpeningOf}
 
-licensed-none : (counts now : Counts) → AreLicensed counts now []
-licensed-none counts now = record { rises = All-nil (IsBetweenCounts counts now); once = λ i j d less within. absurd (omega arith) }
+rises-none : (opening now : Counts) → AreRises opening now []
+rises-none opening now = record { rises = All-nil (IsBetweenCounts opening now); once = λ i j d less within. absurd (omega arith) }
 
 -- one guest for each name
 guests-start : (names : List (List ℕ)) → map (λ name. new_guest) names ≡ replicate (length names) new_guest
@@ -39,7 +44,7 @@ module _ (store : StoreSeen) (guests : List (List ℕ)) (room : Room) (o : Openi
   comes-start = record {
     history = record {
       guests_are = is.guests_are;
-      licensed = licensed-none _ _;
+      licensed = licensed-kept _ _ [] [] (rises-none _ _);
       history = λ told. record { legal = tt; rest = record { started = refl; ended = refl }; marks = tt };
     };
     counted = omega arith;
@@ -48,6 +53,15 @@ module _ (store : StoreSeen) (guests : List (List ℕ)) (room : Room) (o : Openi
     coherent = coherent-new guests room;
     shows = λ told. shows-start told;
     sound = λ told node image. absurd (false≢true image);
+    jobs = jobs-new guests;
+    kept = rises-none _ _;
+    going = λ told. record {
+      begun = opening_begun o;
+      files = opening_files (start o) refl;
+      ahead = λ row work there. absurd (omega (arith, there.1));
+      unsure = opening_held o;
+    };
+    names = λ told. refl;
   }
 
 pub ok-map : {A E : Type 0} (r : Result A E) (P Q : A → Type 0) → ((a : A) → P a → Q a) → IfOk r P → IfOk r Q

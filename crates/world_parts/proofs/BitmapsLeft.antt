@@ -18,14 +18,17 @@ use Rattle.qmp_rules.specs.declared.change.Change.{Change}
 use Rattle.qmp_rules.specs.declared.change.Change.TheVariants as change
 use Rattle.qmp_rules.specs.declared.refusal.Refusal.{Refusal}
 use Rattle.qmp_rules.specs.declared.refusal.Refusal.TheVariants as refusal
+use Rattle.qmp_rules.specs.declared.rows.AskedEnd.{AskedEnd}
 use Rattle.qmp_rules.specs.declared.rows.DeviceRow.{DeviceRow}
+use Rattle.qmp_rules.specs.declared.rows.JobRecord.{JobRecord}
 use Rattle.qmp_rules.specs.declared.rows.NodeRecord.{NodeRecord}
 use Rattle.qmp_rules.specs.declared.told.Told.{Told}
-use Rattle.qmp_rules.specs.Table.{RunTable, node_named, device_named}
+use Rattle.qmp_asks.specs.Values.{flag_or_false}
+use Rattle.qmp_rules.specs.Table.{RunTable, job_named, node_named, device_named}
 use Rattle.qmp_rules.specs.Asks.{is_file}
 use Rattle.qmp_rules.specs.Changes.{all_changed}
 use Rattle.qmp_asks.specs.CommandAsks.{is_built}
-use Rattle.qmp_rules.specs.Edits.{edits_of, created_change, spoiled, raw_edits, qcow2_edits, added_edits, file_uses, of_row, device_uses, new_device}
+use Rattle.qmp_rules.specs.Edits.{asked_by_cancel, edits_of, created_change, spoiled, raw_edits, qcow2_edits, added_edits, file_uses, of_row, device_uses, new_device}
 use Rattle.qmp_asks.specs.NodeAsks.{is_read_only, backing_name}
 use Rattle.qmp_rules.specs.Answers.{answer, answer_by, command_edits, left_by, refusal_to}
 use Rattle.flat_machine.specs.Bitmaps.{AreBitmapsOf, FollowChanges, dirty_in}
@@ -38,6 +41,7 @@ use Rattle.world_parts.proofs.Accepted.{built_accepted}
 -- commands that change no bitmap
 abbrev pub keeps_bitmaps : Cmd → Bool
 keeps_bitmaps (command.BlockdevDel name) = false
+keeps_bitmaps (command.BlockdevBackup c) = false
 keeps_bitmaps (command.BitmapAdd c) = false
 keeps_bitmaps (command.BitmapRemove c) = false
 keeps_bitmaps (command.BitmapClear c) = false
@@ -49,6 +53,7 @@ keeps_bitmaps c = true
 pub kept-bitmaps : (t : RunTable) (c : Cmd) (first : Option Refusal) (old now : List Bitmap) → keeps_bitmaps c ≡ true → now ≡ old → LeavesBitmaps t c first old now
 kept-bitmaps t c (Some cause) old now keeps same = same
 kept-bitmaps t (command.BlockdevDel name) None old now keeps same = absurd cc
+kept-bitmaps t (command.BlockdevBackup c) None old now keeps same = absurd cc
 kept-bitmaps t (command.BitmapAdd c) None old now keeps same = absurd cc
 kept-bitmaps t (command.BitmapRemove c) None old now keeps same = absurd cc
 kept-bitmaps t (command.BitmapClear c) None old now keeps same = absurd cc
@@ -109,6 +114,11 @@ module _ (t : RunTable) (told : Told) where
   removed-leaves None = refl
   removed-leaves (Some device) = refl
 
+  asked-leaves : (found : Option JobRecord) (ask : JobRecord → AskedEnd)
+      → list_all leaves_bitmaps (elim found as (λ _. List Change) [ None ↦ [] | Some job ↦ change.AskJob job.number (ask job) ∷ [] ]) ≡ true
+  asked-leaves None ask = refl
+  asked-leaves (Some job) ask = refl
+
   edits-leave : (c : Cmd) → keeps_bitmaps c ≡ true → is_built c ≡ true → list_all leaves_bitmaps (command_edits t told c) ≡ true
   unfolding edits_of
   edits-leave (command.Capabilities enable) keeps built = refl
@@ -118,6 +128,7 @@ module _ (t : RunTable) (told : Told) where
   edits-leave (command.DeviceAdd c) keeps built = device-leaves c (node_named t c.drive)
   edits-leave (command.DeviceDel id) keeps built = removed-leaves (device_named t id)
   edits-leave (command.BlockdevSnapshot c) keeps built = refl
+  edits-leave (command.BlockJobCancel id force) keeps built = asked-leaves (job_named t id) (asked_by_cancel (flag_or_false force))
   edits-leave command.QueryBlockJobs keeps built = refl
   edits-leave (command.QueryNamedBlockNodes flat) keeps built = refl
   edits-leave _ keeps built = absurd cc

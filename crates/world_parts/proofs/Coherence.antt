@@ -22,11 +22,14 @@ use Rattle.flat_machine.specs.Legal.{IsForbidden}
 use Rattle.flat_machine.specs.Machine.{admitted, finished, past_piece}
 use Rattle.flat_machine.specs.Opening.{new_guest}
 use Rattle.flat_machine.proofs.Openings.{start_table_rests}
+use Rattle.job_tables.proofs.Changes.{opening_jobs}
+use Rattle.job_tables.proofs.Runs.{opening_run}
 use Rattle.world_parts.specs.Progress.{Progress, flight_at, no_progress, with_admission}
 use Rattle.flat_machine.specs.Marks.{none_drained}
 use Rattle.world_parts.specs.Face.{face_of}
 use Rattle.world_parts.specs.Stores.{found_store}
-use Rattle.world_parts.specs.Coherent.{IsCoherent, IsWholeWorld, AreWithin, AreAllowed}
+use Rattle.job_commands.proofs.BitmapCommands.{opening_uses}
+use Rattle.world_parts.specs.Coherent.{AreJobsKept, IsCoherent, IsWholeWorld, AreWithin, AreAllowed}
 
 -- ---- guests
 
@@ -69,7 +72,6 @@ module _ (t : RunTable) (nodes : Nodes) (opened : List Opened) (p : Progress) (w
     within = within;
     allowed = allowed;
     count = count ∙ was.count;
-    jobs = was.jobs;
     out = was.out;
   }
 
@@ -137,7 +139,6 @@ coherent-new guests room = record {
   within = λ g f flies. absurd (nobody-flies (length guests) g f flies);
   allowed = λ g f flies. absurd (nobody-flies (length guests) g f flies);
   count = length-replicate (length guests) new_guest;
-  jobs = refl;
   out = record {
     each = λ device held. absurd (omega (arith, held.1));
     once = λ i j d less within. absurd (omega arith);
@@ -147,12 +148,32 @@ coherent-new guests room = record {
   };
 }
 
+-- no job is there
+pub jobs-new : (guests : List (List ℕ)) → AreJobsKept (opening_table guests) [] 0
+jobs-new guests = record {
+  stand = opening_jobs guests;
+  run = opening_run guests;
+  copies = λ row target there. absurd (omega (arith, there.1));
+  rows = λ row there. absurd (omega (arith, there.1));
+  once = λ i j d less within. absurd (omega arith);
+  uses = opening_uses guests;
+  belong = record {
+    each = λ row there. absurd (omega (arith, there.1));
+    owned = λ work there. absurd (omega (arith, there.1));
+    once = λ i j d less within. absurd (omega arith);
+    sound = λ work there. absurd (omega (arith, there.1));
+  };
+  room = refl;
+  lone = λ row there. absurd (omega (arith, there.1));
+}
+
 pub whole-new : (files : Option (List File)) (earlier : List Opened) (room faults : ℕ) (failed : Option CallOnFile) (guests : List (List ℕ)) (spare : Room)
-    → IsWholeWorld (face_of (found_store files earlier room faults failed) faults no_nodes (opening_table guests) (no_progress (length guests) spare) none_drained [])
+    → IsWholeWorld (face_of (found_store files earlier room faults failed) faults no_nodes (opening_table guests) (no_progress (length guests) spare) none_drained [] [])
 whole-new files earlier room faults failed guests spare =
     record {
       coherent = coherent-new guests spare;
       tell = λ told device held. absurd (omega (arith, held.1));
       counted = omega arith;
       bitmaps = record { listed = refl; single = tt; each = λ row there. absurd (omega (arith, there.1)) };
+      jobs = jobs-new guests;
     }

@@ -11,7 +11,7 @@ use Rattle.flat_machine.specs.State.{filename_of}
 use Rattle.flat_machine.proofs.Finds.{find-map}
 use Rattle.blk_nodes.specs.Nodes.{Nodes, row_at}
 use Rattle.blk_nodes.specs.declared.row.Row.{Row}
-use Rattle.world_parts.specs.Coherent.{AreAlike, AreNodesOf, IsRowOf, IsOfFileLength, AreOut, node_row, IsOfNoJob}
+use Rattle.world_parts.specs.Coherent.{AreAlike, AreNodesOf, IsRowOf, IsOfFileLength, AreOut, node_row}
 
 -- a row is as it was, or has lost its flat disk
 abbrev pub OnlyUnsettles : (NodeRecord → NodeRecord) → Type 0
@@ -58,7 +58,6 @@ module _ (t now : RunTable) (e : IsTableEased t now) where
       | inl same ↦ subst (λ (r : NodeRecord). IsOfFileLength r.kind r.size) (sym same) is.small
       | inr lost ↦ subst (λ (r : NodeRecord). IsOfFileLength r.kind r.size) (sym lost) is.small
     ];
-    plain = subst IsOfNoJob (sym (same_of (λ r. r.kind) (λ r. refl) row)) is.plain;
   }
 
   alike_eased : (row : Option NodeRecord) (own : Option Row) → AreAlike row own → AreAlike (option_map e.f row) own

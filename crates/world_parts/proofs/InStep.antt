@@ -1,5 +1,5 @@
 -- Rows and history stay in step with each entry.
-use Rattle.std.proofs.Common.{◌≡◌, ℕ, suc, ◌+◌, ◌-◌, ◌≤◌, ◌<◌, List, [], ◌∷◌, ◌++◌, length, set, replicate, zero, refl, sym, ◌∙◌, ap, subst, arith, Option, Some, None, Bool, false, not}
+use Rattle.std.proofs.Common.{◌≡◌, ℕ, suc, ◌+◌, ◌*◌, ◌-◌, ◌≤◌, ◌<◌, List, [], ◌∷◌, ◌++◌, length, set, replicate, zero, refl, sym, ◌∙◌, ap, subst, arith, Option, Some, None, Bool, false, not}
 use Rattle.std.specs.Prelude.{slice_get, option_and_then, option_map, unwrap_or}
 use Rattle.std.proofs.lemmas.List.{append-nil, length-append}
 use Rattle.std.proofs.lemmas.List.Elements.{filter_map-append}
@@ -7,11 +7,11 @@ use Rattle.blk_base.specs.declared.memory.Room.{Room}
 use Rattle.blk_base.specs.Outcomes.{is_good}
 use Rattle.blk_base.specs.declared.fault.Outcome.{Outcome}
 use Rattle.trace_codec.specs.declared.op.Op.{Op}
-use Rattle.blk_history.specs.Disk.{piece}
 use Rattle.trace_codec.specs.Request.{pieces_of, read_bytes_of}
 use Rattle.qmp_rules.specs.Chains.{is_listed}
 use Rattle.blk_history.specs.Fold.{change, With}
 use Rattle.blk_history.specs.Machine.{Flight}
+use Rattle.blk_history.specs.Names.{JobLine}
 use Rattle.blk_history.specs.Recorded.{Recorded, log_with_entry, log_with_shown}
 use Rattle.blk_history.specs.declared.event.Event.{Event}
 use Rattle.blk_history.specs.declared.event.Event.TheVariants.{Admit, Done}
@@ -47,6 +47,7 @@ pub record PutsRow (log log' : Recorded) (spare spare' : Room) (rows : List Gues
   pub placed : IsPlacedIn (log.events ++ e ∷ []) row.done row.flight
   pub done : row.is_done ≡ old.is_done
   pub falls : log'.room ≤ log.room
+  pub spares : spare'.entries ≤ spare.entries
   pub room : spare'.entries + owed (h (guest_in log.events old)).flight + log.room ≤ spare.entries + owed (guest_in log.events old).flight + log'.room
   pub bytes : spare'.bytes + owed_bytes (h (guest_in log.events old)).flight + log.byte_room ≤ spare.bytes + owed_bytes (guest_in log.events old).flight + log'.byte_room
 
@@ -58,7 +59,7 @@ module _ (log log' : Recorded) (spare spare' : Room) (rows : List GuestProgress)
       let stays = guests-append log.events (e ∷ []) rows placed in
       rw (puts.events, guests-put (log.events ++ e ∷ []) rows g old row h puts.there (puts.is ∙ ap h (sym at)), stays) refl
 
-  pub in-step-put : (is_done : Bool) (lines : List ℕ) (capacity : ℕ) → KeepsStep log spare rows is_done lines capacity → KeepsStep log' spare' (set rows g row) is_done lines capacity
+  pub in-step-put : {aside most : ℕ} {jobs : List JobLine} (is_done : Bool) (lines : List ℕ) (capacity : ℕ) → KeepsStep log spare aside jobs most rows is_done lines capacity → KeepsStep log' spare' aside jobs most (set rows g row) is_done lines capacity
   in-step-put is_done lines capacity was =
       let now = guests-then was.placed in
       let at = guests-at log.events rows g old puts.there in
@@ -78,6 +79,8 @@ module _ (log log' : Recorded) (spare spare' : Room) (rows : List GuestProgress)
         line_room = omega arith;
         room = rw now (omega arith);
         bytes = rw now (omega arith);
+        few = was.few;
+        named = let had_names = was.named in let less = puts.spares in omega arith;
       }
 
 -- ---- each entry
@@ -112,6 +115,7 @@ puts-admission log log' spare spare' rows g row op is spared some there free has
       placed = record { op = op; at = placed; next = omega arith; pieces = has.pieces; numbered = free.numbered };
       done = refl;
       falls = rw is (omega arith);
+      spares = rw spared (omega arith);
       room = rw (is, spared, idle) (omega arith);
       bytes = rw (is, spared, idle) (omega arith);
     }
@@ -131,6 +135,7 @@ puts-refusal log log' spare spare' rows g row e is ends answers spared some has 
       placed = tt;
       done = refl;
       falls = rw is (omega arith);
+      spares = rw spared (omega arith);
       room = rw (is, spared, idle) (omega arith);
       bytes = rw (is, spared, idle) (omega arith);
     }
@@ -150,6 +155,7 @@ puts-retirement log log' spare rows g row f e is ends answers some there flying 
       placed = tt;
       done = refl;
       falls = rw is (omega arith);
+      spares = omega arith;
       room = rw (is, flying) (omega arith);
       bytes = rw (is, flying) (omega arith);
     }
@@ -175,6 +181,7 @@ puts-piece log log' spare rows g row f outcome got e is ends answers some room t
       placed = record { op = placed.op; at = now; next = omega arith; pieces = placed.pieces; numbered = placed.numbered };
       done = refl;
       falls = rw is (omega arith);
+      spares = omega arith;
       room = rw (is, flying, at) (omega arith);
       bytes = rw (is, flying, at) (omega arith);
     }
@@ -182,9 +189,9 @@ puts-piece log log' spare rows g row f outcome got e is ends answers some room t
 -- ---- entries that change no guest's row
 
 -- a line is answered
-pub in-step-answer : (log log' : Recorded) (spare spare' : Room) (rows : List GuestProgress) (is_done : Bool) (lines : List ℕ) (capacity line : ℕ) (e : Event)
+pub in-step-answer : {aside most : ℕ} {jobs : List JobLine} (log log' : Recorded) (spare spare' : Room) (rows : List GuestProgress) (is_done : Bool) (lines : List ℕ) (capacity line : ℕ) (e : Event)
     → log' ≡ log_with_entry log e → spare' ≡ room_less 1 0 spare → 0 < spare.entries → actor_done e ≡ None → answered_by e ≡ Some line
-    → KeepsStep log spare rows is_done lines capacity → KeepsStep log' spare' rows is_done (lines ++ line ∷ []) capacity
+    → KeepsStep log spare aside jobs most rows is_done lines capacity → KeepsStep log' spare' aside jobs most rows is_done (lines ++ line ∷ []) capacity
 in-step-answer log log' spare spare' rows is_done lines capacity line e is spared some ends answers was =
     let room = was.room in
     let bytes = was.bytes in
@@ -199,16 +206,18 @@ in-step-answer log log' spare spare' rows is_done lines capacity line e is spare
       line_room = omega arith;
       room = rw stays (omega arith);
       bytes = rw stays (omega arith);
+      few = was.few;
+      named = let had_names = was.named in omega arith;
     })
 
 -- an actor is done
-pub in-step-done : (log log' : Recorded) (spare spare' : Room) (rows rows' : List GuestProgress) (is_done is_done' : Bool) (lines : List ℕ) (capacity actor : ℕ)
+pub in-step-done : {aside most : ℕ} {jobs : List JobLine} (log log' : Recorded) (spare spare' : Room) (rows rows' : List GuestProgress) (is_done is_done' : Bool) (lines : List ℕ) (capacity actor : ℕ)
     → log' ≡ log_with_entry log (Done actor) → spare' ≡ room_less 1 0 spare → 0 < spare.entries
     → ((ended : List ℕ) → is_done ≡ is_listed 0 ended → is_done' ≡ is_listed 0 (ended ++ actor ∷ []))
     → ((ended : List ℕ) → AreMarked ended 1 rows → AreMarked (ended ++ actor ∷ []) 1 rows')
     → ((es : List Event) → HaveTheirPlaces es rows → HaveTheirPlaces es rows')
     → ((es : List Event) → guests_in es rows' ≡ guests_in es rows)
-    → KeepsStep log spare rows is_done lines capacity → KeepsStep log' spare' rows' is_done' lines capacity
+    → KeepsStep log spare aside jobs most rows is_done lines capacity → KeepsStep log' spare' aside jobs most rows' is_done' lines capacity
 in-step-done log log' spare spare' rows rows' is_done is_done' lines capacity actor is spared some script marks places same was =
     let room = was.room in
     let bytes = was.bytes in
@@ -223,6 +232,31 @@ in-step-done log log' spare spare' rows rows' is_done is_done' lines capacity ac
       line_room = omega arith;
       room = rw stays (omega arith);
       bytes = rw stays (omega arith);
+      few = was.few;
+      named = let had_names = was.named in omega arith;
+    })
+
+-- an entry of a job, for which the room was spared or set aside
+pub in-step-job : {aside most : ℕ} {jobs : List JobLine} (log log' : Recorded) (spare spare' : Room) (aside' : ℕ) (jobs' : List JobLine) (rows : List GuestProgress) (is_done : Bool) (lines : List ℕ) (capacity : ℕ) (e : Event)
+    → log' ≡ log_with_entry log e → actor_done e ≡ None → answered_by e ≡ None
+    → (spare'.entries + aside') + 1 ≤ spare.entries + aside → spare'.bytes ≡ spare.bytes → aside' ≤ 32
+    → 3 * length jobs' + spare'.entries ≤ 3 * length jobs + spare.entries
+    → KeepsStep log spare aside jobs most rows is_done lines capacity → KeepsStep log' spare' aside' jobs' most rows is_done lines capacity
+in-step-job log log' spare spare' aside' jobs' rows is_done lines capacity e is ends answers falls same few names was =
+    let room = was.room in
+    let bytes = was.bytes in
+    let had_lines = was.line_room in
+    let stays = guests-append log.events (e ∷ []) rows was.placed in
+    rw is (record {
+      placed = placed-append log.events (e ∷ []) rows was.placed;
+      script = was.script ∙ ap (is_listed 0) (sym (ended-push log.events e ends));
+      guests = rw (ended-push log.events e ends) was.guests;
+      answered = was.answered ∙ sym (answered-push log.events e answers);
+      line_room = omega arith;
+      room = rw stays (omega arith);
+      bytes = rw stays (omega arith);
+      few = few;
+      named = let had_names = was.named in omega arith;
     })
 
 -- ---- a guest with a request in flight, by its row
@@ -254,7 +288,7 @@ flying-row es rows g row P placed there holds =
     let at = guests-at es rows g row there in
     is-flying es row row.flight P refl (placed-at es rows g row placed there) (subst (λ x. With (option_and_then (λ (y : Guest). y.flight) x) P) at holds)
 
-module _ (log : Recorded) (spare : Room) (rows : List GuestProgress) (is_done : Bool) (lines : List ℕ) (capacity : ℕ) (was : KeepsStep log spare rows is_done lines capacity) (g : ℕ) (row : GuestProgress) (there : slice_get rows g ≡ Some row) where
+module _ (log : Recorded) (spare : Room) (rows : List GuestProgress) (is_done : Bool) (lines : List ℕ) (capacity : ℕ) {aside most : ℕ} {jobs : List JobLine} (was : KeepsStep log spare aside jobs most rows is_done lines capacity) (g : ℕ) (row : GuestProgress) (there : slice_get rows g ≡ Some row) where
   -- there is room for what it owes
   pub room-owed : (f : Flight) → (guest_in log.events row).flight ≡ Some f → 0 < log.room
   room-owed f sees =
@@ -324,8 +358,9 @@ owed-bytes-new : (n : ℕ) → owed_bytes_by (replicate n new_guest) ≡ 0
 owed-bytes-new zero = refl
 owed-bytes-new (suc n) = let rest = owed-bytes-new n in omega arith
 
-pub in-step-new : (n : ℕ) (room : Room) (capacity : ℕ) → room.entries ≤ capacity → KeepsStep (no_log room) room (replicate n new_row) false [] capacity
-in-step-new n room capacity fits =
+pub in-step-new : (n : ℕ) (room : Room) (capacity : ℕ) → room.entries ≤ capacity → (most : ℕ) → room.entries ≤ 3 * most
+    → KeepsStep (no_log room) room 0 [] most (replicate n new_row) false [] capacity
+in-step-new n room capacity fits most enough =
     let none = owed-new n in
     let no_bytes = owed-bytes-new n in
     record {
@@ -336,4 +371,6 @@ in-step-new n room capacity fits =
       line_room = omega arith;
       room = rw (guests-new n) (omega arith);
       bytes = rw (guests-new n) (omega arith);
+      few = omega arith;
+      named = omega arith;
     }

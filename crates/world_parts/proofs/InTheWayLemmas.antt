@@ -1,5 +1,5 @@
 -- Requests in flight on disks: guest by guest.
-use Rattle.std.proofs.Common.{◌≡◌, ℕ, ◌<◌, ◌==◌, Bool, true, List, [], ◌∷◌, refl, sym, ◌∙◌, ap, subst, Option, Some, None}
+use Rattle.std.proofs.Common.{◌≡◌, ℕ, true, List, refl, sym, ◌∙◌, ap, subst, Option, Some, None}
 use Rattle.std.specs.Prelude.{IsSome, Contains, slice_get, option_and_then, option_map}
 use Rattle.std.specs.List.{list_any}
 use Rattle.std.proofs.lemmas.Bool.{eq-eqb}
@@ -8,9 +8,8 @@ use Rattle.blk_graph.proofs.Members.{list_any-there}
 use Rattle.blk_history.specs.Fold.{With}
 use Rattle.blk_history.specs.Machine.{Flight}
 use Rattle.qmp_rules.specs.Chains.{disk_node}
-use Rattle.qmp_rules.specs.Table.{RunTable}
 use Rattle.flat_machine.specs.State.{State, Guest, drive_of}
-use Rattle.flat_machine.specs.Marks.{AreCalm, IsCalm, IsInTheWay, MustWait, is_on}
+use Rattle.flat_machine.specs.Marks.{AreCalm, IsCalm, IsInTheWay, is_on}
 use Rattle.blk_history.specs.declared.event.Event.{Event}
 use Rattle.world_parts.specs.declared.row.GuestProgress.{GuestProgress}
 use Rattle.world_parts.specs.declared.row.InFlight.{InFlight}

@@ -1,18 +1,14 @@
 -- What a job's filter is: no file, no image and no copy-on-read, with the role Filtered alone.
-use Rattle.std.proofs.Common.{◌≡◌, true, Some, refl, ◌∙◌, ap, subst}
+use Rattle.std.proofs.Common.{◌≡◌, true, Some, refl}
 use Rattle.blk_graph.specs.Permissions.{has_role}
 use Rattle.blk_graph.specs.declared.edge.Role.{Role}
 use Rattle.blk_graph.specs.declared.edge.Role.TheVariants.{Filtered}
 use Rattle.blk_graph.specs.declared.kind.Kind.TheVariants as kinds
-use Rattle.blk_nodes.specs.Nodes.{filter_kind, driver_kind}
-use Rattle.blk_nodes.specs.declared.row.Driver.TheVariants.{Filter}
+use Rattle.blk_nodes.specs.Nodes.{filter_kind}
 use Rattle.blk_nodes.specs.declared.row.FilterKind.{FilterKind}
 use Rattle.blk_nodes.specs.declared.row.FilterKind.TheVariants.{BeforeWrite, Mirror, Commit}
-use Rattle.blk_nodes.specs.declared.row.Row.{Row}
 use Rattle.qmp_rules.specs.Chains.{filter_role}
-use Rattle.qmp_rules.specs.declared.rows.NodeRecord.{NodeRecord}
 use Rattle.flat_machine.proofs.Redrawn.{keeps_size}
-use Rattle.world_parts.specs.Coherent.{IsOfNoJob, IsRowOf}
 
 pub no_file : (kind : FilterKind) → filter_kind kind ≡ kinds.Protocol → ⊥
 no_file BeforeWrite is = cc is
@@ -46,12 +42,3 @@ pub filter_keeps : (kind : FilterKind) → keeps_size (filter_kind kind) Filtere
 filter_keeps BeforeWrite = refl
 filter_keeps Mirror = refl
 filter_keeps Commit = refl
-
--- no node of the run's table is one
-pub of_no_job : (kind : FilterKind) → IsOfNoJob (filter_kind kind) → ⊥
-of_no_job BeforeWrite is = is
-of_no_job Mirror is = is
-of_no_job Commit is = is
-
-pub none_yet : (listed : NodeRecord) (row : Row) (kind : FilterKind) → IsRowOf listed row → row.driver ≡ Filter kind → ⊥
-none_yet listed row kind is driver = of_no_job kind (subst IsOfNoJob (is.kind ∙ ap driver_kind driver) is.plain)

@@ -24,7 +24,10 @@ pub mod ImageTold
 pub mod Rows
 pub mod InStep
 pub mod InTheWayLemmas
+pub mod DrawnEdges
+pub mod JobsAnswered
 pub mod Judging
+pub mod Rises
 pub mod Pushing
 pub mod Quiet
 pub mod RunOpenings

@@ -2,7 +2,6 @@
 use Rattle.std.proofs.Common.{◌≡◌, ◌≢◌, ◌⊎◌, ℕ, true, false, Bool, List, [], ◌∷◌, Option, Some, None, sym, ◌∙◌, ap, subst, inl, inr, ◌==◌, cond, eq-eqb}
 use Rattle.std.specs.Prelude.{option_and_then, Contains, is_some, AllPairs}
 use Rattle.std.proofs.lemmas.Bool.{cases_eq, ne_eqb}
-use Rattle.blk_graph.specs.declared.edge.Role.TheVariants.{File}
 use Rattle.qmp_rules.specs.Table.{RunTable, node_by_id}
 use Rattle.qmp_rules.specs.declared.rows.NodeRecord.{NodeRecord}
 use Rattle.blk_nodes.specs.Nodes.{Nodes, DeviceSeen, row_at, device_in, driver_kind}
@@ -77,7 +76,6 @@ alike_row (Some row) (Some old) new is alike =
       access = alike.access ∙ sym is.2.is_read_only;
       place = alike.place ∙ sym driver.1;
       small = alike.small;
-      plain = alike.plain;
     } in
     subst (AreAlike (Some row)) (sym is.1) now
 

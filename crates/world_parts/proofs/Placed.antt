@@ -19,6 +19,7 @@ use Rattle.qmp_rules.specs.declared.told.Told.{Told}
 use Rattle.flat_machine.specs.Agreement.{Contents}
 use Rattle.flat_machine.specs.Changed.{stepped}
 use Rattle.flat_machine.specs.Legal.{IsForbidden}
+use Rattle.flat_machine.specs.Replies.{begins_job}
 use Rattle.flat_machine.specs.Performing.{IsQuiet, AllPerformed}
 use Rattle.flat_machine.specs.State.{Guest, State}
 use Rattle.flat_machine.specs.Wiring.{TableAtRest}
@@ -59,12 +60,12 @@ unfolding answer
 answer-is t told c first is = ap (answer_by t told c) is
 
 -- what is accepted leaves a table at rest
-pub rests_by : (w : WorldSeen) (u : RunTable) (c : Cmd) → refusal_to w.table told_none c ≡ None → u ≡ all_changed w.table (answer w.table told_none c).changes
+pub rests_by : (w : WorldSeen) (u : RunTable) (c : Cmd) → begins_job c ≡ false → refusal_to w.table told_none c ≡ None → u ≡ all_changed w.table (answer w.table told_none c).changes
     → TableAtRest w.table → TableAtRest u
-rests_by w u c none is was =
+rests_by w u c begins none is was =
     let changes : u ≡ all_changed w.table (command_edits w.table told_none c) =
     is ∙ ap (λ (a : Answer). all_changed w.table a.changes) (answer-is w.table told_none c None none) in
-    subst TableAtRest (sym changes) (command_rests w.table told_none told_none c was none).1
+    subst TableAtRest (sym changes) (command_rests w.table told_none told_none c begins was none).1
 
 -- ---- commands that open and make no file
 
@@ -73,13 +74,13 @@ abbrev pub CarriedUntold : WorldSeen → WorldSeen → Cmd → Option Refusal �
 CarriedUntold w v c refusal = (carried : IsCarried w v c refusal) × (carried.told ≡ told_none)
 
 pub carried_by : (w v : WorldSeen) (c : Cmd) → opens_nothing c ≡ true → prints_counts c ≡ false → refusal_to w.table told_none c ≡ None
-    → v.table ≡ all_changed w.table (answer w.table told_none c).changes → v.progress ≡ w.progress → v.drains ≡ w.drains
+    → v.table ≡ all_changed w.table (answer w.table told_none c).changes → v.progress ≡ w.progress → v.drains ≡ w.drains → v.works ≡ w.works
     → AreCalm w.table w.progress.guests (drained_by w.table c) → opened_names v.opened ≡ opened_names w.opened → RunsOn w v
     → HidesNoFault w v None → Leaves w.table (clean_told told_none) c None v.table (site_of w) (site_of v)
     → (IsCoherent w.table w.nodes w.opened w.progress → IsCoherent v.table v.nodes v.opened v.progress)
     → ((o : Opening) (s : State) → is_some w.files ≡ true → ShowsState o s w → AllPerformed s (answer w.table told_none c).changes (contents_of w) (contents_of v))
     → CarriedUntold w v c None
-carried_by w v c opens silent none table progress drains calm names runs hides site coherent performed =
+carried_by w v c opens silent none table progress drains works calm names runs hides site coherent performed =
     let carried : IsCarried w v c None = record {
       told = told_none;
       counts = λ prints. absurd (false≢true (sym silent ∙ prints));
@@ -89,6 +90,7 @@ carried_by w v c opens silent none table progress drains calm names runs hides s
       table = table;
       progress = progress;
       drains = drains;
+      works = works;
       calm = λ is. calm;
       runs = runs;
       hides = hides;
@@ -114,6 +116,7 @@ refused_by w c cause opens silent some nothing =
       table = sym (ap (all_changed w.table) changes);
       progress = refl;
       drains = refl;
+      works = refl;
       calm = λ is. absurd (let bad : ⊥ = cc is in bad);
       runs = runs-devices w w refl refl refl refl refl refl (same-devices w.nodes.devices);
       hides = subst (HidesNoFault w w) (sym (quiet_fault (Some cause) (λ other is. table_quiet w.table c other (some ∙ is)))) (hides-same w w refl refl refl);
@@ -133,6 +136,7 @@ put_back w = record {
   progress = refl;
   bitmaps = refl;
   drains = refl;
+  works = refl;
   runs = runs-devices w w refl refl refl refl refl refl (same-devices w.nodes.devices);
   files = refl;
   called = called_itself w.nodes;

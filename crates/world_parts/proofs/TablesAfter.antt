@@ -98,6 +98,5 @@ module _ (t now : RunTable) (e : IsTableEased t now) where
       allowed = λ g f flies.
           subst (λ (device : Option DeviceRow). With device (λ d. IsForbidden f.op d.read_only → ⊥)) (sym (device_same g)) (was.allowed g f flies);
       count = was.count ∙ ap length (sym e.guests);
-      jobs = e.jobs ∙ was.jobs;
       out = out-same now nodes next opened after.devices (out_eased t now e nodes opened was.out);
     }

@@ -41,6 +41,7 @@ use Rattle.world_parts.specs.Coherent.{IsCoherent}
 use Rattle.world_parts.specs.Comes.{ShowsState}
 use Rattle.world_parts.specs.Counting.{IsNumbered, RunsOn, IsFaultReached, seen_sources, counts_within, HidesNoFault, LeavesNoneOut}
 use Rattle.world_parts.specs.Face.{WorldSeen, held, contents_of, counts_now, dirty_of, seen_state, device_numbered}
+use Rattle.world_parts.specs.Jobs.{BeginsNone, BeginsOne}
 use Rattle.world_parts.specs.Leaving.{Leaves, LeavesBack, LeavesBitmaps, LeavesBitmapsIn, LeavesIn, clean_told}
 use Rattle.world_parts.specs.Looking.{HasCalled}
 use Rattle.world_parts.specs.Progress.{with_bare_entry}
@@ -208,6 +209,7 @@ pub record IsCarried (w v : WorldSeen) (c : Cmd) (refusal : Option Refusal) : Ty
   pub table : v.table ≡ all_changed w.table (answer w.table told c).changes
   pub progress : v.progress ≡ w.progress
   pub drains : v.drains ≡ w.drains
+  pub works : v.works ≡ w.works
   pub runs : RunsOn w v
   pub hides : HidesNoFault w v (fault_told refusal)
   pub opens : OpensFor c w.opened v.opened
@@ -256,6 +258,7 @@ pub record IsPutBack (w v : WorldSeen) : Type 0 where
   pub progress : v.progress ≡ w.progress
   pub bitmaps : v.bitmaps ≡ w.bitmaps
   pub drains : v.drains ≡ w.drains
+  pub works : v.works ≡ w.works
   pub files : v.files ≡ w.files
   pub called : HasCalled w.nodes v.nodes
   pub runs : RunsOn w v
@@ -325,6 +328,7 @@ pub record IsReplied (w v : WorldSeen) (line : Given) : Type 0 where
   pub bitmaps : LeavesBitmapsIn w.table told (command_at line.text) w.bitmaps v.bitmaps
   pub progress : v.progress ≡ with_bare_entry (reply_entry w told line) w.progress
   pub drains : v.drains ≡ after_reply w.drains
+  pub works : v.works ≡ w.works
   pub calm : FoundCalm (seen_state w) told (command_at line.text)
   pub runs : RunsOn w v
   pub licensed : IsLicensedBy (seen_state w) (seen_sources w)
@@ -351,6 +355,12 @@ pub record IsPutOff (w v : WorldSeen) (line : Given) (g r : ℕ) : Type 0 where
   pub shows : is_some w.files ≡ true → (o : Opening) (s : State) → ShowsState o s w
       → IsLateIn s w command told
 
+-- A line is answered: behind its reply begins the job that its command starts, where it starts one.
+pub record AnswersLine (w v : WorldSeen) (line : Given) : Type 0 where
+  pub between : WorldSeen
+  pub replied : IsReplied w between line
+  pub begins : BeginsNone w.table between v ⊎ BeginsOne w.table between v
+
 abbrev pub IsExecuted : WorldSeen → WorldSeen → Given → Executed → Type 0
-IsExecuted w v line executed.Replied = IsReplied w v line
+IsExecuted w v line executed.Replied = AnswersLine w v line
 IsExecuted w v line (executed.Later g r) = IsPutOff w v line g r

@@ -1,5 +1,5 @@
 -- How the parts of the world belong together between events.
-use Rattle.std.specs.Prelude.{◌≡◌, ◌≢◌, ℕ, ◌<◌, ◌≤◌, true, false, List, [], length, slice_get, AllPairs, map, Contains, Option, Some, None, IsSome, is_some}
+use Rattle.std.specs.Prelude.{◌≡◌, ◌≢◌, ℕ, ◌+◌, ◌<◌, ◌≤◌, true, false, if◌then◌else◌, List, [], ◌∷◌, length, slice_get, AllPairs, map, Contains, Option, Some, None, IsSome, is_some}
 use Rattle.blk_base.specs.Pieces.{end_of}
 use Rattle.blk_base.specs.declared.file.File.{File}
 use Rattle.blk_base.specs.declared.file.Opened.{Opened}
@@ -10,12 +10,15 @@ use Rattle.blk_graph.specs.Graph.{NodeRow}
 use Rattle.blk_graph.specs.declared.edge.Edge.{Edge}
 use Rattle.blk_graph.specs.declared.edge.Parent.TheVariants.{Guest as GuestOf}
 use Rattle.blk_graph.specs.declared.kind.Kind.{Kind}
-use Rattle.blk_graph.specs.declared.kind.Kind.TheVariants.{Protocol, BeforeWrite, Mirror, Commit}
+use Rattle.blk_graph.specs.declared.kind.Kind.TheVariants.{Protocol}
+use Rattle.block_jobs.specs.Work.{JobWork}
+use Rattle.qmp_codec.specs.declared.event.JobKind.TheVariants.{Backup}
 use Rattle.blk_nodes.specs.Nodes.{Nodes, DeviceSeen, AreTold, row_at, driver_kind}
 use Rattle.blk_nodes.specs.declared.row.Driver.{Driver}
 use Rattle.blk_nodes.specs.declared.row.Driver.TheVariants.{Raw}
 use Rattle.blk_nodes.specs.declared.row.Row.{Row}
 use Rattle.qmp_rules.specs.declared.rows.DeviceRow.{DeviceRow}
+use Rattle.qmp_rules.specs.declared.rows.JobRecord.{JobRecord}
 use Rattle.qmp_rules.specs.declared.rows.NodeRecord.{NodeRecord}
 use Rattle.qmp_rules.specs.Table.{RunTable, node_by_id, device_by_number}
 use Rattle.qmp_rules.specs.Chains.{disk_node}
@@ -26,6 +29,12 @@ use Rattle.flat_machine.specs.Bitmaps.{AreBitmapsOf}
 use Rattle.flat_machine.specs.Legal.{IsForbidden}
 use Rattle.flat_machine.specs.Wiring.{TableAtRest}
 use Rattle.flat_machine.specs.State.{Guest, drive_of, disk_of_guest, filename_of}
+use Rattle.job_commands.specs.Bitmaps.{UsesStand}
+use Rattle.job_ends.specs.Rows.{AreCopyRows}
+use Rattle.job_progress.specs.Belonging.{AreWorksOf}
+use Rattle.job_tables.specs.Copiers.{CopiesGo}
+use Rattle.job_tables.specs.Jobs.{JobsStand}
+use Rattle.job_tables.specs.Running.{JobsRun}
 use Rattle.world_parts.specs.Progress.{Progress, flight_at}
 use Rattle.world_parts.specs.Face.{WorldSeen, device_numbered}
 
@@ -52,13 +61,6 @@ abbrev pub IsOfFileLength : Kind → ℕ → Type 0
 IsOfFileLength Protocol size = size ≤ most_length
 IsOfFileLength kind size = Unit {0}
 
--- no job has put its filter yet
-abbrev pub IsOfNoJob : Kind → Type 0
-IsOfNoJob BeforeWrite = ⊥
-IsOfNoJob Mirror = ⊥
-IsOfNoJob Commit = ⊥
-IsOfNoJob kind = Unit {0}
-
 -- a node's row says what the node is
 pub record IsRowOf (record' : NodeRecord) (row : Row) : Type 0 where
   pub kind : record'.kind ≡ driver_kind row.driver
@@ -66,7 +68,6 @@ pub record IsRowOf (record' : NodeRecord) (row : Row) : Type 0 where
   pub access : record'.read_only ≡ row.is_read_only
   pub place : record'.offset ≡ offset_by_driver row.driver
   pub small : IsOfFileLength record'.kind record'.size
-  pub plain : IsOfNoJob record'.kind
 
 abbrev pub AreAlike : Option NodeRecord → Option Row → Type 0
 AreAlike None None = Unit {0}
@@ -141,7 +142,7 @@ AreOut t nodes opened = AreHeld t nodes.devices opened
 abbrev pub DevicesTell : Option (List File) → List DeviceSeen → Type 0
 DevicesTell files devices = is_some files ≡ true → AreTold devices
 
--- ---- whatever the store tells; no command that starts a job is carried out yet
+-- ---- whatever the store tells
 
 pub record IsCoherent (t : RunTable) (nodes : Nodes) (opened : List Opened)
     (p : Progress) : Type 0 where
@@ -154,8 +155,35 @@ pub record IsCoherent (t : RunTable) (nodes : Nodes) (opened : List Opened)
   pub within : AreWithin t p.guests
   pub allowed : AreAllowed t p.guests
   pub count : length p.guests ≡ length t.guests
-  pub jobs : t.jobs ≡ []
   pub out : AreOut t nodes opened
+
+-- ---- jobs
+
+-- entries that a job still makes: that it is ready, and that it ends
+abbrev pub entries_owed : JobRecord → ℕ
+entries_owed row = if row.is_ready then 1 else 2
+
+abbrev pub entries_owed_by : List JobRecord → ℕ
+entries_owed_by [] = 0
+entries_owed_by (row ∷ rows) = entries_owed row + entries_owed_by rows
+
+-- so far backups alone are started, one by one
+pub record IsLoneBackup (row : JobRecord) : Type 0 where
+  pub kind : row.kind ≡ Backup
+  pub group : row.group ≡ None
+
+-- Jobs stand and run, with rows as their starts put them, of which no two have one number. Each has its work and uses the bitmap
+-- that it copies by, and there is room for their entries.
+pub record AreJobsKept (t : RunTable) (works : List JobWork) (aside : ℕ) : Type 0 where
+  pub stand : JobsStand t
+  pub run : JobsRun t
+  pub copies : CopiesGo t
+  pub rows : AreCopyRows t.jobs
+  pub once : AllPairs (λ a b. a.number ≢ b.number) t.jobs
+  pub uses : UsesStand t
+  pub belong : AreWorksOf t works
+  pub room : aside ≡ entries_owed_by t.jobs
+  pub lone : (row : JobRecord) → Contains t.jobs row → IsLoneBackup row
 
 -- ---- all of it
 
@@ -164,3 +192,4 @@ pub record IsWholeWorld (w : WorldSeen) : Type 0 where
   pub tell : DevicesTell w.files w.nodes.devices
   pub counted : w.first_faults ≤ w.faults
   pub bitmaps : AreBitmapsOf w.table.bitmaps w.bitmaps
+  pub jobs : AreJobsKept w.table w.works w.progress.aside

@@ -4,15 +4,16 @@ use Rattle.flat_machine.specs.State.{State}
 use Rattle.flat_machine.specs.Machine.{replay}
 use Rattle.flat_machine.specs.Legal.{IsAtRest}
 use Rattle.flat_machine.specs.Opening.{start}
-use Rattle.flat_machine.specs.Comes.{ComesOf, guests_after}
+use Rattle.flat_machine.specs.Comes.{ComesOf, guests_after, jobs_from}
 use Rattle.flat_machine.specs.Final.{bytes_named}
 use Rattle.flat_machine.specs.Agreement.{Agrees}
 use Rattle.flat_machine.specs.Imaging.{ImagesAreSound, ShowsImages}
 use Rattle.flat_machine.specs.Standing.{StandsAtRest}
 use Rattle.flat_machine.specs.declared.opening.Opening.{Opening}
 use Rattle.world_parts.specs.Progress.{ended_in}
-use Rattle.world_parts.specs.Coherent.{IsCoherent}
+use Rattle.world_parts.specs.Coherent.{IsCoherent, AreJobsKept}
 use Rattle.world_parts.specs.Face.{WorldSeen, contents_of, dirty_of, first_counts, counts_now, held}
+use Rattle.world_parts.specs.Keeping.{AreRises, ShowsJobs, all_faults}
 use Rattle.world_parts.specs.Tabling.{IsTableAfter}
 
 -- ---- facts about one moment, each over the parts that it names
@@ -44,10 +45,11 @@ pub record ShowsState (o : Opening) (s : State) (w : WorldSeen) : Type 0 where
 
 -- ---- the whole
 
--- The guests are the opening's, their rows are what their own entries make of them, table and dirty granules are what the entries make, the
--- parts of the world belong together, the store's count hasn't fallen, and each fault that the history names is a rise that it names once. Where the store tells
--- its files, the history is one of that opening, what the world shows at this moment is what the flat machine comes to by it,
--- and the image in the file of each qcow2 node is sound.
+-- The guests are the opening's, their rows are what their own entries make of them, table and dirty granules are what the entries
+-- make, the parts of the world belong together, the store's count hasn't fallen, and each fault that the history names or that a
+-- job keeps is a rise of its own. Where the store tells its files, the history is one of that opening, what the world shows at this
+-- moment is what the flat machine comes to by it, the image in the file of each qcow2 node is sound, and jobs have their names and are
+-- as far as they are to be.
 pub record Comes (o : Opening) (w : WorldSeen) : Type 0 where
   pub history : ComesOf o (is_some w.files) w.table.guests
       (first_counts w) (counts_now w) w.progress.log.events
@@ -57,3 +59,10 @@ pub record Comes (o : Opening) (w : WorldSeen) : Type 0 where
   pub coherent : IsCoherent w.table w.nodes w.opened w.progress
   pub shows : is_some w.files ≡ true → ShowsState o (replay (start o) w.progress.log.events) w
   pub sound : is_some w.files ≡ true → ImagesAreSound w.table (held w)
+  pub jobs : AreJobsKept w.table w.works w.progress.aside
+  pub kept : AreRises (first_counts w) (counts_now w)
+      (all_faults w.progress.log.events w.works)
+  pub going : is_some w.files ≡ true → ShowsJobs o w.progress.log.events
+      (replay (start o) w.progress.log.events) w
+  pub names : is_some w.files ≡ true
+      → w.progress.jobs ≡ jobs_from (start o) w.progress.log.events

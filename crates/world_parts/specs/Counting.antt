@@ -1,5 +1,5 @@
 -- What one event does to the counts of faults of a world, and the faults that are reached in it.
-use Rattle.std.specs.Prelude.{◌≡◌, ◌⊎◌, ℕ, ◌^◌, ◌<◌, ◌≤◌, List, [], ◌∷◌, ◌++◌, length, drop, slice_get, slice_set, Option, Some, None, IsSome, is_some, option_map}
+use Rattle.std.specs.Prelude.{◌≡◌, ◌⊎◌, ℕ, ◌^◌, ◌<◌, ◌≤◌, List, [], ◌∷◌, ◌++◌, length, drop, slice_get, slice_set, Option, Some, None, IsSome, is_some, option_map, option_and_then}
 use Rattle.blk_base.specs.declared.fault.FaultAt.{FaultAt}
 use Rattle.blk_base.specs.declared.fault.FaultFrom.{FaultFrom}
 use Rattle.blk_base.specs.declared.fault.FaultFrom.TheVariants.{Store, Dev, Sink}
@@ -8,6 +8,7 @@ use Rattle.blk_history.specs.Fold.{With}
 use Rattle.blk_nodes.specs.Nodes.{DeviceSeen, device_in}
 use Rattle.flat_machine.specs.EventLicence.{Sources}
 use Rattle.flat_machine.specs.Licence.{Counts, IsBetweenCounts}
+use Rattle.job_works.specs.Works.{work_of}
 use Rattle.world_parts.specs.Face.{WorldSeen, first_counts, counts_now}
 
 -- ---- counts only rise
@@ -104,9 +105,9 @@ AreSameDevices _ _ = ⊥
 
 -- ---- whose devices they are
 
--- No job has met a fault yet.
+-- of nodes, and of jobs by their works
 abbrev pub seen_sources : WorldSeen → Sources
 seen_sources w = record {
   device_of = λ node. option_map (λ device. device.number.0) (device_in w.nodes.devices node);
-  met_by = λ job. None;
+  met_by = λ job. option_and_then (λ work. work.met) (work_of w.works job);
 }

@@ -4,6 +4,7 @@ use Rattle.blk_base.specs.declared.file.CallOnFile.{CallOnFile}
 use Rattle.blk_base.specs.declared.file.File.{File}
 use Rattle.blk_base.specs.declared.file.Opened.{Opened}
 use Rattle.blk_bitmaps.specs.declared.row.Bitmap.{Bitmap}
+use Rattle.block_jobs.specs.Work.{JobWork}
 use Rattle.blk_nodes.specs.Nodes.{Nodes, DeviceSeen, device_in}
 use Rattle.blk_nodes.specs.Contents.{disk_of}
 use Rattle.qmp_rules.specs.Asks.{stands_for}
@@ -18,9 +19,9 @@ use Rattle.world_parts.specs.Progress.{Progress, ended_in}
 use Rattle.world_parts.specs.Stores.{StoreInRun}
 
 -- The store: its files where it tells them, the openings before the run and those of the run, the capacity of files that are
--- made, its count of faults now, which call failed last, and the count when the world was made. Then the nodes with their devices, the table of names, the guests
--- and the history, the disks that are drained, and the dirty bitmaps. A device's number is the place of its opening among
--- those of the run.
+-- made, its count of faults now, which call failed last, and the count when the world was made. Then the nodes with their
+-- devices, the table of names, the guests and the history, the disks that are drained, the dirty bitmaps, and what is kept of the
+-- copying of jobs. A device's number is the place of its opening among those of the run.
 pub record WorldSeen : Type 0 where
   pub files : Option (List File)
   pub earlier : List Opened
@@ -34,11 +35,12 @@ pub record WorldSeen : Type 0 where
   pub progress : Progress
   pub drains : Drained
   pub bitmaps : List Bitmap
+  pub works : List JobWork
 
 -- what is seen of these parts
 abbrev pub face_of : StoreInRun → ℕ → Nodes → RunTable → Progress → Drained → List Bitmap
-    → WorldSeen
-face_of store first_faults nodes table progress drains bitmaps = record {
+    → List JobWork → WorldSeen
+face_of store first_faults nodes table progress drains bitmaps works = record {
   files = store.files;
   earlier = store.earlier;
   opened = store.opened;
@@ -51,6 +53,7 @@ face_of store first_faults nodes table progress drains bitmaps = record {
   progress = progress;
   drains = drains;
   bitmaps = bitmaps;
+  works = works;
 }
 
 -- what of the bitmaps is dirty

@@ -7,6 +7,8 @@ pub mod Guests
 pub mod Piecing
 pub mod Tabling
 pub mod Comes
+pub mod Keeping
+pub mod Jobs
 pub mod Counting
 pub mod Steps
 pub mod Deleting

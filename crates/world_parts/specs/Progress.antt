@@ -1,5 +1,5 @@
 -- The history of a run, and how far each guest is by it.
-use Rattle.std.specs.Prelude.{◌≡◌, ℕ, ◌+◌, ◌-◌, ◌^◌, ◌<◌, ◌≤◌, Bool, false, List, [], ◌∷◌, length, map, replicate, slice_get, Option, Some, None, option_map, option_and_then, unwrap_or}
+use Rattle.std.specs.Prelude.{◌≡◌, ℕ, ◌+◌, ◌*◌, ◌-◌, ◌^◌, ◌<◌, ◌≤◌, Bool, false, List, [], ◌∷◌, ◌++◌, length, map, replicate, slice_get, Option, Some, None, option_map, option_and_then, unwrap_or}
 use Rattle.std.specs.List.{filter_map}
 use Rattle.blk_base.specs.declared.memory.Room.{Room}
 use Rattle.blk_base.specs.declared.fault.Outcome.{Outcome}
@@ -10,10 +10,11 @@ use Rattle.blk_history.specs.Fold.{change}
 use Rattle.blk_history.specs.Disk.{piece}
 use Rattle.blk_history.specs.Line.{request_at}
 use Rattle.blk_history.specs.Machine.{Flight}
+use Rattle.blk_history.specs.Names.{JobLine}
 use Rattle.blk_history.specs.Recorded.{Recorded, log_with_entry, log_with_shown}
 use Rattle.blk_history.specs.declared.entry.Refused.{Refused}
 use Rattle.blk_history.specs.declared.event.Event.{Event}
-use Rattle.blk_history.specs.declared.event.Event.TheVariants.{Admit, Refuse, Piece, Retire, Reply, Reached, Done}
+use Rattle.blk_history.specs.declared.event.Event.TheVariants.{Admit, Refuse, Piece, Retire, Reply, Reached, Start, Done}
 use Rattle.blk_pieces.specs.Pieces.{shown_before, shows_in}
 use Rattle.flat_machine.specs.State.{Guest}
 use Rattle.flat_machine.specs.Opening.{new_guest}
@@ -21,10 +22,13 @@ use Rattle.flat_machine.specs.Machine.{admitted, finished, past_piece}
 use Rattle.world_parts.specs.declared.row.InFlight.{InFlight}
 use Rattle.world_parts.specs.declared.row.GuestProgress.{GuestProgress}
 
--- the guests by number, the room of the history that no request in flight needs, and the history
+-- the guests by number, the room of the history that neither a request in flight nor a job needs, how many entries are set aside
+-- for jobs, the names of those that began, and the history
 pub record Progress : Type 0 where
   pub guests : List Guest
   pub spare : Room
+  pub aside : ℕ
+  pub jobs : List JobLine
   pub log : Recorded
 
 -- ---- what the history says by itself
@@ -109,15 +113,18 @@ AreMarked ended actor [] = Unit {0}
 AreMarked ended actor (row ∷ rows) =
     (row.is_done ≡ is_listed actor ended) × AreMarked ended (actor + 1) rows
 
-pub record KeepsStep (log : Recorded) (spare : Room) (rows : List GuestProgress)
+pub record KeepsStep (log : Recorded) (spare : Room) (aside : ℕ) (jobs : List JobLine)
+    (most : ℕ) (rows : List GuestProgress)
     (is_done : Bool) (lines : List ℕ) (capacity : ℕ) : Type 0 where
   pub placed : HaveTheirPlaces log.events rows
   pub script : is_done ≡ is_listed 0 (ended_in log.events)
   pub guests : AreMarked (ended_in log.events) 1 rows
   pub answered : lines ≡ answered_in log.events
   pub line_room : length lines + log.room ≤ capacity
-  pub room : spare.entries + owed_by (guests_in log.events rows) ≤ log.room
+  pub room : (spare.entries + aside) + owed_by (guests_in log.events rows) ≤ log.room
   pub bytes : spare.bytes + owed_bytes_by (guests_in log.events rows) ≤ log.byte_room
+  pub few : aside ≤ 32
+  pub named : 3 * length jobs + spare.entries ≤ 3 * most
 
 -- ---- the beginning
 
@@ -129,7 +136,13 @@ no_log room = record { events = []; bytes = []; room = room.entries; byte_room =
 
 abbrev pub no_progress : ℕ → Room → Progress
 no_progress guests room =
-    record { guests = replicate guests new_guest; spare = room; log = no_log room }
+    record {
+      guests = replicate guests new_guest;
+      spare = room;
+      aside = 0;
+      jobs = [];
+      log = no_log room;
+    }
 
 -- ---- what each entry leaves
 
@@ -143,14 +156,14 @@ requests_done guests g = unwrap_or (option_map (λ row. row.done) (slice_get gue
 
 -- a request is admitted: room for its pieces, for its entry and its end, and for what it reads is set aside
 abbrev pub with_admission : ℕ → Op → Progress → Progress
-with_admission g op p = record {
+with_admission g op p = record p {
   guests = change g (admitted op) p.guests;
   spare = room_less (pieces_of op + 2) (read_bytes_of op) p.spare;
   log = log_with_entry p.log (Admit g (requests_done p.guests g) op);
 }
 
 abbrev pub with_refusal : ℕ → Op → Refused → Progress → Progress
-with_refusal g op why p = record {
+with_refusal g op why p = record p {
   guests = change g finished p.guests;
   spare = room_less 1 0 p.spare;
   log = log_with_entry p.log (Refuse g (requests_done p.guests g) op why);
@@ -171,6 +184,20 @@ with_retirement g p = record p {
 -- an entry that changes no guest's row
 abbrev pub with_bare_entry : Event → Progress → Progress
 with_bare_entry e p = record p { spare = room_less 1 0 p.spare; log = log_with_entry p.log e }
+
+-- A job begins, by whose command an answer was noted before: two entries are set aside for it, that it is ready and that it
+-- ends.
+abbrev pub with_start : ℕ → JobLine → Progress → Progress
+with_start job line p = record p {
+  spare = room_less 3 0 p.spare;
+  aside = p.aside + 2;
+  jobs = p.jobs ++ line ∷ [];
+  log = log_with_entry p.log (Start job);
+}
+
+-- an entry of a job, behind which so much less is set aside
+abbrev pub with_job_entry : ℕ → Event → Progress → Progress
+with_job_entry n e p = record p { aside = p.aside - n; log = log_with_entry p.log e }
 
 -- ---- when each can be made
 

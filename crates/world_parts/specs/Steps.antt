@@ -59,6 +59,7 @@ new_world store guests room = record {
   progress = no_progress (length guests) room;
   drains = none_drained;
   bitmaps = [];
+  works = [];
 }
 
 -- These are the opening's guests, and its files and their room, where the store tells its files.

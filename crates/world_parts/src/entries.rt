@@ -6,7 +6,7 @@ ghost use Rattle.trace_codec.specs.Awaits.{seen_await};
 ghost use Rattle.blk_history.specs.Recorded.{log_with_entry, log_with_shown};
 
 use blk_base::{Outcome, Text};
-use blk_history::{Awaited, Entry, History, KeptRequest, Refused, Understood};
+use blk_history::{Awaited, Entry, History, JobEnd, KeptRequest, Refused, Understood};
 use qmp_codec::Command;
 use trace_codec::{Await, Op};
 
@@ -99,6 +99,34 @@ pub(crate) fn note_reached(history: &mut History, line: u32, what: Await)
     history.push(Entry::Reached {
         line,
         what: Awaited::new(what),
+    });
+}
+
+/// That a job begins.
+pub(crate) fn note_start(history: &mut History, job: u32)
+    requires { 0 < history.old.room }
+    ensures { history.new ≡ log_with_entry history.old (Event.Start job) }
+{
+    history.push(Entry::Start { job });
+}
+
+/// That a job is ready.
+pub(crate) fn note_ready(history: &mut History, job: u32)
+    requires { 0 < history.old.room }
+    ensures { history.new ≡ log_with_entry history.old (Event.Ready job) }
+{
+    history.push(Entry::Ready { job });
+}
+
+/// That a job ended so, when so many bytes of its source were done.
+pub(crate) fn note_end(history: &mut History, job: u32, outcome: JobEnd, offset: u64)
+    requires { 0 < history.old.room }
+    ensures { history.new ≡ log_with_entry history.old (Event.End job outcome offset) }
+{
+    history.push(Entry::End {
+        job,
+        outcome,
+        offset,
     });
 }
 

@@ -9,7 +9,7 @@ ghost use Rattle.world_parts.specs.Progress.{room_less, new_row, AreMarked, Have
 use crate::entries;
 use crate::row::{GuestProgress, InFlight};
 use blk_base::{NoMemory, Outcome, Room};
-use blk_history::{History, Refused};
+use blk_history::{History, JobEnd, JobName, Refused};
 use qmp_codec::Command;
 use std::alloc::Global;
 use std::marker::Model;
@@ -23,8 +23,12 @@ pub struct Progress {
     script_is_done: bool,
     /// The lines that were answered, in order.
     lines: Vec<u32>,
-    /// The room that no request in flight needs.
+    /// The room that neither a request in flight nor a job needs.
     spare: Room,
+    /// How many entries are set aside for jobs.
+    aside: u32,
+    /// The names of the jobs that began, by number.
+    jobs: Vec<JobName>,
     history: History,
 }
 
@@ -37,11 +41,13 @@ impl Model for Progress {
     ghost view = { λ p. record {
       guests = guests_in p.history.events p.rows.items;
       spare = p.spare;
+      aside = p.aside;
+      jobs = p.jobs.items;
       log = p.history;
     } };
 
-    ghost invariant = { λ p. KeepsStep p.history p.spare p.rows.items
-        p.script_is_done p.lines.items (vec_capacity p.lines) };
+    ghost invariant = { λ p. KeepsStep p.history p.spare p.aside p.jobs.items
+        (vec_capacity p.jobs) p.rows.items p.script_is_done p.lines.items (vec_capacity p.lines) };
 }
 
 /// The row of a guest.
@@ -126,7 +132,7 @@ impl Progress {
     ghost use Rattle.blk_history.specs.Legal.{IsFlightOver};
     ghost use Rattle.trace_codec.specs.Awaits.{seen_await};
     ghost use Rattle.world_parts.specs.Draining.{number_in_flight};
-    ghost use Rattle.world_parts.specs.Progress.{no_progress, answered_in, ended_in, requests_done, IsFree, HasRoomFor, with_admission, with_refusal, with_retirement, with_bare_entry, with_piece_entry, flight_at, CanShow};
+    ghost use Rattle.world_parts.specs.Progress.{no_progress, answered_in, ended_in, requests_done, IsFree, HasRoomFor, with_admission, with_refusal, with_retirement, with_bare_entry, with_piece_entry, with_start, with_job_entry, flight_at, CanShow};
 
     /// So many guests that have asked for nothing yet, no entry, and room for those of a run.
     pub fn new(alloc: Global, guests: usize, room: Room) -> Result<Self, NoMemory>
@@ -134,28 +140,42 @@ impl Progress {
     {
         let rows = new_rows(alloc, guests)?;
         let lines = Vec::with_capacity(alloc, room.entries as usize)?;
+        // beside the reply to its command, each job needs room for three entries
+        let jobs = Vec::with_capacity(alloc, room.entries as usize / 3 + 1)?;
         let history = History::with_room(alloc, room)?;
         Ok(Progress {
             rows,
             script_is_done: false,
             lines,
             spare: room,
+            aside: 0,
+            jobs,
             history,
         })
     }
 
-    /// The history.
-    pub fn into_history(self) -> History
-        ensures { result ≡ self.log }
+    /// The history, and the names of the jobs that began.
+    pub fn into_history(self) -> (History, Vec<JobName>)
+        ensures history { result.0 ≡ self.log }
+        ensures jobs { result.1.items ≡ self.jobs }
     {
         let Progress {
             rows: _,
             script_is_done: _,
             lines: _,
             spare: _,
+            aside: _,
+            jobs,
             history,
         } = self;
-        history
+        (history, jobs)
+    }
+
+    /// How many entries the history has.
+    pub fn entries(&self) -> u64
+        ensures { result ≡ length self.now.log.events }
+    {
+        self.history.len()
     }
 
     /// How many guests there are.
@@ -340,6 +360,38 @@ impl Progress {
         entries::note_done(&mut self.history, actor);
         mark_done(&mut self.script_is_done, &mut self.rows, actor);
         self.spare = spare;
+    }
+
+    /// Notes that a job of this name begins. Beside this entry, room is set aside for two: that it is ready, and that it ends.
+    pub fn start(&mut self, job: u32, name: JobName)
+        requires room { 3 ≤ self.old.spare.entries }
+        requires few { self.old.aside ≤ 30 }
+        ensures { self.new ≡ with_start job name self.old }
+    {
+        let spare = less(self.spare, 3, 0);
+        entries::note_start(&mut self.history, job);
+        self.jobs.push_reserved(name);
+        self.spare = spare;
+        self.aside += 2;
+    }
+
+    /// Notes that a job is ready.
+    pub fn ready(&mut self, job: u32)
+        requires { 1 ≤ self.old.aside }
+        ensures { self.new ≡ with_job_entry 1 (Event.Ready job) self.old }
+    {
+        entries::note_ready(&mut self.history, job);
+        self.aside -= 1;
+    }
+
+    /// Notes that a job ended, for which so many entries were set aside.
+    pub fn end_job(&mut self, owed: u32, job: u32, outcome: JobEnd, offset: u64)
+        requires some { 1 ≤ owed }
+        requires room { owed ≤ self.old.aside }
+        ensures { self.new ≡ with_job_entry owed (Event.End job outcome offset) self.old }
+    {
+        entries::note_end(&mut self.history, job, outcome, offset);
+        self.aside -= owed;
     }
 
     /// Whether so many requests of a guest are done; of no guest, none is.

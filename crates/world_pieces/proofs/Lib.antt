@@ -10,5 +10,8 @@ pub mod PieceReady
 pub mod PieceShows
 pub mod PieceTables
 pub mod PieceTold
+pub mod PieceJobs
+pub mod PieceApart
 pub mod PieceComes
 pub mod PieceCalls
+pub mod PieceGuards

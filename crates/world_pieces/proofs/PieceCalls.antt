@@ -1,10 +1,11 @@
 -- The calls that make a piece: what each asks, and what they leave together.
-use Rattle.std.proofs.Common.{◌≡◌, ℕ, List, Option, Some, None, refl, sym, ◌∙◌, ap, subst}
-use Rattle.std.specs.Prelude.{IsSome}
+use Rattle.std.proofs.Common.{◌≡◌, ℕ, true, List, Option, Some, None, refl, sym, ◌∙◌, ap, subst}
+use Rattle.std.specs.Prelude.{IsSome, IfSome}
 use Rattle.std.proofs.lemmas.Bool.{false≢true}
 use Rattle.blk_base.specs.declared.fault.Outcome.{Outcome}
 use Rattle.trace_codec.specs.declared.op.Op.{Op}
 use Rattle.blk_bitmaps.specs.declared.row.Bitmap.{Bitmap}
+use Rattle.blk_history.specs.Disk.{is_write}
 use Rattle.blk_history.specs.Fold.{With}
 use Rattle.blk_history.specs.Machine.{Flight}
 use Rattle.qmp_rules.specs.Chains.{disk_node}
@@ -20,7 +21,10 @@ use Rattle.world_parts.specs.Comes.{Comes}
 use Rattle.world_parts.specs.Face.{WorldSeen}
 use Rattle.blk_pieces.specs.Pieces.{CanTransfer, Transfers}
 use Rattle.world_parts.specs.Piecing.{IsMadeOn, part_of, shown_in_flight, table_after}
-use Rattle.world_pieces.specs.Pieces.{IsPieceMade, HasPieceLicence, noted_after, written_in}
+use Rattle.job_progress.specs.Piecing.{IsGuarded}
+use Rattle.world_pieces.proofs.PieceApart.{apart_from_jobs}
+use Rattle.world_pieces.proofs.PieceJobs.{IsApartFromJobs}
+use Rattle.world_pieces.specs.Pieces.{IsGuardedPiece, IsPieceMade, HasPieceLicence, noted_after, written_in}
 use Rattle.world_parts.specs.Progress.{Progress, HasNext, flight_at, with_piece_entry}
 use Rattle.world_parts.proofs.CountLemmas.{HoldsThere, there}
 use Rattle.world_pieces.proofs.PieceComes.{piece_comes, piece_licence, piece_whole}
@@ -83,17 +87,32 @@ made_of w nodes table p bitmaps g drive node f outcome op on is_node asks noted 
       recorded;
 }
 
+-- what holds for the request in flight on its drive
+guarded_at : (w : WorldSeen) (g : ℕ) (f : Flight) (drive : ℕ) → flight_at w.progress.guests g ≡ Some f → drive_of w.table g ≡ Some drive → IsGuardedPiece w g
+    → is_write f.op ≡ true → IsGuarded w.table w.works (disk_node w.table drive) (part_of f)
+guarded_at w g f drive flies on guarded =
+    subst (λ x. IfSome x (λ n. is_write f.op ≡ true → IsGuarded w.table w.works (disk_node w.table n) (part_of f))) on
+    (subst (λ x. IfSome x (λ a. IfSome (drive_of w.table g) (λ n. is_write a.op ≡ true → IsGuarded w.table w.works (disk_node w.table n) (part_of a)))) flies guarded)
+
 module _ (w v : WorldSeen) (g : ℕ) (outcome : Outcome) (next : With (flight_at w.progress.guests g) HasNext)
     (made : (f : Flight) → flight_at w.progress.guests g ≡ Some f → IsPieceMade w v g f outcome) (joined : IsJoined w.nodes)
     (whole : IsWholeWorld w) where
   flight : HoldsThere (flight_at w.progress.guests g) HasNext
   flight = there (flight_at w.progress.guests g) HasNext next
 
-  pub made_comes : Unfolds w.nodes → IsJoined v.nodes → (o : Opening) → Comes o w → Comes o v
-  made_comes unfolds = piece_comes w v g flight.at outcome (made flight.at flight.is) flight.holds flight.is joined whole.coherent unfolds whole.tell whole.bitmaps
+  abbrev made_on : IsPieceMade w v g flight.at outcome
+  made_on = made flight.at flight.is
+
+  apart : IsApartFromJobs w.table (disk_node w.table made_on.drive) flight.at.op
+  apart = apart_from_jobs w g flight.at made_on.drive made_on.on flight.is joined whole.coherent whole.jobs
+
+  pub made_comes : IsGuardedPiece w g → Unfolds w.nodes → IsJoined v.nodes → (o : Opening) → Comes o w → Comes o v
+  made_comes guarded unfolds =
+      piece_comes w v g flight.at outcome made_on flight.holds flight.is joined whole.coherent whole.jobs apart
+      (guarded_at w g flight.at made_on.drive flight.is made_on.on guarded) unfolds whole.tell whole.bitmaps
 
   pub made_whole : IsJoined v.nodes → IsWholeWorld v
-  made_whole = piece_whole w v g flight.at outcome (made flight.at flight.is) flight.holds flight.is joined whole.coherent whole.tell whole.counted whole.bitmaps
+  made_whole = piece_whole w v g flight.at outcome made_on flight.holds flight.is joined whole.coherent whole.jobs apart whole.tell whole.counted whole.bitmaps
 
   pub made_licence : (f : Flight) (flies : flight_at w.progress.guests g ≡ Some f) → (m : IsPieceMade w v g f outcome) × HasPieceLicence w v g f outcome m
-  made_licence f flies = (made f flies, piece_licence w v g f outcome (made f flies) (next_at (flight_at w.progress.guests g) f next flies) flies joined whole.coherent)
+  made_licence f flies = (made f flies, piece_licence w v g f outcome (made f flies) (next_at (flight_at w.progress.guests g) f next flies) flies joined whole.coherent whole.jobs)

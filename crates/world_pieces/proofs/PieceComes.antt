@@ -1,8 +1,9 @@
 -- A piece leaves a world that comes of the same opening.
-use Rattle.std.proofs.Common.{◌≡◌, ℕ, ◌<◌, ◌≤◌, ◌^◌, arith, Bool, true, false, List, length, Option, Some, None, refl, sym, ◌∙◌, ap, subst}
+use Rattle.std.proofs.Common.{◌≡◌, ℕ, ◌<◌, ◌≤◌, ◌^◌, arith, Bool, true, false, List, [], ◌∷◌, ◌++◌, length, Option, Some, None, refl, sym, ◌∙◌, ap, subst}
 use Rattle.std.specs.Prelude.{is_some}
+use Rattle.std.proofs.lemmas.List.{append-nil}
 use Rattle.std.proofs.lemmas.List.Elements.{All-nil}
-use Rattle.blk_base.specs.Pieces.{Extent}
+use Rattle.blk_base.specs.Pieces.{Extent, end_of}
 use Rattle.blk_base.specs.declared.fault.DevNo.{DevNo}
 use Rattle.blk_base.specs.declared.fault.FaultAt.{FaultAt}
 use Rattle.blk_base.specs.declared.fault.FaultFrom.TheVariants.{Dev}
@@ -17,29 +18,31 @@ use Rattle.blk_history.specs.Machine.{Flight}
 use Rattle.blk_history.specs.declared.event.Event.{Event}
 use Rattle.trace_codec.specs.declared.op.Op.{Op}
 use Rattle.qmp_rules.specs.Chains.{disk_node}
+use Rattle.qmp_rules.specs.Queries.{bytes_of_node}
 use Rattle.qmp_rules.specs.Table.{RunTable, child, device_by_number}
 use Rattle.qmp_rules.specs.declared.rows.DeviceRow.{DeviceRow}
 use Rattle.flat_machine.specs.EventLicence.{IsOnTheWay, ReachesDevice, RoseIn, WouldPass, full_by, faulty_device}
 use Rattle.flat_machine.specs.Legal.{Fits, IsForbidden}
 use Rattle.flat_machine.specs.Licence.{fault_at, named_by}
-use Rattle.flat_machine.specs.Machine.{after}
+use Rattle.flat_machine.specs.Machine.{after, flight_of, replay, with_part, with_piece}
+use Rattle.flat_machine.specs.Opening.{start}
 use Rattle.flat_machine.specs.Marks.{IsCalm}
 use Rattle.flat_machine.specs.State.{State, Guest, drive_of}
 use Rattle.blk_history.specs.Small.{IsSmallOutcome}
-use Rattle.flat_machine.specs.Writing.{CanWrite, ReadsWritten, written_file}
+use Rattle.flat_machine.specs.Writing.{CanWrite, PieceDone, ReadsWritten, written_file}
 use Rattle.flat_machine.specs.Imaging.{KeepsMapping}
 use Rattle.flat_machine.specs.declared.opening.Opening.{Opening}
 use Rattle.flat_machine.proofs.Resting.{guest_can}
-use Rattle.blk_nodes.specs.Contents.{Unfolds}
+use Rattle.blk_nodes.specs.Contents.{Unfolds, disk_of}
 use Rattle.blk_nodes.specs.Copying.{IsBeside}
 use Rattle.blk_nodes.specs.Joined.{IsJoined}
 use Rattle.blk_nodes.specs.Nodes.{DeviceSeen, AreTold, is_device_of}
 use Rattle.blk_nodes.specs.Reading.{LeadsTo, StoppedAt, StoppedBy}
 use Rattle.blk_nodes.specs.Writing.{IsApartFrom}
-use Rattle.world_parts.specs.Coherent.{IsCoherent, IsWholeWorld, DevicesTell}
+use Rattle.world_parts.specs.Coherent.{AreJobsKept, IsCoherent, IsWholeWorld, DevicesTell}
 use Rattle.world_parts.specs.Comes.{Comes, ShowsState}
 use Rattle.world_parts.specs.Counting.{RunsOn, IsFaultReached, IsReachedBy, seen_sources, counts_within, HidesNoFault}
-use Rattle.world_parts.specs.Face.{WorldSeen, dirty_of, held, counts_now, node_over, contents_of}
+use Rattle.world_parts.specs.Face.{WorldSeen, dirty_of, held, counts_now, first_counts, node_over, contents_of}
 use Rattle.blk_pieces.specs.Pieces.{CanTransfer}
 use Rattle.blk_pieces.proofs.Payloads.{payload_length, putting_by}
 use Rattle.world_pieces.specs.Pieces.{IsPieceMade, HasPieceLicence, piece_entry, piece_passes, noted_after, written_in}
@@ -50,7 +53,18 @@ use Rattle.flat_machine.specs.Recording.{dirty_by}
 use Rattle.world_parts.specs.Tabling.{piece_table, piece_dirty}
 use Rattle.world_pieces.proofs.BitmapsNoted.{noted-follow, noted-listed}
 use Rattle.world_parts.proofs.Coherence.{coherent-past}
-use Rattle.world_parts.proofs.CountLemmas.{runs-devices, reached-held, licensed-on, out-same}
+use Rattle.world_parts.proofs.CountLemmas.{runs-devices, reached-held, out-same}
+use Rattle.world_parts.proofs.Quiet.{files-beside}
+use Rattle.world_parts.proofs.Rises.{rises-entry}
+use Rattle.world_parts.specs.Keeping.{AreRises, ShowsJobs, all_faults}
+use Rattle.world_pieces.proofs.PieceJobs.{IsApartFromJobs, can_pass, jobs_after, no_commit, unmarked}
+use Rattle.job_ends.proofs.Held.{other_held}
+use Rattle.job_entries.proofs.Found.{other_begun}
+use Rattle.job_progress.proofs.Entries.{entries_leave}
+use Rattle.job_progress.proofs.Pieces.{piece_goes}
+use Rattle.job_progress.specs.Going.{AreJobsAhead}
+use Rattle.job_progress.specs.Piecing.{CanPass, IsGuarded, marked_by}
+use Rattle.job_tables.proofs.TargetEvents.{piece_files}
 use Rattle.world_parts.proofs.CountsKept.{counts-same, hides-none, hides-stopped}
 use Rattle.world_parts.proofs.OverFiles.{over-row}
 use Rattle.world_parts.proofs.ImageTold.{mapping_kept}
@@ -61,7 +75,7 @@ use Rattle.world_pieces.proofs.PieceContents.{content_after, else_by, over_same,
 use Rattle.world_pieces.proofs.PieceFits.{piece_fits, to_disk, stop_reached}
 use Rattle.world_parts.proofs.NodesAfter.{same_in, AreNodesAfter}
 use Rattle.world_pieces.proofs.PieceNodes.{nodes_after, StoppedOn, IsStop, stop_of, passes_of}
-use Rattle.world_pieces.proofs.PieceReady.{IsGuestDisk, disk_is, writer, can_transfer, is_apart, is_beside, disk_read}
+use Rattle.world_pieces.proofs.PieceReady.{IsGuestDisk, disk_is, writer, can_transfer, part_within, is_apart, is_beside, over_disk, disk_read}
 use Rattle.world_pieces.proofs.PieceShows.{piece_done, piece_shows}
 use Rattle.world_pieces.proofs.PieceTold.{told_after}
 use Rattle.world_parts.proofs.SoundImages.{images-sound}
@@ -75,7 +89,7 @@ of_64 : (count : ℕ) → count < 2 ^ 64 → count ≤ 18446744073709551615
 of_64 count less = omega arith
 
 -- what stopped the piece is the device that it names
-stop_names : (before after : DeviceSeen) (outcome : Outcome) (dev : DevNo) → IsStop before after outcome dev → dev ≡ before.number
+pub stop_names : (before after : DeviceSeen) (outcome : Outcome) (dev : DevNo) → IsStop before after outcome dev → dev ≡ before.number
 stop_names before after Good dev never = absurd never
 stop_names before after (Torn done other count) dev stop = stop.named
 stop_names before after (Io other count) dev stop = stop.named
@@ -94,7 +108,8 @@ allows t g op (Some d) is allowed = (d, is, λ writes. by_access d.read_only wri
 -- ---- the piece
 
 module _ (w v : WorldSeen) (g : ℕ) (f : Flight) (outcome : Outcome) (made : IsPieceMade w v g f outcome) (next : HasNext f)
-    (flies : flight_at w.progress.guests g ≡ Some f) (joined : IsJoined w.nodes) (was : IsCoherent w.table w.nodes w.opened w.progress) where
+    (flies : flight_at w.progress.guests g ≡ Some f) (joined : IsJoined w.nodes) (was : IsCoherent w.table w.nodes w.opened w.progress)
+    (kept : AreJobsKept w.table w.works w.progress.aside) where
   abbrev node : ℕ
   node = disk_node w.table made.drive
 
@@ -109,6 +124,9 @@ module _ (w v : WorldSeen) (g : ℕ) (f : Flight) (outcome : Outcome) (made : Is
 
   can : CanTransfer w.nodes made.drive node f.op part
   can = can_transfer w.table w.nodes w.progress joined w.opened was g f made.drive made.on flies next
+
+  within : end_of part ≤ bytes_of_node w.table node
+  within = part_within w.table w.nodes w.progress joined w.opened was g f made.drive made.on flies next
 
   -- the images that a read of the drive meets
   met : MeetsOwnImage w.table w.nodes made.drive part.start
@@ -138,7 +156,7 @@ module _ (w v : WorldSeen) (g : ℕ) (f : Flight) (outcome : Outcome) (made : Is
   piece_coherent =
       let q : Progress = with_piece_entry g f.next outcome (shown_in_flight f outcome made.buffer) w.progress in
       let past : IsCoherent w.table w.nodes w.opened q = coherent-past w.table w.nodes w.opened w.progress was q g outcome refl in
-      let disks = disks_after w.table w.nodes w.opened w.progress joined was g made.drive made.on f.op (writer w.table w.nodes w.progress joined w.opened was g f made.drive made.on flies) in
+      let disks = disks_after w.table w.nodes w.opened w.progress joined was (no_commit w.table w.works w.progress.aside kept w.nodes was.alike) g made.drive made.on f.op (writer w.table w.nodes w.progress joined w.opened was g f made.drive made.on flies) in
       let now : IsCoherent (table_after f.op node w.table) v.nodes w.opened q =
       coherent_moved w.table (table_after f.op node w.table) (eased_after f.op node w.table) w.nodes v.nodes w.opened q moved (rests_after f.op node w.table was.table) disks past in
       subst (λ (x : WorldSeen). IsCoherent x.table x.nodes x.opened x.progress) (sym made.kept) now
@@ -148,12 +166,21 @@ module _ (w v : WorldSeen) (g : ℕ) (f : Flight) (outcome : Outcome) (made : Is
   tell_then tell now = λ tells.
       told_after w.table f.op w.nodes v.nodes made.drive node part outcome made.buffer joined now moved.devices went (tell (sym (ap (λ (x : WorldSeen). is_some x.files) made.kept) ∙ tells))
 
-  pub piece_whole : DevicesTell w.files w.nodes.devices → w.first_faults ≤ w.faults → AreBitmapsOf w.table.bitmaps w.bitmaps → IsJoined v.nodes → IsWholeWorld v
-  piece_whole tell counted bitmaps now = record {
+  works_kept : v.works ≡ w.works
+  works_kept = ap (λ (x : WorldSeen). x.works) made.kept
+
+  pub piece_jobs : IsApartFromJobs w.table node f.op → AreJobsKept v.table v.works v.progress.aside
+  piece_jobs apart =
+      subst (λ (x : WorldSeen). AreJobsKept x.table x.works x.progress.aside) (sym made.kept)
+      (jobs_after w.table node w.works w.progress.aside f.op was.table.stands kept apart)
+
+  pub piece_whole : IsApartFromJobs w.table node f.op → DevicesTell w.files w.nodes.devices → w.first_faults ≤ w.faults → AreBitmapsOf w.table.bitmaps w.bitmaps → IsJoined v.nodes → IsWholeWorld v
+  piece_whole apart tell counted bitmaps now = record {
     coherent = piece_coherent;
     tell = tell_then tell now;
     counted = subst (λ (x : WorldSeen). x.first_faults ≤ x.faults) (sym made.kept) counted;
     bitmaps = noted-listed outcome made.drive w.bitmaps (written_in f.op part) v.bitmaps w.table v.table node f.op table_kept noted bitmaps;
+    jobs = piece_jobs apart;
   }
 
   -- what is dirty then, by the table alone
@@ -233,7 +260,7 @@ module _ (w v : WorldSeen) (g : ℕ) (f : Flight) (outcome : Outcome) (made : Is
   hides_by (NoSpace dev) same = hides-none w v opened_kept store_kept (counts-same w.nodes.devices v.nodes.devices w.opened same)
 
   piece_hides : HidesNoFault w v (named_by outcome)
-  piece_hides = hides_by outcome (piece-counted w.nodes v.nodes joined w.table made.drive node part outcome made.buffer f.op went)
+  piece_hides = hides_by outcome (piece-counted w.nodes v.nodes joined.once w.table made.drive node part outcome made.buffer f.op went)
 
   pub piece_licence : HasPieceLicence w v g f outcome made
   piece_licence = record {
@@ -255,10 +282,12 @@ module _ (w v : WorldSeen) (g : ℕ) (f : Flight) (outcome : Outcome) (made : Is
       (over-row w.table name n was.table.stands.apart is) (none changes) changes))
 
   apart : (other : ℕ) → (ReadsWritten w.table node other → ⊥) → IsApartFrom w.nodes other node
-  apart = is_apart w.table w.nodes joined was.alike was.table.stands node disk.row disk.at disk.held disk.id_is disk.has disk.own disk.own_at disk.alike
+  apart = is_apart w.table w.nodes joined was.alike was.table.stands node disk.row disk.at disk.held disk.id_is disk.has.own
+      (over_disk w.table w.nodes joined was.alike was.table.stands disk.row disk.has) disk.own disk.own_at disk.alike
 
   beside : (other : ℕ) → (child w.table node File ≡ Some other → ⊥) → IsBeside w.nodes other node
-  beside = is_beside w.table w.nodes joined was.alike was.table.stands node disk.row disk.at disk.held disk.id_is disk.has disk.own disk.own_at disk.alike
+  beside = is_beside w.table w.nodes joined was.alike was.table.stands node disk.row disk.at disk.held disk.id_is disk.has.own
+      (over_disk w.table w.nodes joined was.alike was.table.stands disk.row disk.has) disk.own disk.own_at disk.alike
 
   module _ (o : Opening) (s : State) (unfolds : Unfolds w.nodes) (told : AreTold w.nodes.devices) (bitmaps : AreBitmapsOf w.table.bitmaps w.bitmaps) (shows : ShowsState o s w)
       (joined_now : IsJoined v.nodes) where
@@ -270,13 +299,16 @@ module _ (w v : WorldSeen) (g : ℕ) (f : Flight) (outcome : Outcome) (made : Is
         let device = allows w.table g f.op (device_by_number w.table g) refl (was.allowed g f flies) in
         guest_can s g device.0 made.drive f.op shows.stands (ap (λ (t : RunTable). device_by_number t g) shows.table.table_is ∙ device.1) on_then device.2
 
+    pub did : PieceDone s made.drive f.op outcome part (contents_of w) (contents_of v)
+    did = piece_done s w.table w v made.drive f.op outcome part made.buffer shows.table.table_is made.transferred met beside apart told held_else
+
     pub shows_then : ShowsState o (after s entry) v
     shows_then =
         piece_shows o s w v g f.next made.drive f outcome entry (requests_done w.progress.guests g) (shown_in_flight f outcome made.buffer) refl shows on_then
         (ap (λ (guests : List Guest). flight_at guests g) shows.guests.guests_are ∙ flies)
         (ap (λ (x : WorldSeen). x.room) made.kept) table_kept (ap (λ (x : WorldSeen). x.progress.guests) made.kept)
         (ap (λ (x : WorldSeen). ended_in x.progress.log.events) made.kept ∙ ended-push w.progress.log.events entry refl) (dirty_then bitmaps)
-        can_write (piece_done s w.table w v made.drive f.op outcome part made.buffer shows.table.table_is made.transferred met beside apart told held_else)
+        can_write did
         (subst (λ (t : RunTable). KeepsMapping t (disk_node t made.drive) (contents_of w) (contents_of v)) (sym shows.table.table_is)
         (mapping_kept w v was.alike joined joined_now was.table.stands moved told over_kept node))
 
@@ -285,28 +317,68 @@ module _ (w v : WorldSeen) (g : ℕ) (f : Flight) (outcome : Outcome) (made : Is
         piece_fits o s w v g made.drive f outcome made.buffer disk.row shows told made.on disk.at disk.has flies next
         (disk_read w.table w.nodes joined was.alike was.table.stands unfolds made.drive) made.transferred
 
-  pub piece_comes : Unfolds w.nodes → DevicesTell w.files w.nodes.devices → AreBitmapsOf w.table.bitmaps w.bitmaps → IsJoined v.nodes → (o : Opening) → Comes o w → Comes o v
-  piece_comes unfolds told bitmaps joined_now o comes =
-      comes-push o w v entry comes (record {
+  -- jobs are as far as before
+  going_then : IsApartFromJobs w.table node f.op → (is_write f.op ≡ true → IsGuarded w.table w.works node part) → (o : Opening) (s : State) (unfolds : Unfolds w.nodes)
+      (told : AreTold w.nodes.devices) (bitmaps : AreBitmapsOf w.table.bitmaps w.bitmaps) (shows : ShowsState o s w) → IsJoined v.nodes
+      → ShowsJobs o w.progress.log.events s w → ShowsJobs o (w.progress.log.events ++ entry ∷ []) (after s entry) v
+  going_then apart guarded o s unfolds told bitmaps shows joined_now going =
+      let t_is = shows.table.table_is in
+      let on = on_then o s unfolds told bitmaps shows joined_now in
+      let s_node : disk_node s.table made.drive ≡ node = ap (λ (t : RunTable). disk_node t made.drive) t_is in
+      let pass : CanPass s.table w.works (disk_node s.table made.drive) f.op part =
+      rw (s_node, t_is) (can_pass w.table w.works node f.op part apart guarded) in
+      let flight = ap (λ (guests : List Guest). flight_at guests g) shows.guests.guests_are ∙ flies in
+      let now : State = with_part made.drive f.op outcome part s in
+      let is_now : with_piece (drive_of s.table g) (flight_of s g) f.next outcome s ≡ now = rw (on, flight) refl in
+      record {
+        begun = other_begun s entry refl going.begun;
+        files =
+            files-beside now (after s entry) (rw is_now (record { table = refl; files = refl; left = refl; starts = refl }))
+            (piece_files s made.drive f.op outcome part going.files);
+        ahead =
+            let far = piece_goes (start o) w.progress.log.events s made.drive outcome part (contents_of w) (contents_of v) w.works (rw t_is kept.stand) (rw t_is kept.belong)
+            (rw (s_node, t_is) within) going.ahead f.op (can_write o s unfolds told bitmaps shows joined_now) pass (did o s unfolds told bitmaps shows joined_now) in
+            let same = subst (AreJobsAhead (start o) w.progress.log.events now (disk_of v.nodes))
+            (ap (λ (t : RunTable). marked_by f.op outcome t (disk_node t made.drive) part w.works) t_is ∙ unmarked w.table w.works w.progress.aside kept f.op outcome node part ∙ sym works_kept) far in
+            entries_leave (start o) now (after s entry) w.progress.log.events entry (disk_of v.nodes) v.works (ap (λ (x : State). x.table) is_now) (ap (λ (x : State). x.disks) is_now) (ap (λ (x : State). x.begun) is_now) same;
+        unsure = other_held s entry refl going.unsure;
+      }
+
+  pub piece_comes : IsApartFromJobs w.table node f.op → (is_write f.op ≡ true → IsGuarded w.table w.works node part) → Unfolds w.nodes → DevicesTell w.files w.nodes.devices
+      → AreBitmapsOf w.table.bitmaps w.bitmaps → IsJoined v.nodes → (o : Opening) → Comes o w → Comes o v
+  piece_comes apart guarded unfolds told bitmaps joined_now o comes =
+      comes-push o w v (entry ∷ []) comes (record {
         events = ap (λ (x : WorldSeen). x.progress.log.events) made.kept;
         names = ap (λ (t : RunTable). t.guests) table_kept ∙ (eased_after f.op node w.table).guests;
         told = ap (λ (x : WorldSeen). is_some x.files) made.kept;
         guests = ap (λ (x : WorldSeen). x.progress.guests) made.kept;
-        table = record {
-          table =
-              table_kept ∙ ap (λ (drive : Option ℕ). piece_table drive (Some f) w.table) (sym made.on)
-              ∙ ap (λ (flight : Option Flight). piece_table (drive_of w.table g) flight w.table) (sym flies);
-          dirty =
-              dirty_then bitmaps ∙ ap (λ (drive : Option ℕ). piece_dirty drive (Some f) f.next outcome v.table (dirty_of w)) (sym made.on)
-              ∙ ap (λ (flight : Option Flight). piece_dirty (drive_of w.table g) flight f.next outcome v.table (dirty_of w)) (sym flies);
-        };
+        table = (
+          v.table,
+          dirty_of v,
+          record {
+            table =
+                table_kept ∙ ap (λ (drive : Option ℕ). piece_table drive (Some f) w.table) (sym made.on)
+                ∙ ap (λ (flight : Option Flight). piece_table (drive_of w.table g) flight w.table) (sym flies);
+            dirty =
+                dirty_then bitmaps ∙ ap (λ (drive : Option ℕ). piece_dirty drive (Some f) f.next outcome v.table (dirty_of w)) (sym made.on)
+                ∙ ap (λ (flight : Option Flight). piece_dirty (drive_of w.table g) flight f.next outcome v.table (dirty_of w)) (sym flies);
+          },
+          (refl, refl),
+        );
         counted = λ least. subst (λ (x : WorldSeen). x.first_faults ≤ x.faults) (sym made.kept) least;
         coherent = λ coherent. piece_coherent;
-        licensed = licensed-on w v piece_runs w.progress.log.events entry piece_reached;
+        jobs = λ jobs. piece_jobs apart;
+        kept = λ rises.
+            subst (λ works. AreRises (first_counts v) (counts_now v) (all_faults (w.progress.log.events ++ entry ∷ []) works)) (sym works_kept)
+            (rises-entry w v piece_runs w.progress.log.events w.works entry piece_reached rises);
         sound = λ tells. images-sound v joined_now piece_coherent (tell_then told joined_now tells);
-        fits = λ tells s shows. (
-          fits_then o s unfolds (told tells) bitmaps shows joined_now,
-          All-nil (IsCalm s.table s.guests),
-          shows_then o s unfolds (told tells) bitmaps shows joined_now,
-        );
+        fits = λ tells shows going.
+            let s : State = replay (start o) w.progress.log.events in
+            record {
+              legal = (fits_then o s unfolds (told tells) bitmaps shows joined_now, tt);
+              marks = (All-nil (IsCalm s.table s.guests), tt);
+              shows = shows_then o s unfolds (told tells) bitmaps shows joined_now;
+              going = going_then apart guarded o s unfolds (told tells) bitmaps shows joined_now going;
+              names = ap (λ (x : WorldSeen). x.progress.jobs) made.kept ∙ sym (append-nil w.progress.jobs);
+            };
       })

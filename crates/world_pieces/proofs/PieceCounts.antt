@@ -1,5 +1,6 @@
 -- A piece raises no count but that of the device that it names.
 use Rattle.std.proofs.Common.{◌≡◌, ℕ, List, length, replicate, Option, sym, ap, subst, inl, inr}
+use Rattle.std.specs.Prelude.{AllPairs}
 use Rattle.blk_base.specs.Pieces.{Extent}
 use Rattle.blk_base.specs.declared.fault.DevNo.{DevNo}
 use Rattle.blk_base.specs.declared.fault.Outcome.{Outcome}
@@ -8,7 +9,7 @@ use Rattle.trace_codec.specs.declared.op.Op.{Op}
 use Rattle.trace_codec.specs.declared.op.Op.TheVariants.{Read, Write, Zero, Flush, Discard}
 use Rattle.blk_history.specs.Disk.{payload_in}
 use Rattle.blk_nodes.specs.Flushing.{base_of, HasFlushCause, IsFlushAt}
-use Rattle.blk_nodes.specs.Joined.{IsJoined}
+use Rattle.blk_nodes.specs.Joined.{DifferInNode}
 use Rattle.blk_nodes.specs.Nodes.{Nodes, DeviceSeen}
 use Rattle.blk_nodes.specs.Reading.{IsReadBelow, StoppedAt}
 use Rattle.blk_nodes.specs.Writing.{IsWriteAt, WritesImage, WritesBy, ZerosBy, HasCauseOf, HasPieceCause}
@@ -29,8 +30,8 @@ AreCounted (NoSpace dev) old new = AreSame old new
 same-of : (old new : List DeviceSeen) → new ≡ old → AreSame old new
 same-of old new same n = ap (λ (ds : List DeviceSeen). faults_at ds n) same
 
-module _ (old new : Nodes) (joined : IsJoined old) where
-  read-counted : (node : ℕ) (outcome : Outcome) → IsReadBelow old new node outcome → AreCounted outcome old.devices new.devices
+module _ (old new : Nodes) (once : AllPairs DifferInNode old.devices) where
+  pub read-counted : (node : ℕ) (outcome : Outcome) → IsReadBelow old new node outcome → AreCounted outcome old.devices new.devices
   read-counted node Good is = same-of old.devices new.devices (ap (λ (n : Nodes). n.devices) is)
   read-counted node (Torn done dev count) is = absurd is
   read-counted node (Io dev count) is = (is.file, is.stopped)
@@ -42,13 +43,13 @@ module _ (old new : Nodes) (joined : IsJoined old) where
     where
       by_cause : (o : Outcome) → HasCauseOf at.before at.after place (length bytes) o → AreCounted o old.devices new.devices
       by_cause Good cause =
-          only-same file old.devices new.devices at.before at.after joined.once at.only at.held at.left at.wrote.number cause.1
+          only-same file old.devices new.devices at.before at.after once at.only at.held at.left at.wrote.number cause.1
       by_cause (Torn done dev count) cause =
           (file, record { before = at.before; after = at.after; held = at.held; left = at.left; stopped = cause.4; only = at.only })
       by_cause (Io dev count) cause =
           (file, record { before = at.before; after = at.after; held = at.held; left = at.left; stopped = cause.1; only = at.only })
       by_cause (NoSpace dev) cause =
-          only-same file old.devices new.devices at.before at.after joined.once at.only at.held at.left at.wrote.number cause.2
+          only-same file old.devices new.devices at.before at.after once at.only at.held at.left at.wrote.number cause.2
 
   image-counted : (fits : ℕ → Type 0) (own : Option ℕ) (rest : Option Extent) (node n : ℕ) (outcome : Outcome) → WritesImage fits own rest old new node n outcome
       → AreCounted outcome old.devices new.devices
@@ -57,7 +58,7 @@ module _ (old new : Nodes) (joined : IsJoined old) where
       by_cause : (o : Outcome) → HasPieceCause (fits wrote.before.capacity) own rest n wrote.file old new node wrote.before wrote.after o
           → AreCounted o old.devices new.devices
       by_cause Good cause =
-          only-same wrote.file old.devices new.devices wrote.before wrote.after joined.once cause.2 wrote.held wrote.left wrote.device.number
+          only-same wrote.file old.devices new.devices wrote.before wrote.after once cause.2 wrote.held wrote.left wrote.device.number
           cause.1
       by_cause (Torn done dev count) cause = (
         wrote.file,
@@ -67,7 +68,7 @@ module _ (old new : Nodes) (joined : IsJoined old) where
           let stopped = stopped_piece old new node dev count fits own rest n outcome wrote cause in (stopped.file, stopped.stopped)
       by_cause (NoSpace dev) cause = same-of old.devices new.devices (ap (λ (m : Nodes). m.devices) cause.2)
 
-  write-counted : (node : ℕ) (part : Extent) (bytes : List ℕ) (outcome : Outcome) (d : Driver) → WritesBy d old new node part bytes outcome
+  pub write-counted : (node : ℕ) (part : Extent) (bytes : List ℕ) (outcome : Outcome) (d : Driver) → WritesBy d old new node part bytes outcome
       → AreCounted outcome old.devices new.devices
   write-counted node part bytes outcome drivers.File wrote = file-counted wrote.file wrote.start bytes outcome wrote.at
   write-counted node part bytes outcome (drivers.Raw p) wrote = file-counted wrote.file wrote.start bytes outcome wrote.at
@@ -75,7 +76,7 @@ module _ (old new : Nodes) (joined : IsJoined old) where
   write-counted node part bytes outcome drivers.CopyOnRead wrote = file-counted wrote.file wrote.start bytes outcome wrote.at
   write-counted node part bytes outcome (drivers.Filter kind) wrote = file-counted wrote.file wrote.start bytes outcome wrote.at
 
-  zero-counted : (node : ℕ) (part : Extent) (outcome : Outcome) (d : Driver) → ZerosBy d old new node part outcome
+  pub zero-counted : (node : ℕ) (part : Extent) (outcome : Outcome) (d : Driver) → ZerosBy d old new node part outcome
       → AreCounted outcome old.devices new.devices
   zero-counted node part outcome drivers.File wrote = file-counted wrote.file wrote.start (replicate part.len 0) outcome wrote.at
   zero-counted node part outcome (drivers.Raw p) wrote = file-counted wrote.file wrote.start (replicate part.len 0) outcome wrote.at
@@ -89,7 +90,7 @@ module _ (old new : Nodes) (joined : IsJoined old) where
     where
       by_cause : (o : Outcome) → HasFlushCause at.before at.after o → AreCounted o old.devices new.devices
       by_cause Good cause =
-          only-same file old.devices new.devices at.before at.after joined.once at.only at.held at.left
+          only-same file old.devices new.devices at.before at.after once at.only at.held at.left
           (ap (λ (d : DeviceSeen). d.number) at.flush.is) cause
       by_cause (Torn done dev count) cause = absurd cause
       by_cause (Io dev count) cause =

@@ -132,7 +132,7 @@ module _ (old new : Nodes) (node : ℕ) where
     stop = subst (λ (o : Outcome). IsStop stopped.stopped.before stopped.stopped.after o dev) (sym is) stopped.stopped.stopped;
   }
 
-  read_stop : (outcome : Outcome) (dev : DevNo) → faulty_device outcome ≡ Some dev → IsReadBelow old new node outcome → StoppedOn old new node outcome dev
+  pub read_stop : (outcome : Outcome) (dev : DevNo) → faulty_device outcome ≡ Some dev → IsReadBelow old new node outcome → StoppedOn old new node outcome dev
   read_stop Good dev named is = absurd (let bad : ⊥ = cc named in bad)
   read_stop (Torn done other count) dev named is = absurd is
   read_stop (Io other count) dev named is =
@@ -259,7 +259,7 @@ module _ (old new : Nodes) (node : ℕ) where
       let same : may.row ≡ row = cc (sym may.there ∙ there) in
       subst (CanBeWritten old node) (ap (λ (r : Row). r.driver) same ∙ driver) may.can
 
-  written_stop : (part : Extent) (bytes : List ℕ) (outcome : Outcome) (dev : DevNo) (row : Row) → faulty_device outcome ≡ Some dev → row_at old node ≡ Some row → MayWriteThrough old node
+  pub written_stop : (part : Extent) (bytes : List ℕ) (outcome : Outcome) (dev : DevNo) (row : Row) → faulty_device outcome ≡ Some dev → row_at old node ≡ Some row → MayWriteThrough old node
       → (d : Driver) → row.driver ≡ d → WritesBy d old new node part bytes outcome → StoppedOn old new node outcome dev
   written_stop part bytes outcome dev row named there may drivers.File driver wrote = plain_stop part.start bytes outcome dev row drivers.File named there driver tt wrote
   written_stop part bytes outcome dev row named there may (drivers.Raw p) driver wrote = plain_stop part.start bytes outcome dev row (drivers.Raw p) named there driver tt wrote
@@ -267,7 +267,7 @@ module _ (old new : Nodes) (node : ℕ) where
   written_stop part bytes outcome dev row named there may drivers.CopyOnRead driver wrote = absurd (not_copying row there driver may)
   written_stop part bytes outcome dev row named there may (drivers.Filter kind) driver wrote = absurd (not_filter row kind there driver may)
 
-  zeroed_stop : (part : Extent) (outcome : Outcome) (dev : DevNo) (row : Row) → faulty_device outcome ≡ Some dev → row_at old node ≡ Some row → MayWriteThrough old node
+  pub zeroed_stop : (part : Extent) (outcome : Outcome) (dev : DevNo) (row : Row) → faulty_device outcome ≡ Some dev → row_at old node ≡ Some row → MayWriteThrough old node
       → (d : Driver) → row.driver ≡ d → ZerosBy d old new node part outcome → StoppedOn old new node outcome dev
   zeroed_stop part outcome dev row named there may drivers.File driver wrote = plain_stop part.start (replicate part.len 0) outcome dev row drivers.File named there driver tt wrote
   zeroed_stop part outcome dev row named there may (drivers.Raw p) driver wrote = plain_stop part.start (replicate part.len 0) outcome dev row (drivers.Raw p) named there driver tt wrote

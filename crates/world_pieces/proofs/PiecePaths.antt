@@ -19,7 +19,7 @@ use Rattle.blk_graph.proofs.GraphLemmas.{PathsAreShort-from_IsSound}
 use Rattle.blk_graph.proofs.InverseLemmas.{same_parent-refl}
 use Rattle.blk_graph.proofs.Members.{Contains-nil, Contains-cases, find-Some}
 use Rattle.blk_graph.proofs.RoleLemmas.{same_role-true, same_role-refl, head_pairs, tail_pairs}
-use Rattle.qmp_rules.specs.Chains.{filter_role, filtered, disk_from, disk_node, chain_from, chain, chain_below, is_listed, is_over}
+use Rattle.qmp_rules.specs.Chains.{filter_role, filtered, disk_from, disk_node, chain_from, chain, is_listed, is_over}
 use Rattle.qmp_rules.specs.Table.{RunTable, node_by_id, child}
 use Rattle.qmp_rules.specs.declared.rows.NodeRecord.{NodeRecord}
 use Rattle.flat_machine.specs.Wiring.{LeadsToFile, TableStands}

@@ -12,7 +12,7 @@ use Rattle.blk_graph.specs.Paths.{IsPath, Reaches}
 use Rattle.blk_graph.specs.declared.edge.Edge.{Edge}
 use Rattle.blk_graph.specs.declared.edge.Parent.TheVariants.{Node}
 use Rattle.blk_graph.specs.declared.edge.Role.{Role}
-use Rattle.blk_graph.specs.declared.edge.Role.TheVariants.{File, Backing}
+use Rattle.blk_graph.specs.declared.edge.Role.TheVariants.{File, Backing, Filtered}
 use Rattle.blk_graph.proofs.NodeLemmas.{without_parent-apart}
 use Rattle.blk_graph.proofs.PathLemmas.{Reaches-edge, Reaches-joined}
 use Rattle.qmp_rules.specs.Chains.{filter_role, filtered, disk_node}
@@ -29,10 +29,10 @@ use Rattle.flat_machine.specs.Machine.{copies_through}
 use Rattle.flat_machine.specs.State.{drive_of, disk_of_guest}
 use Rattle.flat_machine.specs.Wiring.{LeadsToFile, IsUnderOne, IsDiskOf, TableStands}
 use Rattle.flat_machine.specs.Writing.{ReadsWritten}
-use Rattle.blk_nodes.specs.Contents.{disk_under, disk_by, disk_of, Unfolds}
+use Rattle.blk_nodes.specs.Contents.{disk_under, disk_through, disk_by, disk_of, Unfolds}
 use Rattle.blk_nodes.specs.Copying.{AtEach, IsBeside, images_met}
-use Rattle.blk_nodes.specs.Joined.{IsJoined, IsCopying, HasBelow}
-use Rattle.blk_nodes.specs.Nodes.{Nodes, row_at, file_of, driver_kind, size_by, node_size}
+use Rattle.blk_nodes.specs.Joined.{IsJoined, IsCopying, IsFiltering, HasBelow, HasSize}
+use Rattle.blk_nodes.specs.Nodes.{Nodes, row_at, file_of, filtered_of, driver_kind, size_by, node_size}
 use Rattle.blk_nodes.specs.Reading.{LeadsTo}
 use Rattle.blk_nodes.specs.Writing.{MayWriteThrough, CanBeWritten, IsOverApart, OwnsFile, IsApartFrom, own_file}
 use Rattle.blk_nodes.specs.declared.row.Driver.{Driver}
@@ -48,7 +48,7 @@ use Rattle.world_parts.proofs.InStep.{with-at}
 use Rattle.world_pieces.proofs.PiecePaths.{row_there, acyclic, or-left, or-right, OnlyFilters, leads_reads}
 use Rattle.world_pieces.proofs.PieceWriters.{own_row, filter_edge, down_disk}
 use Rattle.world_pieces.proofs.PieceCopied.{MeetsOwnImage, images_of}
-use Rattle.world_parts.proofs.JobFilters.{none_yet}
+use Rattle.world_parts.proofs.JobFilters.{filters_role}
 
 -- ---- the last edge of a path
 
@@ -80,24 +80,25 @@ last_edge edges (f ∷ p) e from to path =
       leads = leads_on edges from e.child rest.parent (inr (Reaches-edge edges from e path.0 path.1)) rest.leads;
     }
 
--- ---- a node with a flat disk
+-- ---- a node that is no filter, of which filters alone have the file
+
+pub over_disk : (t : RunTable) (nodes : Nodes) (joined : IsJoined nodes) (are : AreNodesOf t nodes) (stands : TableStands t) (row : NodeRecord) → HasDisk row
+    → OnlyFilters t nodes joined are stands row
+over_disk t nodes joined are stands row has over file = by_name row.filename refl
+  where
+    by_name : (name : Option (List ℕ)) → row.filename ≡ name → IsSome (filter_role over.kind)
+    by_name None is = stands.filtered over row file is
+    by_name (Some name) is = by_role (filter_role over.kind) refl
+      where
+        by_role : (role : Option Role) → filter_role over.kind ≡ role → IsSome (filter_role over.kind)
+        by_role (Some role) filter = subst IsSome (sym filter) refl
+        by_role None own =
+            let taken = stands.taken over row file (subst IsSome (sym is) refl) own in
+            absurd (false≢true (sym taken.gone ∙ has.settled))
 
 module _ (t : RunTable) (nodes : Nodes) (joined : IsJoined nodes) (are : AreNodesOf t nodes) (stands : TableStands t)
-    (node : ℕ) (row : NodeRecord) (at : node_by_id t node ≡ Some row) (held : Contains t.nodes row) (id_is : row.id ≡ node) (has : HasDisk row) where
-  -- what is over it by an edge to its file is a filter
-  pub filters : OnlyFilters t nodes joined are stands row
-  filters over file = by_name row.filename refl
-    where
-      by_name : (name : Option (List ℕ)) → row.filename ≡ name → IsSome (filter_role over.kind)
-      by_name None is = stands.filtered over row file is
-      by_name (Some name) is = by_role (filter_role over.kind) refl
-        where
-          by_role : (role : Option Role) → filter_role over.kind ≡ role → IsSome (filter_role over.kind)
-          by_role (Some role) filter = subst IsSome (sym filter) refl
-          by_role None own =
-              let taken = stands.taken over row file (subst IsSome (sym is) refl) own in
-              absurd (false≢true (sym taken.gone ∙ has.settled))
-
+    (node : ℕ) (row : NodeRecord) (at : node_by_id t node ≡ Some row) (held : Contains t.nodes row) (id_is : row.id ≡ node) (plain : filter_role row.kind ≡ None)
+    (filters : OnlyFilters t nodes joined are stands row) where
   -- ---- its file
 
   record IsOverFile (file : ℕ) : Type 0 where
@@ -119,12 +120,12 @@ module _ (t : RunTable) (nodes : Nodes) (joined : IsJoined nodes) (are : AreNode
         child = e.to ∙ sym under.id_is;
       } in
       let named : IsSome under.row.filename = by_name under.row below under.row.filename refl in
-      record { under = under.row; under_is = under.id_is; taken = stands.taken row under.row below named has.own }
+      record { under = under.row; under_is = under.id_is; taken = stands.taken row under.row below named plain }
     where
       by_name : (under : NodeRecord) → LeadsToFile t row under → (name : Option (List ℕ)) → under.filename ≡ name → IsSome under.filename
       by_name under below None is =
           let some : IsSome (filter_role row.kind) = stands.filtered row under below is in
-          absurd (false≢true (subst IsSome has.own some))
+          absurd (false≢true (subst IsSome plain some))
       by_name under below (Some name) is = subst IsSome (sym is) refl
 
   -- no other edge leads there
@@ -177,9 +178,12 @@ module _ (t : RunTable) (nodes : Nodes) (joined : IsJoined nodes) (are : AreNode
     can_write (drivers.Qcow2 image) is = over_apart
     can_write drivers.CopyOnRead is =
         let kind = alike.kind ∙ ap driver_kind is in
-        let bad : Some File ≡ None = sym (ap filter_role kind) ∙ has.own in
+        let bad : Some File ≡ None = sym (ap filter_role kind) ∙ plain in
         cc bad
-    can_write (drivers.Filter kind) is = none_yet row own kind alike is
+    can_write (drivers.Filter kind) is =
+        let filter = alike.kind ∙ ap driver_kind is in
+        let bad : Some Filtered ≡ None = sym (ap filter_role filter ∙ filters_role kind) ∙ plain in
+        cc bad
 
     image_under : (file : ℕ) → child t node File ≡ Some file → OwnsFile nodes node file
     image_under file is other has_image =
@@ -229,7 +233,7 @@ module _ (t : RunTable) (nodes : Nodes) (joined : IsJoined nodes) (are : AreNode
     apart_by d other file none is leads = by_driver d is
       where
         reads : LeadsTo t.edges other node → ⊥
-        reads to_node = elim (leads_reads t nodes joined are stands node row at has.own filters other to_node) [
+        reads to_node = elim (leads_reads t nodes joined are stands node row at plain filters other to_node) [
           | inl same ↦ none (inl same)
           | inr over ↦ none (inr (inr over))
         ]
@@ -270,12 +274,32 @@ module _ (t : RunTable) (nodes : Nodes) (joined : IsJoined nodes) (are : AreNode
   in_filter : (a c : ℕ) → child t a File ≡ Some c → file_of nodes a ≡ Some c
   in_filter a c is = ap (child_of (Node a) File) are.edges ∙ is
 
+  in_job_filter : (a c : ℕ) → child t a Filtered ≡ Some c → filtered_of nodes a ≡ Some c
+  in_job_filter a c is = ap (child_of (Node a) Filtered) are.edges ∙ is
+
   size_below : (a c : ℕ) → filtered t a ≡ Some c → node_size nodes c ≡ node_size nodes a
   size_below a c is =
       let e = filter_edge t nodes joined are stands a c is in
-      let below : IsCopying nodes a e.over.size = subst (HasBelow nodes a e.over.size) e.copying (joined.below a e.over e.over_at) in
-      let same : below.child ≡ c = (let both : Some below.child ≡ Some c = sym below.edge ∙ in_filter a c e.under in cc both) in
-      ap (node_size nodes) (sym same) ∙ ap size_by below.same.there ∙ below.same.is ∙ sym (ap size_by e.over_at)
+      by_driver e.over e.role e.over.driver refl e.over_at e.filter e.under
+    where
+      of_same : (over : Row) → row_at nodes a ≡ Some over → HasSize nodes c over.size → node_size nodes c ≡ node_size nodes a
+      of_same over at same = ap size_by same.there ∙ same.is ∙ sym (ap size_by at)
+
+      by_driver : (over : Row) (role : Role) (d : Driver) → over.driver ≡ d → row_at nodes a ≡ Some over → filter_role (driver_kind over.driver) ≡ Some role
+          → child t a role ≡ Some c → node_size nodes c ≡ node_size nodes a
+      by_driver over role drivers.CopyOnRead driver at filter under =
+          let below : IsCopying nodes a over.size = subst (HasBelow nodes a over.size) driver (joined.below a over at) in
+          let is_file : role ≡ File = cc (sym (ap (λ (d : Driver). filter_role (driver_kind d)) driver) ∙ filter) in
+          let edge = in_filter a c (subst (λ (r : Role). child t a r ≡ Some c) is_file under) in
+          let same : below.child ≡ c = cc (sym below.edge ∙ edge) in
+          of_same over at (subst (λ n. HasSize nodes n over.size) same below.same)
+      by_driver over role (drivers.Filter kind) driver at filter under =
+          let below : IsFiltering nodes a over.size = subst (HasBelow nodes a over.size) driver (joined.below a over at) in
+          let is_filtered : role ≡ Filtered = cc (sym (ap (λ (d : Driver). filter_role (driver_kind d)) driver ∙ filters_role kind) ∙ filter) in
+          of_same over at (below c (in_job_filter a c (subst (λ (r : Role). child t a r ≡ Some c) is_filtered under)))
+      by_driver over role drivers.File driver at filter under = absurd (let bad : ⊥ = cc (sym (ap (λ (d : Driver). filter_role (driver_kind d)) driver) ∙ filter) in bad)
+      by_driver over role (drivers.Raw part) driver at filter under = absurd (let bad : ⊥ = cc (sym (ap (λ (d : Driver). filter_role (driver_kind d)) driver) ∙ filter) in bad)
+      by_driver over role (drivers.Qcow2 image) driver at filter under = absurd (let bad : ⊥ = cc (sym (ap (λ (d : Driver). filter_role (driver_kind d)) driver) ∙ filter) in bad)
 
   disk_size : (drive : ℕ) → node_size nodes (disk_node t drive) ≡ node_size nodes drive
   disk_size drive =
@@ -285,7 +309,18 @@ module _ (t : RunTable) (nodes : Nodes) (joined : IsJoined nodes) (are : AreNode
     disk_below : (a c : ℕ) → filtered t a ≡ Some c → disk_of nodes c ≡ disk_of nodes a
     disk_below a c is =
         let e = filter_edge t nodes joined are stands a c is in
-        sym (unfolds a e.over e.over_at ∙ ap (disk_by nodes (disk_of nodes) a) e.copying ∙ ap (disk_under (disk_of nodes)) (in_filter a c e.under))
+        sym (unfolds a e.over e.over_at ∙ by_driver e.role e.over.driver e.filter e.under)
+      where
+        by_driver : (role : Role) (d : Driver) → filter_role (driver_kind d) ≡ Some role → child t a role ≡ Some c → disk_by nodes (disk_of nodes) a d ≡ disk_of nodes c
+        by_driver role drivers.CopyOnRead filter under =
+            let is_file : role ≡ File = cc filter in
+            ap (disk_under (disk_of nodes)) (in_filter a c (subst (λ (r : Role). child t a r ≡ Some c) is_file under))
+        by_driver role (drivers.Filter kind) filter under =
+            let is_filtered : role ≡ Filtered = cc (sym (filters_role kind) ∙ filter) in
+            ap (disk_through (node_size nodes a) (disk_of nodes)) (in_job_filter a c (subst (λ (r : Role). child t a r ≡ Some c) is_filtered under))
+        by_driver role drivers.File filter under = absurd (let bad : ⊥ = cc filter in bad)
+        by_driver role (drivers.Raw part) filter under = absurd (let bad : ⊥ = cc filter in bad)
+        by_driver role (drivers.Qcow2 image) filter under = absurd (let bad : ⊥ = cc filter in bad)
 
     pub disk_read : (drive : ℕ) → disk_of nodes (disk_node t drive) ≡ disk_of nodes drive
     disk_read drive =
@@ -398,7 +433,8 @@ module _ (t : RunTable) (nodes : Nodes) (p : Progress) (joined : IsJoined nodes)
 
     may_disk : disk_is.row.read_only ≡ false → MayWriteThrough nodes (disk_node t drive)
     may_disk =
-        may_write t nodes joined was.alike was.table.stands (disk_node t drive) disk_is.row disk_is.at disk_is.held disk_is.id_is disk_is.has disk_is.own disk_is.own_at
+        may_write t nodes joined was.alike was.table.stands (disk_node t drive) disk_is.row disk_is.at disk_is.held disk_is.id_is disk_is.has.own
+        (over_disk t nodes joined was.alike was.table.stands disk_is.row disk_is.has) disk_is.own disk_is.own_at
         disk_is.alike
 
     -- an image below a copy-on-read may be written, whatever the guest may
@@ -422,12 +458,17 @@ module _ (t : RunTable) (nodes : Nodes) (p : Progress) (joined : IsJoined nodes)
     can_read Flush part inside = tt
     can_read (Discard span) part inside = tt
 
+    pub part_within : HasNext f → end_of (part_of f) ≤ bytes_of_node t (disk_node t drive)
+    part_within next =
+        let within = with-at (disk_of_guest t g) (disk_node t drive) (λ node. end_of (span_of f.op) ≤ bytes_of_node t node) node_on (was.within g f flies) in
+        let piece_in = piece_inside f.op f.next next.next in
+        omega (arith, within, piece_in)
+
     pub can_transfer : HasNext f → CanTransfer nodes drive (disk_node t drive) f.op (part_of f)
     can_transfer next =
-        let within = with-at (disk_of_guest t g) (disk_node t drive) (λ node. end_of (span_of f.op) ≤ bytes_of_node t node) node_on (was.within g f flies) in
         let size = size_there t nodes joined was.table.stands was.alike g (disk_node t drive) disk_is in
-        let piece_in = piece_inside f.op f.next next.next in
-        let inside : end_of (part_of f) ≤ node_size nodes (disk_node t drive) = omega (arith, within, size, piece_in) in
+        let within = part_within next in
+        let inside : end_of (part_of f) ≤ node_size nodes (disk_node t drive) = omega (arith, within, size) in
         record {
           there = joined.only (disk_node t drive) (subst IsSome (sym disk_is.own_at) refl);
           inside = inside;

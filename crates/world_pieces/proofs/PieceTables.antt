@@ -23,7 +23,7 @@ use Rattle.world_parts.specs.Coherent.{IsCoherent, AreOnDisks}
 use Rattle.world_parts.specs.Piecing.{table_after}
 use Rattle.world_parts.specs.Progress.{Progress}
 use Rattle.world_parts.proofs.EasedTables.{IsTableEased, eased_at, kept_rows}
-use Rattle.world_pieces.proofs.PieceWriters.{none_over}
+use Rattle.world_pieces.proofs.PieceWriters.{HasNoCommit, none_over}
 use Rattle.world_parts.proofs.TablesAfter.{disk_same}
 
 -- ---- the table after a piece
@@ -72,13 +72,13 @@ module _ (t : RunTable) (node : ℕ) where
       subst HasDisk (sym (kept_over row (subst (λ (n : ℕ). is_over t node n ≡ false) (sym same) apart))) has
 
 module _ (t : RunTable) (nodes : Nodes) (opened : List Opened) (p : Progress) (joined : IsJoined nodes) (was : IsCoherent t nodes opened p)
-    (writer drive : ℕ) (on : drive_of t writer ≡ Some drive) where
+    (none : HasNoCommit nodes) (writer drive : ℕ) (on : drive_of t writer ≡ Some drive) where
   written_disks : (device : DeviceRow) → device_by_number t writer ≡ Some device → device.read_only ≡ false → AreOnDisks (written_under (disk_node t drive) t)
   unfolding written_under eased_written
   written_disks device there writes g other is =
       let node : ℕ = disk_node t drive in
       let e = eased_written t node in
-      let apart = none_over t nodes joined was.alike was.table.stands writer g drive other device was.asks there writes on is in
+      let apart = none_over t nodes joined was.alike was.table.stands none writer g drive other device was.asks there writes on is in
       let same = disk_same t (written_under node t) e other in
       subst (λ (id : ℕ). With (node_by_id (written_under node t) id) HasDisk) (sym same)
       (subst (λ (row : Option NodeRecord). With row HasDisk) (sym (eased_at t (written_under node t) e (disk_node t other)))

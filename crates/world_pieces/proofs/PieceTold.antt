@@ -1,5 +1,5 @@
 -- Devices that tell their bytes do so after a piece.
-use Rattle.std.proofs.Common.{◌≡◌, ℕ, Bool, List, [], replicate, Option, Some, None, refl, sym, ◌∙◌, ap, inl, inr}
+use Rattle.std.proofs.Common.{◌≡◌, ℕ, Bool, List, replicate, Option, Some, None, refl, sym, ◌∙◌, ap, inl, inr}
 use Rattle.std.specs.Prelude.{is_some, option_map, option_and_then}
 use Rattle.blk_base.specs.Pieces.{Extent}
 use Rattle.blk_base.specs.declared.fault.Outcome.{Outcome}

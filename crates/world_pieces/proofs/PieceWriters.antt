@@ -13,7 +13,7 @@ use Rattle.blk_graph.specs.declared.edge.Role.{Role}
 use Rattle.blk_graph.specs.declared.edge.Role.TheVariants.{Drive, File, Backing, Filtered}
 use Rattle.blk_graph.specs.declared.edge.Uses.{Uses}
 use Rattle.blk_graph.specs.declared.kind.Kind.{Kind}
-use Rattle.blk_graph.specs.declared.kind.Kind.TheVariants.{Qcow2, CopyOnRead}
+use Rattle.blk_graph.specs.declared.kind.Kind.TheVariants.{Qcow2}
 use Rattle.blk_graph.specs.declared.kind.NodeKind.{NodeKind}
 use Rattle.blk_graph.proofs.ChildLemmas.{child-edge}
 use Rattle.blk_graph.proofs.Members.{Contains-nil, Contains-cases}
@@ -27,11 +27,12 @@ use Rattle.blk_nodes.specs.Joined.{IsJoined}
 use Rattle.blk_nodes.specs.Nodes.{Nodes, row_at, driver_kind}
 use Rattle.blk_nodes.specs.declared.row.Driver.{Driver}
 use Rattle.blk_nodes.specs.declared.row.Driver.TheVariants as drivers
+use Rattle.blk_nodes.specs.declared.row.FilterKind.TheVariants as filters
 use Rattle.blk_nodes.specs.declared.row.Row.{Row}
-use Rattle.world_parts.specs.Coherent.{AreNodesOf, AreAlike, IsRowOf, AskToWrite, IsOfNoJob}
+use Rattle.world_parts.specs.Coherent.{AreNodesOf, AreAlike, IsRowOf, AskToWrite}
 use Rattle.flat_machine.proofs.WritingKept.{role_edge}
 use Rattle.world_pieces.proofs.PiecePaths.{row_there}
-use Rattle.world_parts.proofs.JobFilters.{filtered_role, no_copies, of_no_job}
+use Rattle.world_parts.proofs.JobFilters.{filtered_role}
 
 -- ---- what the edges into a node ask and share together
 
@@ -69,7 +70,7 @@ module _ (g : Uses → Bool) (h : Edge → Bool) (v : Bool) (here : (e : Edge) (
 into_read : (edges : List Edge) (f : Edge) (n : ℕ) → Contains edges f → f.child ≡ n → f.perm.read ≡ true → (uses_into edges n).perm.read ≡ true
 into_read = into_so (λ u. u.perm.read) (λ e. e.perm.read) true (λ e u is. or-here e.perm.read u.perm.read is) (λ e u is. or-true e.perm.read u.perm.read is)
 
-into_write : (edges : List Edge) (f : Edge) (n : ℕ) → Contains edges f → f.child ≡ n → f.perm.write ≡ true → (uses_into edges n).perm.write ≡ true
+pub into_write : (edges : List Edge) (f : Edge) (n : ℕ) → Contains edges f → f.child ≡ n → f.perm.write ≡ true → (uses_into edges n).perm.write ≡ true
 into_write = into_so (λ u. u.perm.write) (λ e. e.perm.write) true (λ e u is. or-here e.perm.write u.perm.write is) (λ e u is. or-true e.perm.write u.perm.write is)
 
 into_shut : (edges : List Edge) (f : Edge) (n : ℕ) → Contains edges f → f.child ≡ n → f.shared.write ≡ false → (uses_into edges n).shared.write ≡ false
@@ -83,7 +84,7 @@ at_slice (y ∷ xs) zero x less is = ap (λ (e : Edge). Some e) is
 at_slice (y ∷ xs) (suc i) x less is = at_slice xs i x (omega (arith, less)) is
 
 -- one that asks to write is the only one that doesn't share that
-rule_for : (edges : List Edge) (w e : Edge) → KeepsPermissions edges → Contains edges w → Contains edges e → w.child ≡ e.child
+pub rule_for : (edges : List Edge) (w e : Edge) → KeepsPermissions edges → Contains edges w → Contains edges e → w.child ≡ e.child
     → w.perm.write ≡ true → e.shared.write ≡ false → e ≡ w
 rule_for edges w e rule held_w held_e same asks shut = elim (cases_eq held_w.0 held_e.0) [
   | inl equal ↦
@@ -105,19 +106,47 @@ only_qcow2 (drivers.Qcow2 image) h = refl
 only_qcow2 drivers.CopyOnRead h = absurd (false≢true h)
 only_qcow2 (drivers.Filter kind) h = absurd (let role : Backing ≡ Filtered = filtered_role kind Backing h in let bad : ⊥ = cc role in bad)
 
-only_copying : (d : Driver) (role : Role) → IsOfNoJob (driver_kind d) → filter_role (driver_kind d) ≡ Some role → (driver_kind d ≡ CopyOnRead) × (role ≡ File)
-only_copying drivers.File role plain h = absurd (let bad : ⊥ = cc h in bad)
-only_copying (drivers.Raw part) role plain h = absurd (let bad : ⊥ = cc h in bad)
-only_copying (drivers.Qcow2 image) role plain h = absurd (let bad : ⊥ = cc h in bad)
-only_copying drivers.CopyOnRead role plain h = (refl, cc h)
-only_copying (drivers.Filter kind) role plain h = absurd (of_no_job kind plain)
+-- no commit has put its filter
+abbrev pub HasNoCommit : Nodes → Type 0
+HasNoCommit nodes = (a : ℕ) (own : Row) → row_at nodes a ≡ Some own → own.driver ≡ drivers.Filter filters.Commit → ⊥
 
-copying_driver : (d : Driver) → driver_kind d ≡ CopyOnRead → d ≡ drivers.CopyOnRead
-copying_driver drivers.File bad = absurd (let e : ⊥ = cc bad in e)
-copying_driver (drivers.Raw part) bad = absurd (let e : ⊥ = cc bad in e)
-copying_driver (drivers.Qcow2 image) bad = absurd (let e : ⊥ = cc bad in e)
-copying_driver drivers.CopyOnRead is = refl
-copying_driver (drivers.Filter kind) bad = absurd (no_copies kind bad)
+-- what the edge of a filter asks and shares, by what the edges into the filter do
+pub record IsPassedOn (d : Driver) (edge : Edge) (above : Uses) : Type 0 where
+  pub read : (d ≡ drivers.Filter filters.Commit → ⊥) → above.perm.read ≡ true → edge.perm.read ≡ true
+  pub write : edge.perm.write ≡ above.perm.write
+  pub shut : above.shared.write ≡ false → edge.shared.write ≡ false
+  pub role : edge.role ≡ Backing → ⊥
+
+passed_on : (d : Driver) (role : Role) (writes : Bool) (edge : Edge) (above : Uses) → filter_role (driver_kind d) ≡ Some role → edge.role ≡ role
+    → with_uses edge (derived_uses (driver_kind d) role writes above) ≡ edge → IsPassedOn d edge above
+passed_on drivers.File role writes edge above filter own is = absurd (let bad : ⊥ = cc filter in bad)
+passed_on (drivers.Raw part) role writes edge above filter own is = absurd (let bad : ⊥ = cc filter in bad)
+passed_on (drivers.Qcow2 image) role writes edge above filter own is = absurd (let bad : ⊥ = cc filter in bad)
+passed_on drivers.CopyOnRead File writes edge above filter own is = record {
+  read = λ other asks. ap (λ (x : Edge). x.perm.read) (sym is) ∙ asks;
+  write = ap (λ (x : Edge). x.perm.write) (sym is);
+  shut = λ shut. ap (λ (x : Edge). x.shared.write) (sym is) ∙ shut;
+  role = λ role. let bad : File ≡ Backing = sym own ∙ role in cc bad;
+}
+passed_on (drivers.Filter filters.BeforeWrite) Filtered writes edge above filter own is = record {
+  read = λ other asks. ap (λ (x : Edge). x.perm.read) (sym is);
+  write = ap (λ (x : Edge). x.perm.write) (sym is);
+  shut = λ shut. ap (λ (x : Edge). x.shared.write) (sym is);
+  role = λ role. let bad : Filtered ≡ Backing = sym own ∙ role in cc bad;
+}
+passed_on (drivers.Filter filters.Mirror) Filtered writes edge above filter own is = record {
+  read = λ other asks. ap (λ (x : Edge). x.perm.read) (sym is);
+  write = ap (λ (x : Edge). x.perm.write) (sym is);
+  shut = λ shut. ap (λ (x : Edge). x.shared.write) (sym is);
+  role = λ role. let bad : Filtered ≡ Backing = sym own ∙ role in cc bad;
+}
+passed_on (drivers.Filter filters.Commit) Filtered writes edge above filter own is = record {
+  read = λ other asks. absurd (other refl);
+  write = ap (λ (x : Edge). x.perm.write) (sym is);
+  shut = λ shut. ap (λ (x : Edge). x.shared.write) (sym is) ∙ shut;
+  role = λ role. let bad : Filtered ≡ Backing = sym own ∙ role in cc bad;
+}
+passed_on d role writes edge above filter own is = absurd (let bad : ⊥ = cc filter in bad)
 
 module _ (t : RunTable) (nodes : Nodes) (joined : IsJoined nodes) (are : AreNodesOf t nodes) (stands : TableStands t) where
   pub own_row : (a : ℕ) (row : NodeRecord) → node_by_id t a ≡ Some row → (own : Row) × (row_at nodes a ≡ Some own) × IsRowOf row own
@@ -128,7 +157,7 @@ module _ (t : RunTable) (nodes : Nodes) (joined : IsJoined nodes) (are : AreNode
       by_own (Some own) at alike = (own, at, alike)
 
   -- it is as the table of permissions says
-  ruled_here : (a : ℕ) (e : Edge) (own : Row) → Contains t.edges e → e.parent ≡ Node a → row_at nodes a ≡ Some own
+  pub ruled_here : (a : ℕ) (e : Edge) (own : Row) → Contains t.edges e → e.parent ≡ Node a → row_at nodes a ≡ Some own
       → with_uses e (derived_uses (driver_kind own.driver) e.role (not own.is_read_only) (uses_into t.edges a)) ≡ e
   ruled_here a e own there from is =
       let kinds : List NodeKind = nodes.graph.kinds in
@@ -141,13 +170,12 @@ module _ (t : RunTable) (nodes : Nodes) (joined : IsJoined nodes) (are : AreNode
     pub there : Contains t.edges edge
     pub from : edge.parent ≡ Node a
     pub to : edge.child ≡ c
-    pub role : edge.role ≡ File
-    pub perm : (edge.perm.read ≡ (uses_into t.edges a).perm.read) × (edge.perm.write ≡ (uses_into t.edges a).perm.write)
-    pub shared : edge.shared.write ≡ (uses_into t.edges a).shared.write
-    pub under : child t a File ≡ Some c
+    pub role : Role
+    pub under : child t a role ≡ Some c
     pub over : Row
     pub over_at : row_at nodes a ≡ Some over
-    pub copying : over.driver ≡ drivers.CopyOnRead
+    pub filter : filter_role (driver_kind over.driver) ≡ Some role
+    pub passes : IsPassedOn over.driver edge (uses_into t.edges a)
 
   pub filter_edge : (a c : ℕ) → filtered t a ≡ Some c → IsFilterEdge a c
   filter_edge a c is = by_row (node_by_id t a) refl is
@@ -155,25 +183,22 @@ module _ (t : RunTable) (nodes : Nodes) (joined : IsJoined nodes) (are : AreNode
       by_kind : (row : NodeRecord) (own : Row) (role : Role) → row_at nodes a ≡ Some own → IsRowOf row own → filter_role row.kind ≡ Some role
           → child t a role ≡ Some c → IsFilterEdge a c
       by_kind row own role at alike is_filter under =
-          let is = only_copying own.driver role (subst IsOfNoJob alike.kind alike.plain) (ap filter_role (sym alike.kind) ∙ is_filter) in
+          let filter : filter_role (driver_kind own.driver) ≡ Some role = ap filter_role (sym alike.kind) ∙ is_filter in
           let e = role_edge (Node a) role t.edges c under in
-          let role_is : e.edge.role ≡ File = e.role_is ∙ is.1 in
           let rule = ruled_here a e.edge own e.there e.from at in
-          let as_copying : with_uses e.edge (derived_uses CopyOnRead File (not own.is_read_only) (uses_into t.edges a)) ≡ e.edge =
-          subst (λ (r : Role). with_uses e.edge (derived_uses CopyOnRead r (not own.is_read_only) (uses_into t.edges a)) ≡ e.edge) role_is
-          (subst (λ (k : Kind). with_uses e.edge (derived_uses k e.edge.role (not own.is_read_only) (uses_into t.edges a)) ≡ e.edge) is.0 rule) in
+          let as_role : with_uses e.edge (derived_uses (driver_kind own.driver) role (not own.is_read_only) (uses_into t.edges a)) ≡ e.edge =
+          subst (λ (r : Role). with_uses e.edge (derived_uses (driver_kind own.driver) r (not own.is_read_only) (uses_into t.edges a)) ≡ e.edge) e.role_is rule in
           record {
             edge = e.edge;
             there = e.there;
             from = e.from;
             to = e.to;
-            role = role_is;
-            perm = (ap (λ (x : Edge). x.perm.read) (sym as_copying), ap (λ (x : Edge). x.perm.write) (sym as_copying));
-            shared = ap (λ (x : Edge). x.shared.write) (sym as_copying);
-            under = subst (λ (r : Role). child t a r ≡ Some c) is.1 under;
+            role = role;
+            under = under;
             over = own;
             over_at = at;
-            copying = copying_driver own.driver is.0;
+            filter = filter;
+            passes = passed_on own.driver role (not own.is_read_only) e.edge (uses_into t.edges a) filter e.role_is as_role;
           }
 
       by_role : (row : NodeRecord) (role : Option Role) → node_by_id t a ≡ Some row → filter_role row.kind ≡ role → option_and_then (child t a) role ≡ Some c → IsFilterEdge a c
@@ -234,15 +259,15 @@ module _ (t : RunTable) (nodes : Nodes) (joined : IsJoined nodes) (are : AreNode
 
   abbrev pub IsShut : ℕ → ℕ → Type 0
   IsShut zero d = ⊥
-  IsShut (suc k) d = (edge : Edge) × (from : ℕ) × IsShutBy edge from d × ((edge.role ≡ Backing) ⊎ ((edge.role ≡ File) × IsShut k from))
+  IsShut (suc k) d = (edge : Edge) × (from : ℕ) × IsShutBy edge from d × ((edge.role ≡ Backing) ⊎ IsShut k from)
 
   abbrev pub IsClosed : ℕ → Type 0
   IsClosed d = (k : ℕ) × IsShut k d
 
-  read_filter : (a c : ℕ) → filtered t a ≡ Some c → IsReadByEdge a → IsReadByEdge c
-  read_filter a c is read =
+  read_filter : HasNoCommit nodes → (a c : ℕ) → filtered t a ≡ Some c → IsReadByEdge a → IsReadByEdge c
+  read_filter none a c is read =
       let e = filter_edge a c is in
-      record { edge = e.edge; there = e.there; to = e.to; asks = e.perm.0 ∙ into_read t.edges read.edge a read.there read.to read.asks }
+      record { edge = e.edge; there = e.there; to = e.to; asks = e.passes.read (none a e.over e.over_at) (into_read t.edges read.edge a read.there read.to read.asks) }
 
   closed_filter : (a c : ℕ) → filtered t a ≡ Some c → IsClosed a → IsClosed c
   closed_filter a c is (zero, never) = absurd never
@@ -253,9 +278,9 @@ module _ (t : RunTable) (nodes : Nodes) (joined : IsJoined nodes) (are : AreNode
         there = e.there;
         from_is = e.from;
         to = e.to;
-        shut = e.shared ∙ into_shut t.edges shut.0 a by.there by.to by.shut;
+        shut = e.passes.shut (into_shut t.edges shut.0 a by.there by.to by.shut);
       } in
-      (suc (suc k), (e.edge, a, here, inr (e.role, shut)))
+      (suc (suc k), (e.edge, a, here, inr shut))
 
   read_backing : (a c : ℕ) → child t a Backing ≡ Some c → IsReadByEdge a → IsReadByEdge c × IsClosed c
   read_backing a c is read =
@@ -281,9 +306,9 @@ module _ (t : RunTable) (nodes : Nodes) (joined : IsJoined nodes) (are : AreNode
     down_disk a is = down_from 64 a is
 
   -- all below a node that is read is closed
-  closed_below : (n a b : ℕ) → IsReadByEdge a → is_listed b (drop 1 (chain_from n t a)) ≡ true → IsClosed b
-  closed_below zero a b read is = absurd (false≢true is)
-  closed_below (suc m) a b read is = by_child (child t a Backing) refl is (closed_below m)
+  closed_below : HasNoCommit nodes → (n a b : ℕ) → IsReadByEdge a → is_listed b (drop 1 (chain_from n t a)) ≡ true → IsClosed b
+  closed_below none zero a b read is = absurd (false≢true is)
+  closed_below none (suc m) a b read is = by_child (child t a Backing) refl is (closed_below none m)
     where
       begins : (n u : ℕ) → chain_from n t u ≡ u ∷ drop 1 (chain_from n t u)
       begins zero u = refl
@@ -302,7 +327,7 @@ module _ (t : RunTable) (nodes : Nodes) (joined : IsJoined nodes) (are : AreNode
           let both = read_backing a c at read in
           let u : ℕ = disk_node t c in
           by_head u (u == b) refl (down_disk IsClosed closed_filter c both.1)
-          (rest u b (down_disk IsReadByEdge read_filter c both.0)) (ap (is_listed b) (sym (begins m u)) ∙ is_in)
+          (rest u b (down_disk IsReadByEdge (read_filter none) c both.0)) (ap (is_listed b) (sym (begins m u)) ∙ is_in)
 
   -- ---- writers
 
@@ -322,9 +347,9 @@ module _ (t : RunTable) (nodes : Nodes) (joined : IsJoined nodes) (are : AreNode
       let same : e ≡ written.edge = rule_for t.edges written.edge e rule written.there by.there (written.to ∙ sym by.to) written.asks by.shut in
       by_how same how
     where
-      by_how : e ≡ written.edge → ((e.role ≡ Backing) ⊎ ((e.role ≡ File) × IsShut k from)) → ⊥
+      by_how : e ≡ written.edge → ((e.role ≡ Backing) ⊎ IsShut k from) → ⊥
       by_how same (inl role) = written.drive (ap (λ (x : Edge). x.role) (sym same) ∙ role)
-      by_how same (inr file) = written.above from k (ap (λ (x : Edge). x.parent) (sym same) ∙ by.from_is) file.1
+      by_how same (inr over) = written.above from k (ap (λ (x : Edge). x.parent) (sym same) ∙ by.from_is) over
 
   written_filter : (a c : ℕ) → filtered t a ≡ Some c → IsWritten a → IsWritten c
   written_filter a c is written =
@@ -333,8 +358,8 @@ module _ (t : RunTable) (nodes : Nodes) (joined : IsJoined nodes) (are : AreNode
         edge = e.edge;
         there = e.there;
         to = e.to;
-        asks = e.perm.1 ∙ into_write t.edges written.edge a written.there written.to written.asks;
-        drive = λ role. let bad : File ≡ Backing = sym e.role ∙ role in cc bad;
+        asks = e.passes.write ∙ into_write t.edges written.edge a written.there written.to written.asks;
+        drive = e.passes.role;
         above = λ p k from shut.
             let same : a ≡ p = cc (sym e.from ∙ from) in
             not_closed a k written (subst (IsShut k) (sym same) shut);
@@ -366,20 +391,20 @@ module _ (t : RunTable) (nodes : Nodes) (joined : IsJoined nodes) (are : AreNode
       }
 
   -- no guest's disk is over one that another guest may write
-  pub none_over : (writer reader drive other : ℕ) (device : DeviceRow) → AskToWrite t → device_by_number t writer ≡ Some device → device.read_only ≡ false → drive_of t writer ≡ Some drive
+  pub none_over : HasNoCommit nodes → (writer reader drive other : ℕ) (device : DeviceRow) → AskToWrite t → device_by_number t writer ≡ Some device → device.read_only ≡ false → drive_of t writer ≡ Some drive
       → drive_of t reader ≡ Some other → is_over t (disk_node t drive) (disk_node t other) ≡ false
   unfolding chain
-  none_over writer reader drive other device ask there writes on on_other =
+  none_over none writer reader drive other device ask there writes on on_other =
       by_test (is_over t (disk_node t drive) (disk_node t other)) refl
     where
       written : IsWritten (disk_node t drive)
       written = down_disk IsWritten written_filter drive (guest_writes writer drive device ask there writes on)
 
       read : IsReadByEdge (disk_node t (disk_node t other))
-      read = down_disk IsReadByEdge read_filter (disk_node t other) (down_disk IsReadByEdge read_filter other (guest_reads reader other on_other))
+      read = down_disk IsReadByEdge (read_filter none) (disk_node t other) (down_disk IsReadByEdge (read_filter none) other (guest_reads reader other on_other))
 
       by_test : (b : Bool) → is_listed (disk_node t drive) (drop 1 (chain_from 64 t (disk_node t (disk_node t other)))) ≡ b → b ≡ false
       by_test false is = refl
       by_test true is =
-          let closed = closed_below 64 (disk_node t (disk_node t other)) (disk_node t drive) read is in
+          let closed = closed_below none 64 (disk_node t (disk_node t other)) (disk_node t drive) read is in
           absurd (not_closed (disk_node t drive) closed.0 written closed.1)

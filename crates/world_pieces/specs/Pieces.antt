@@ -1,15 +1,17 @@
 -- What a piece of a guest's request leaves of the world, and when it would pass a device's capacity.
-use Rattle.std.specs.Prelude.{◌≡◌, ◌+◌, ◌<◌, ◌≤◌, ℕ, List, length, Some, if◌then◌else◌, Option, None}
+use Rattle.std.specs.Prelude.{◌≡◌, ◌+◌, ◌<◌, ◌≤◌, ℕ, true, IfSome, List, length, Some, if◌then◌else◌, Option, None}
 use Rattle.blk_base.specs.Pieces.{Extent}
 use Rattle.blk_base.specs.declared.fault.DevNo.{DevNo}
 use Rattle.blk_base.specs.declared.fault.Outcome.{Outcome}
 use Rattle.trace_codec.specs.declared.op.Op.{Op}
 use Rattle.trace_codec.specs.declared.op.Op.TheVariants.{Read, Write, Zero}
 use Rattle.q2_image.specs.Room.{WriteFits, ZerosFit}
+use Rattle.blk_history.specs.Disk.{is_write}
 use Rattle.blk_history.specs.Fold.{With}
 use Rattle.blk_history.specs.Machine.{Flight}
 use Rattle.blk_history.specs.declared.event.Event.{Event}
 use Rattle.blk_history.specs.declared.event.Event.TheVariants.{Piece}
+use Rattle.job_progress.specs.Piecing.{IsGuarded}
 use Rattle.blk_nodes.specs.Copying.{LowestLacks, images_met}
 use Rattle.blk_nodes.specs.Nodes.{Nodes, device_in, row_at}
 use Rattle.blk_nodes.specs.Writing.{own_file, own_start}
@@ -24,7 +26,7 @@ use Rattle.blk_history.specs.Small.{IsSmallOutcome}
 use Rattle.world_parts.specs.Counting.{RunsOn, seen_sources, counts_within, HidesNoFault}
 use Rattle.world_parts.specs.Face.{WorldSeen, counts_now, seen_state}
 use Rattle.flat_machine.specs.Licence.{named_by}
-use Rattle.world_parts.specs.Progress.{with_piece_entry, requests_done}
+use Rattle.world_parts.specs.Progress.{with_piece_entry, requests_done, flight_at}
 use Rattle.world_parts.specs.Piecing.{part_of, shown_in_flight, table_after}
 use Rattle.blk_bitmaps.specs.declared.row.Bitmap.{Bitmap}
 use Rattle.flat_machine.specs.Bitmaps.{noted_rows}
@@ -75,6 +77,14 @@ noted_where (Some part) drive t rows = noted_rows part rows (path t drive)
 abbrev pub noted_after : Outcome → Option Extent → ℕ → RunTable → List Bitmap → List Bitmap
 noted_after outcome written drive t rows =
     if is_noted outcome then noted_where written drive t rows else rows
+
+-- ---- what it needs of jobs
+
+-- what it writes, no backup owes
+abbrev pub IsGuardedPiece : WorldSeen → ℕ → Type 0
+IsGuardedPiece w g = IfSome (flight_at w.progress.guests g) (λ f. IfSome (drive_of w.table g)
+    (λ drive. is_write f.op ≡ true
+    → IsGuarded w.table w.works (disk_node w.table drive) (part_of f)))
 
 -- ---- what it leaves of the world
 

@@ -12,14 +12,15 @@ ghost use Rattle.world_parts.specs.Steps.{seen_store};
 
 use crate::world::World;
 use blk_base::{FaultAt, Store};
-use blk_history::History;
+use blk_history::{History, JobName};
 use world_files::give_all_back;
 
 impl<S: Store> World<S> {
     /// Ends a world. Each device is flushed and given back under the name of its file, the first first; told are the history and
-    /// the first fault of these flushes, where there was one. Takes no memory.
-    pub fn close_world(self) -> (S, History, Option<FaultAt>)
+    /// the first fault of these flushes, where there was one, and the names of the jobs that began. Takes no memory.
+    pub fn close_world(self) -> (S, History, Option<FaultAt>, Vec<JobName>)
         ensures history { result.1 ≡ self.progress.log }
+        ensures jobs { result.3.items ≡ self.progress.jobs }
         ensures closed { EndsWorld self
             (seen_store (S.files result.0) (S.opened result.0) (S.room result.0)
             (S.faults result.0) (S.failed_call result.0)) result.2 }
@@ -46,6 +47,7 @@ impl<S: Store> World<S> {
             progress,
             drained: _,
             bitmaps: _,
+            works: _,
             buffer: _,
         } = self;
         let _ = nodes.edges();
@@ -53,6 +55,7 @@ impl<S: Store> World<S> {
         let count = left.len();
         let fault = give_all_back(&mut store, &names, &mut left, count);
         left.end();
-        (store.into_store(), progress.into_history(), fault)
+        let (history, jobs) = progress.into_history();
+        (store.into_store(), history, fault, jobs)
     }
 }

@@ -1,5 +1,5 @@
 //! Lines of the script that are answered.
-ghost use Rattle.std.specs.Prelude.{◌≡◌, ◌<◌, false, Ok, Err, IfOk, OnOk, OnErr, option_map, string_bytes};
+ghost use Rattle.std.specs.Prelude.{◌≡◌, ◌<◌, ◌≤◌, false, Ok, Err, IfOk, OnOk, OnErr, option_map, string_bytes};
 ghost use Rattle.qmp_codec.specs.Commands.{seen_command};
 ghost use Rattle.qmp_codec.specs.Lines.{command_at, seen_stop};
 ghost use Rattle.blk_history.specs.declared.event.Event.{Event};
@@ -11,6 +11,7 @@ ghost use Rattle.world_parts.specs.Progress.{with_bare_entry};
 ghost use Rattle.world_parts.specs.Saying.{given_line};
 ghost use Rattle.world_parts.specs.Steps.{lifted, with_history};
 ghost use Rattle.world_changes.specs.Changing.{is_change};
+ghost use Rattle.world_jobs.specs.Starting.{is_start};
 ghost use Rattle.world_parts.specs.Carrying.{IsCarriedAs, IsCarriedOut, IsExecuted, IsPutBack, IsPutBackBy, IsPutBackIn};
 
 use crate::world::World;
@@ -21,7 +22,7 @@ use world_lines::{LineRead, read_line, stopped_text};
 use world_parts::{Carried, Executed};
 
 /// A copy of the text of a line.
-fn copied(alloc: Global, text: &str) -> Result<String, NoMemory>
+pub(crate) fn copied(alloc: Global, text: &str) -> Result<String, NoMemory>
     ensures { IfOk result (λ copy. string_bytes copy ≡ text.now) }
 {
     Ok(String::from_str(alloc, text)?)
@@ -36,7 +37,8 @@ impl<S: Store> World<S> {
         given: &str,
         command: &Command,
     ) -> Result<String, NoMemory>
-        requires { is_change (seen_command command.now) ≡ false }
+        requires once { is_change (seen_command command.now) ≡ false }
+        requires other { is_start (seen_command command.now) ≡ false }
         ensures carried { IfOk result (λ text. IsCarriedAs self.old self.new given.now
             (seen_command command.now) (string_bytes text)) }
         ensures back { OnErr result (IsPutBackBy self.old self.new (seen_command command.now)) }
@@ -49,9 +51,10 @@ impl<S: Store> World<S> {
         }
     }
 
-    /// Carries out a command, or refuses it, or says which request it has to wait for. The answer isn't noted yet.
+    /// Carries out a command that starts no job, or refuses it, or says which request it has to wait for. The answer isn't noted yet.
     fn carry(&mut self, alloc: Global, given: &str, command: &Command) -> Result<Carried, NoMemory>
-        requires { command_at given.now ≡ Ok (seen_command command.now) }
+        requires read { command_at given.now ≡ Ok (seen_command command.now) }
+        requires other { is_start (seen_command command.now) ≡ false }
         ensures carried { IfOk result (λ carried. IsCarriedOut self.old self.new given.now
             (seen_command command.now) carried) }
         ensures back { OnErr result (IsPutBackBy self.old self.new (seen_command command.now)) }
@@ -68,7 +71,13 @@ impl<S: Store> World<S> {
     }
 
     /// Notes the reply to a line, after which no drain of a command stands.
-    fn note_reply(&mut self, line: u32, given: String, command: Option<Command>, text: String)
+    pub(crate) fn note_reply(
+        &mut self,
+        line: u32,
+        given: String,
+        command: Option<Command>,
+        text: String,
+    )
         requires { 0 < self.old.progress.spare.entries }
         ensures { self.new ≡ lifted (with_history self.old (with_bare_entry
             (Event.Reply line (string_bytes given) (option_map seen_command command)
@@ -76,6 +85,36 @@ impl<S: Store> World<S> {
     {
         self.progress.reply(line, given, command, text);
         self.drained.lift();
+    }
+
+    /// Answers a line that is a command and starts no job.
+    fn put_carried(
+        &mut self,
+        alloc: Global,
+        line: u32,
+        given: &str,
+        copy: String,
+        command: Command,
+    ) -> Result<Executed, NoMemory>
+        requires read { command_at given.now ≡ Ok (seen_command command) }
+        requires other { is_start (seen_command command) ≡ false }
+        requires copy { string_bytes copy ≡ given.now }
+        requires open { IsNotDone (seen_state self.old) 0 }
+        requires room { 0 < self.old.progress.spare.entries }
+        ensures done { IfOk result (λ answer.
+            IsExecuted self.old self.new (given_line line given.now) answer) }
+        ensures back { OnErr result (IsPutBackBy self.old self.new (seen_command command)) }
+        ensures comes { (o : Opening) → Comes o self.old → Comes o self.new }
+    {
+        let carried = self.carry(alloc, given, &command)?;
+        self.images_are_sound();
+        match carried {
+            Carried::Said(text) => {
+                self.note_reply(line, copy, Some(command), text);
+                Ok(Executed::Replied)
+            }
+            Carried::Later { guest, request } => Ok(Executed::Later { guest, request }),
+        }
     }
 
     /// Answers a line that is a command.
@@ -88,21 +127,16 @@ impl<S: Store> World<S> {
     ) -> Result<Executed, NoMemory>
         requires read { command_at given.now ≡ Ok (seen_command command) }
         requires open { IsNotDone (seen_state self.old) 0 }
-        requires room { 0 < self.old.progress.spare.entries }
+        requires room { 4 ≤ self.old.progress.spare.entries }
         ensures done { IfOk result (λ answer.
             IsExecuted self.old self.new (given_line line given.now) answer) }
         ensures back { OnErr result (IsPutBackBy self.old self.new (seen_command command)) }
         ensures comes { (o : Opening) → Comes o self.old → Comes o self.new }
     {
         let copy = copied(alloc, given)?;
-        let carried = self.carry(alloc, given, &command)?;
-        self.images_are_sound();
-        match carried {
-            Carried::Said(text) => {
-                self.note_reply(line, copy, Some(command), text);
-                Ok(Executed::Replied)
-            }
-            Carried::Later { guest, request } => Ok(Executed::Later { guest, request }),
+        match &command {
+            Command::BlockdevBackup(_) => self.put_start(alloc, line, given, copy, command),
+            _ => self.put_carried(alloc, line, given, copy, command),
         }
     }
 
@@ -135,7 +169,7 @@ impl<S: Store> World<S> {
     /// command itself calls.
     pub fn execute(&mut self, alloc: Global, line: u32, text: &str) -> Result<Executed, NoMemory>
         requires open { IsNotDone (seen_state self.old) 0 }
-        requires room { 0 < self.old.progress.spare.entries }
+        requires room { 4 ≤ self.old.progress.spare.entries }
         ensures done { IfOk result (λ answer.
             IsExecuted self.old self.new (given_line line text.now) answer) }
         ensures back { OnErr result (IsPutBack self.old self.new) }

@@ -7,12 +7,13 @@ ghost use Rattle.blk_nodes.specs.Joined.{IsJoined};
 ghost use Rattle.flat_machine.specs.declared.opening.Opening.{Opening};
 ghost use Rattle.world_parts.specs.Coherent.{IsWholeWorld};
 ghost use Rattle.world_parts.specs.Comes.{Comes};
-ghost use Rattle.world_pieces.specs.Pieces.{IsPieceMade, HasPieceLicence};
+ghost use Rattle.blk_world.specs.Pieces.{GuardsNext, IsPieceBehind};
+ghost use Rattle.world_pieces.specs.Pieces.{IsGuardedPiece, IsPieceMade};
 ghost use Rattle.world_parts.specs.Piecing.{table_after};
 ghost use Rattle.world_parts.specs.Progress.{HasNext, flight_at};
 
 use crate::world::World;
-use blk_base::{Outcome, Store};
+use blk_base::{Outcome, PIECE, Store};
 use blk_graph::NodeId;
 use qmp_rules::Names;
 use trace_codec::Op;
@@ -29,6 +30,26 @@ fn note_write(names: &mut Names, node: NodeId, op: &Op)
 }
 
 impl<S: Store> World<S> {
+    /// What is left of the block of a guest's next piece is copied for the backup of its disk, where the piece is written and there
+    /// is one: then the backup owes nothing of it.
+    fn guard_piece(&mut self, guest: u32)
+        requires { With (flight_at self.old.progress.guests guest) HasNext }
+        ensures guards { GuardsNext self.old self.new guest }
+        ensures guarded { IsGuardedPiece self.new guest }
+        ensures comes { (o : Opening) → Comes o self.old → Comes o self.new }
+    {
+        let _ = self.nodes.edges();
+        let Some(drive) = self.names.drive(guest) else {
+            unreachable!()
+        };
+        let node = self.names.disk_node(drive);
+        if let Some(part) = next_written(&self.progress, guest) {
+            self.works
+                .guard(&mut self.nodes, &self.names, node, part.start / PIECE);
+        }
+        let _ = self.nodes.edges();
+    }
+
     /// Makes the next piece of a guest's request in flight.
     fn put_piece(&mut self, guest: u32) -> Outcome
         requires { With (flight_at self.old.progress.guests guest) HasNext }
@@ -56,14 +77,15 @@ impl<S: Store> World<S> {
 
     /// Makes the next piece of a guest's request in flight, on its drive where it is read, else on the node that the drive reads as,
     /// and notes it. What is read through a copy-on-read is kept in the image below it. A fault that is named is one of a device
-    /// which the drive leads to, and was reached in this call. Takes no memory.
+    /// which the drive leads to, and was reached in this call. Before it is written what is left of its block is copied for the backup
+    /// of the disk, where there is one. Takes no memory.
     pub fn piece(&mut self, guest: u32) -> Outcome
         requires { With (flight_at self.old.progress.guests guest) HasNext }
         ensures made { (f : Flight) → flight_at self.old.progress.guests guest ≡ Some f
-            → (made : IsPieceMade self.old self.new guest f result)
-            × HasPieceLicence self.old self.new guest f result made }
+            → IsPieceBehind self.old self.new guest f result }
         ensures comes { (o : Opening) → Comes o self.old → Comes o self.new }
     {
+        self.guard_piece(guest);
         self.put_piece(guest)
     }
 }

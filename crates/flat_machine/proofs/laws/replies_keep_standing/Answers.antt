@@ -1,9 +1,9 @@
 use Rattle.flat_machine.proofs.Suited.{accepted_suits}
-use Rattle.flat_machine.proofs.Resting.{reply_rests, refused_rests, no_command, answer_rests}
+use Rattle.flat_machine.proofs.Resting.{reply_rests, refused_rests, no_command}
 use Rattle.flat_machine.proofs.laws.replies_keep_standing.Goals as goal
 
 pub returns-clause-suits : goal.returns-clause-suits
-returns-clause-suits c = λ s told command rests is_told quiet. accepted_suits s told told command rests is_told.refusal quiet
+returns-clause-suits c = λ s told command begins rests is_told quiet. accepted_suits s told told command begins rests is_told.refusal quiet
 
 pub returns-clause-accepted : goal.returns-clause-accepted
 returns-clause-accepted c = reply_rests
@@ -13,6 +13,3 @@ returns-clause-refused c = refused_rests
 
 pub returns-clause-others : goal.returns-clause-others
 returns-clause-others c = no_command
-
-pub returns-clause-answers : goal.returns-clause-answers
-returns-clause-answers c = answer_rests

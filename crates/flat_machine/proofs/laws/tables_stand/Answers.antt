@@ -13,7 +13,7 @@ pub returns-clause-tables : goal.returns-clause-tables
 returns-clause-tables c = all_keep
 
 pub returns-clause-commands : goal.returns-clause-commands
-returns-clause-commands c = λ t told command rests quiet. (command_rests t told told command rests quiet).1
+returns-clause-commands c = λ t told command begins rests quiet. (command_rests t told told command begins rests quiet).1
 
 pub returns-clause-failures : goal.returns-clause-failures
 returns-clause-failures c = spoiled_rests

@@ -7,7 +7,7 @@ use Rattle.job_entries.proofs.Steps.{steps_keep}
 use Rattle.job_entries.proofs.laws.starts_keep_standing.Goals as goal
 
 pub returns-clause-suit : goal.returns-clause-suit
-returns-clause-suit c = λ s row h j d b. start_suits s h j d row b
+returns-clause-suit c = λ s row h j d b. start_suits s h.table j d row b
 
 pub returns-clause-rests : goal.returns-clause-rests
 returns-clause-rests c = λ s row rests b suits. steps_rest (start_edits s.table row) s (start_steps s row b rests.stands.table) suits rests

@@ -10,7 +10,7 @@ use Rattle.world_parts.specs.Progress.{answered_in, HasRoomFor}
 use Rattle.qblk_run.specs.Tasks.{Task}
 use Rattle.qblk_run.specs.Worlds.{HasCome}
 use Rattle.qblk_run.proofs.Continuing.{Passes, passed-task}
-use Rattle.qblk_run.proofs.GuestTurns.{ask-room, ask-held, ask-waits, ask-moves, admit-move, refuse-move, same-task, first-is}
+use Rattle.qblk_run.proofs.GuestTurns.{ask-room, ask-held, beside-kept, ask-waits, ask-moves, admit-move, refuse-move, same-task, first-is}
 use Rattle.qblk_run.proofs.Worlds.{come-admitted, come-refused}
 use Rattle.qblk_run.proofs.guest_turn.ask.Goals as goal
 
@@ -74,7 +74,8 @@ returns-in-Admitted-clause-turn g c =
     c.in-Some-Ask.op c.in-Admitted.field-0 (ap (λ (t : Task). t.left) c.task.view_is ∙ c.requires.idle)
     (first ∙ ap (λ (n : Option Wish). Ask c.in-Some-Ask.op ∷ (option_to_list n ++ c.pass_waits.new.rest.items)) (sym c.take.ensures.after)) room c.in-Admitted.ensures.kept
     (ap (λ (n : _). Some n) c.pieces-pieces.ensures) refl (ap (λ (t : Task). t.is_done) c.task.view_is ∙ c.requires.runs))
-    (ap (λ (u : WorldSeen). u.drains) c.in-Admitted.ensures.kept)
+    (beside-kept w v (ap (λ (u : WorldSeen). u.drains) c.in-Admitted.ensures.kept) (ap (λ (u : WorldSeen). u.table) c.in-Admitted.ensures.kept)
+    (ap (λ (u : WorldSeen). u.works) c.in-Admitted.ensures.kept))
 
 pub returns-in-Refused-clause-turn : goal.returns-in-Refused-clause-turn
 returns-in-Refused-clause-turn g c =
@@ -94,7 +95,8 @@ returns-in-Refused-clause-turn g c =
     c.in-Some-Ask.op c.in-Refused.field-0 (ap (λ (t : Task). t.left) c.task.view_is ∙ c.requires.idle)
     (first ∙ ap (λ (n : Option Wish). Ask c.in-Some-Ask.op ∷ (option_to_list n ++ c.pass_waits.new.rest.items)) (sym c.take.ensures.after)) room c.in-Refused.ensures.kept
     (ap (λ (t : Task). t.left) c.task.view_is ∙ c.requires.idle) refl (ap (λ (t : Task). t.is_done) c.task.view_is ∙ c.requires.runs))
-    (ap (λ (u : WorldSeen). u.drains) c.in-Refused.ensures.kept)
+    (beside-kept w v (ap (λ (u : WorldSeen). u.drains) c.in-Refused.ensures.kept) (ap (λ (u : WorldSeen). u.table) c.in-Refused.ensures.kept)
+    (ap (λ (u : WorldSeen). u.works) c.in-Refused.ensures.kept))
 
 pub returns-in-Admitted-clause-comes : goal.returns-in-Admitted-clause-comes
 returns-in-Admitted-clause-comes g c = λ orders o d first has.

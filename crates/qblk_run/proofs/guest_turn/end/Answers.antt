@@ -1,7 +1,7 @@
 use Rattle.std.proofs.Common.{refl, ap, ◌∙◌, ◌+◌}
 use Rattle.world_parts.specs.Face.{WorldSeen}
 use Rattle.qblk_run.specs.Tasks.{Task}
-use Rattle.qblk_run.proofs.GuestTurns.{is-open, is-idle, end-move, row-known, end-room}
+use Rattle.qblk_run.proofs.GuestTurns.{beside-kept, is-open, is-idle, end-move, row-known, end-room}
 use Rattle.qblk_run.proofs.Worlds.{come-done}
 use Rattle.qblk_run.proofs.guest_turn.end.Goals as goal
 
@@ -22,7 +22,8 @@ returns-clause-moved g c = (
   end-move (g.W.Events.face c.args.world.now) (g.W.Events.face c.finish.new.self) c.args.guest c.args.task.now _ c.requires.task
       c.requires.idle c.requires.runs c.requires.used c.requires.entries c.finish.ensures.kept
       (ap (λ (t : Task). t.wishes) c.task.view_is ∙ c.requires.used) (ap (λ (t : Task). t.left) c.task.view_is ∙ c.requires.idle) refl,
-  ap (λ (u : WorldSeen). u.drains) c.finish.ensures.kept,
+  beside-kept (g.W.Events.face c.args.world.now) (g.W.Events.face c.finish.new.self) (ap (λ (u : WorldSeen). u.drains) c.finish.ensures.kept)
+      (ap (λ (u : WorldSeen). u.table) c.finish.ensures.kept) (ap (λ (u : WorldSeen). u.works) c.finish.ensures.kept),
 )
 
 pub returns-clause-comes : goal.returns-clause-comes

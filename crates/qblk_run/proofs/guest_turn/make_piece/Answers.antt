@@ -2,7 +2,7 @@ use Rattle.std.proofs.Common.{◌≡◌, ℕ, List, length, refl, ap, Some}
 use Rattle.blk_history.specs.Machine.{Flight}
 use Rattle.world_parts.specs.Progress.{CanShow, flight_at, with_piece_entry}
 use Rattle.qblk_run.specs.Tasks.{Task}
-use Rattle.qblk_run.proofs.GuestTurns.{can-go, flight-of, piece-drains, piece-move, piece-noted}
+use Rattle.qblk_run.proofs.GuestTurns.{can-go, flight-of, piece-beside, piece-move, piece-noted}
 use Rattle.qblk_run.proofs.Worlds.{come-piece}
 use Rattle.qblk_run.proofs.guest_turn.make_piece.Goals as goal
 
@@ -20,7 +20,7 @@ returns-clause-moved g c =
       piece-move w v c.args.guest c.args.task.now _ c.requires.task
           c.args.left c.left_after.result c.piece-outcome.result c.requires.flying c.requires.more noted c.left_after.ensures.good c.left_after.ensures.bad
           (ap (λ (t : Task). t.wishes) c.task.view_is) refl (ap (λ (t : Task). t.is_done) c.task.view_is),
-      piece-drains w v c.args.guest f.0 c.piece-outcome.result (c.piece-outcome.ensures.made f.0 f.1).0,
+      piece-beside w v c.args.guest f.0 c.piece-outcome.result (c.piece-outcome.ensures.made f.0 f.1),
     )
 
 pub returns-clause-comes : goal.returns-clause-comes

@@ -12,4 +12,4 @@ returns-clause-goes g c =
     let turn = subst (λ (old : List Task). HasTurn w v old c.turn_in.new.tasks c.args.guest c.turn_in.result) c.as_mut_slice.ensures.value c.turn_in.ensures.turn in
     let size = turn-length w v c.actors.inside.guests.items c.turn_in.new.tasks c.args.guest c.turn_in.result turn in
     let same = with_items_is c.actors.inside.guests c.turn_in.new.tasks (omega (arith, size, c.as_mut_slice.ensures.len, ap length c.as_mut_slice.ensures.value)) in
-    rw same (turn-continues-in w v _ c.actors.inside.guests.items c.turn_in.new.tasks c.args.actors.now c.args.guest c.turn_in.result c.actors.view_is c.requires.can turn)
+    rw same (turn-continues-in w v _ c.actors.inside.guests.items c.turn_in.new.tasks c.args.actors.now c.args.guest c.turn_in.result c.actors.view_is c.requires.can c.turn_in.ensures.stays turn)

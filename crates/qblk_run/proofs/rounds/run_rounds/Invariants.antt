@@ -1,7 +1,8 @@
-use Rattle.qblk_run.specs.Tasks.{steps_of_tasks}
+use Rattle.std.proofs.Common.{◌≡◌, ◌*◌, ◌+◌, ◌^◌, length}
+use Rattle.qblk_run.specs.Rounds.{Continues, steps_in}
+use Rattle.qblk_run.specs.Slots.{parts_left}
 use Rattle.qblk_run.specs.Turns.{StaysIn}
 use Rattle.qblk_run.specs.Worlds.{ComesOn}
-use Rattle.qblk_run.specs.Rounds.{Continues}
 use Rattle.qblk_run.proofs.rounds.run_rounds.Given as goal
 
 -- some rounds were made
@@ -12,5 +13,6 @@ invariant-loop-stop g l = record {
   comes : ComesOn (g.W.Events.face l.fn.world) (g.W.Events.face l.world) l.fn.actors.script.orders l.actors.script.orders;
 }
 
+-- entries first, and then what is left to copy, of which there is less than so much
 abbrev pub decreases-loop-stop : goal.decreases-loop-stop
-decreases-loop-stop g l = steps_of_tasks l.actors
+decreases-loop-stop g l = steps_in (g.W.Events.face l.world) l.actors * 2 ^ 64 + parts_left (g.W.Events.face l.world).works

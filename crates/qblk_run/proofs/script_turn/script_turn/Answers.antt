@@ -5,13 +5,13 @@ use Rattle.trace_codec.specs.Awaits.{seen_await}
 use Rattle.trace_codec.specs.Script.{Order, seen_order}
 use Rattle.trace_codec.specs.declared.order.Order.{Order as OrderOf}
 use Rattle.trace_codec.specs.declared.order.Order.TheVariants.{Give, Watch}
-use Rattle.world_parts.specs.Carrying.{IsExecuted, IsPutOff, IsReplied}
+use Rattle.world_parts.specs.Carrying.{AnswersLine, IsExecuted, IsPutOff}
 use Rattle.world_parts.specs.Saying.{given_line}
 use Rattle.world_parts.specs.Steps.{after_wait}
 use Rattle.world_parts.specs.declared.executed.Executed.{Executed}
 use Rattle.qblk_run.specs.Tasks.{ScriptTask}
 use Rattle.qblk_run.specs.Worlds.{HasCome}
-use Rattle.qblk_run.proofs.ScriptTurns.{none-next, first-next, script-open}
+use Rattle.qblk_run.proofs.ScriptTurns.{answered-moves, none-next, first-next, script-open}
 use Rattle.qblk_run.proofs.Worlds.{come-done, come-put-off, come-reached, come-replied, put-off-by, undone-by}
 use Rattle.qblk_run.proofs.script_turn.script_turn.Goals as goal
 
@@ -34,10 +34,25 @@ returns-in-Ok-Replied-clause-comes g c = λ o d first has.
     (Give line c.in-Some-Give.text) (ap (λ (s : ScriptTask). s.orders) (sym c.script.view_is)) c.look.ensures.kept
     (sym c.take.ensures.value ∙ c.in-Some-Give.is ∙ ap (λ order. Some order) c.in-Some-Give.field-0-is) c.take.ensures.after in
     let given = given_line line c.as_str.result.now in
-    let replied : IsReplied w v given = subst (λ (x : Executed). IsExecuted w v given x) c.in-Ok-Replied.field-0-is c.in-Ok-Replied.ensures.done in
+    let replied : AnswersLine w v given = subst (λ (x : Executed). IsExecuted w v given x) c.in-Ok-Replied.field-0-is c.in-Ok-Replied.ensures.done in
     come-replied o d first w v c.args.script.now.orders has (c.execute.ensures.comes o) given after
     (next ∙ ap (λ (text : List ℕ). Give line text ∷ after) (sym c.as_str.ensures))
     (script-open (g.W.Events.face c.args.world.now) _ c.args.script.now c.requires.task c.script.view_is c.if-script.false) replied
+
+pub returns-in-Ok-Replied-clause-turn : goal.returns-in-Ok-Replied-clause-turn
+returns-in-Ok-Replied-clause-turn g c =
+    let w = g.W.Events.face c.args.world.now in
+    let v = g.W.Events.face c.execute.new.self in
+    let line = c.in-Some-Give.line in
+    let after : List Order = map seen_order (option_to_list c.take.new.self ++ c.look.new.rest.items) in
+    let next = first-next c.args.script.now.orders c.script.inside.next c.look.new.next c.take.new.self c.script.inside.rest.items c.look.new.rest.items
+    (Give line c.in-Some-Give.text) (ap (λ (s : ScriptTask). s.orders) (sym c.script.view_is)) c.look.ensures.kept
+    (sym c.take.ensures.value ∙ c.in-Some-Give.is ∙ ap (λ order. Some order) c.in-Some-Give.field-0-is) c.take.ensures.after in
+    let given = given_line line c.as_str.result.now in
+    let answers : AnswersLine w v given = subst (λ (x : Executed). IsExecuted w v given x) c.in-Ok-Replied.field-0-is c.in-Ok-Replied.ensures.done in
+    answered-moves w v c.args.script.now (record { orders = after; is_done = c.script.inside.is_done }) given answers
+    (ap (λ (s : ScriptTask). s.is_done) (sym c.script.view_is) ∙ c.if-script.false)
+    (next ∙ ap (λ (text : List ℕ). Give line text ∷ after) (sym c.as_str.ensures)) c.if-script.false c.execute.ensures.named
 
 pub returns-in-Ok-Later-clause-comes : goal.returns-in-Ok-Later-clause-comes
 returns-in-Ok-Later-clause-comes g c = λ o d first has.

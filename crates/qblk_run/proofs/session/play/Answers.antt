@@ -9,6 +9,7 @@ returns-in-Ok-clause-made g c = record {
   stays = c.in-Ok.ensures.stays;
   comes = c.in-Ok.ensures.comes;
   log_is = c.close_world-store.ensures.history;
+  jobs_are = c.close_world-store.ensures.jobs;
   end = record {
     closed = c.close_world-store.ensures.closed;
     faults = c.close_world-store.ensures.faults;

@@ -19,7 +19,7 @@ carry_changes-carried-requires-clause-few g c =
 
 pub returns-clause-carried : goal.returns-clause-carried
 returns-clause-carried g c =
-    let w : WorldSeen = face_of c.self.inside.store c.self.inside.first_faults c.self.inside.nodes c.self.inside.names.table c.self.inside.progress c.self.inside.drained c.self.inside.bitmaps in
+    let w : WorldSeen = face_of c.self.inside.store c.self.inside.first_faults c.self.inside.nodes c.self.inside.names.table c.self.inside.progress c.self.inside.drained c.self.inside.bitmaps c.self.inside.works in
     let now = c.carry_changes-carried.new in
     rw (← c.self.view_is)
     (changes_carried w c.self.invariant c.edges.ensures.joined c.args.given.now (seen_command c.args.command.now) c.requires
@@ -27,7 +27,7 @@ returns-clause-carried g c =
 
 pub returns-clause-back : goal.returns-clause-back
 returns-clause-back g c =
-    let w : WorldSeen = face_of c.self.inside.store c.self.inside.first_faults c.self.inside.nodes c.self.inside.names.table c.self.inside.progress c.self.inside.drained c.self.inside.bitmaps in
+    let w : WorldSeen = face_of c.self.inside.store c.self.inside.first_faults c.self.inside.nodes c.self.inside.names.table c.self.inside.progress c.self.inside.drained c.self.inside.bitmaps c.self.inside.works in
     let now = c.carry_changes-carried.new in
     rw (← c.self.view_is)
     (changes_back w c.self.invariant c.edges.ensures.joined c.args.given.now (seen_command c.args.command.now) c.requires
@@ -36,7 +36,7 @@ returns-clause-back g c =
 
 pub invariant_of-self : goal.invariant_of-self
 invariant_of-self g c =
-    let w : WorldSeen = face_of c.self.inside.store c.self.inside.first_faults c.self.inside.nodes c.self.inside.names.table c.self.inside.progress c.self.inside.drained c.self.inside.bitmaps in
+    let w : WorldSeen = face_of c.self.inside.store c.self.inside.first_faults c.self.inside.nodes c.self.inside.names.table c.self.inside.progress c.self.inside.drained c.self.inside.bitmaps c.self.inside.works in
     let now = c.carry_changes-carried.new in
     changes_whole w c.self.invariant c.edges.ensures.joined c.args.given.now (seen_command c.args.command.now) c.requires
     (scene now.names.table now.nodes now.drained now.bitmaps) c.edges-2.ensures.joined c.carry_changes-carried.result c.carry_changes-carried.ensures.ok

@@ -2,6 +2,7 @@ use Rattle.std.specs.Prelude.{string_bytes}
 use Rattle.qmp_codec.specs.Commands.{seen_command}
 use Rattle.world_parts.specs.Face.{WorldSeen, face_of}
 use Rattle.world_changes.proofs.CarryInTable.{counts_back, counts_bitmaps, counts_carried, counts_coherent}
+use Rattle.blk_world.proofs.KeptJobs.{counts_jobs}
 use Rattle.blk_world.proofs.world.World.carry_counts.Goals as goal
 
 pub answer_counts-requires-clause-free : goal.answer_counts-requires-clause-free
@@ -9,7 +10,7 @@ answer_counts-requires-clause-free g c = c.self.invariant.bitmaps.each
 
 pub invariant_of-self : goal.invariant_of-self
 invariant_of-self g c =
-    let w : WorldSeen = face_of c.self.inside.store c.self.inside.first_faults c.self.inside.nodes c.self.inside.names.table c.self.inside.progress c.self.inside.drained c.self.inside.bitmaps in
+    let w : WorldSeen = face_of c.self.inside.store c.self.inside.first_faults c.self.inside.nodes c.self.inside.names.table c.self.inside.progress c.self.inside.drained c.self.inside.bitmaps c.self.inside.works in
     record {
       coherent = counts_coherent w c.answer_counts.new.names.table
           (seen_command c.args.command.now) c.requires c.answer_counts.result
@@ -19,6 +20,9 @@ invariant_of-self g c =
       bitmaps = counts_bitmaps w c.answer_counts.new.names.table
           (seen_command c.args.command.now) c.requires c.answer_counts.result
           c.answer_counts.ensures.changed c.answer_counts.ensures.kept c.self.invariant.bitmaps;
+      jobs = counts_jobs w c.answer_counts.new.names.table
+          (seen_command c.args.command.now) c.requires c.answer_counts.result
+          c.answer_counts.ensures.changed c.answer_counts.ensures.kept c.self.invariant.jobs;
     }
 
 pub returns-clause-carried : goal.returns-clause-carried

@@ -26,6 +26,7 @@ returns-clause-carried g c =
       progress = c.self.inside.progress;
       drains = c.self.inside.drained;
       bitmaps = c.self.inside.bitmaps;
+      works = c.self.inside.works;
     } in
     rw (← c.self.view_is, c.make-text.ensures.earlier)
     (creation_texts w c.self.invariant c.edges.ensures.joined c.args.given.now (ground_in c.make-text.new.store c.make-text.new.nodes) c.edges-2.ensures.joined
@@ -46,6 +47,7 @@ returns-clause-back g c =
       progress = c.self.inside.progress;
       drains = c.self.inside.drained;
       bitmaps = c.self.inside.bitmaps;
+      works = c.self.inside.works;
     } in
     rw (← c.self.view_is, c.make-text.ensures.earlier)
     (untouched_back c.make-text.result string_bytes w (seen_command c.args.command.now) (ground_in c.make-text.new.store c.make-text.new.nodes) c.make-text.new.names.table c.make-text.ensures.back)
@@ -65,6 +67,7 @@ invariant_of-self g c =
       progress = c.self.inside.progress;
       drains = c.self.inside.drained;
       bitmaps = c.self.inside.bitmaps;
+      works = c.self.inside.works;
     } in
     rw c.make-text.ensures.earlier
     (creation_whole w c.self.invariant c.edges.ensures.joined c.args.given.now (ground_in c.make-text.new.store c.make-text.new.nodes) c.edges-2.ensures.joined

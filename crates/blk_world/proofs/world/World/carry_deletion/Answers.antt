@@ -25,6 +25,7 @@ returns-clause-carried g c =
       progress = c.self.inside.progress;
       drains = c.self.inside.drained;
       bitmaps = c.self.inside.bitmaps;
+      works = c.self.inside.works;
     } in
     rw (← c.self.view_is, c.delete.ensures.earlier)
     (deletion_texts w c.self.invariant c.edges.ensures.joined c.edges.ensures.disks c.args.given.now (ground_in c.delete.new.store c.delete.new.nodes)
@@ -46,6 +47,7 @@ returns-clause-back g c =
       progress = c.self.inside.progress;
       drains = c.self.inside.drained;
       bitmaps = c.self.inside.bitmaps;
+      works = c.self.inside.works;
     } in
     rw (← c.self.view_is, c.delete.ensures.earlier)
     (deletion_back c.delete.result string_bytes w (seen_command c.args.command.now) (ground_in c.delete.new.store c.delete.new.nodes) c.delete.new.names.table c.delete.new.bitmaps c.delete.ensures.back
@@ -66,6 +68,7 @@ invariant_of-self g c =
       progress = c.self.inside.progress;
       drains = c.self.inside.drained;
       bitmaps = c.self.inside.bitmaps;
+      works = c.self.inside.works;
     } in
     rw c.delete.ensures.earlier
     (deletion_whole w c.self.invariant c.edges.ensures.joined c.edges.ensures.disks c.args.given.now (ground_in c.delete.new.store c.delete.new.nodes)

@@ -71,7 +71,7 @@ returns-clause-disks g c = λ told s same agrees.
     let whole : IsWholeWorld c.args.self = subst IsWholeWorld c.self.view_is c.self.invariant in
     let after : StoreSeen = seen_store (g.S.Store.files c.into_store.result) (g.S.Store.opened c.into_store.result) (g.S.Store.room c.into_store.result) (g.S.Store.faults c.into_store.result) (g.S.Store.failed_call c.into_store.result) in
     let closed : EndsWorld c.args.self after c.give_all_back-fault.result = returns-clause-closed g c in
-    all-disks c.args.self (g.S.Store.files c.into_store.result) joined (subst (λ (w : WorldSeen). Unfolds w.nodes) c.self.view_is c.edges.ensures.disks) whole.coherent
+    all-disks c.args.self (g.S.Store.files c.into_store.result) joined (subst (λ (w : WorldSeen). Unfolds w.nodes) c.self.view_is c.edges.ensures.disks) whole.coherent whole.jobs.stand
     (told-then c.args.self after c.give_all_back-fault.result closed whole.coherent told (whole.tell told))
     (returns-clause-held g c told) s same agrees
 

@@ -5,8 +5,13 @@ use Rattle.world_parts.specs.Face.{WorldSeen}
 use Rattle.world_parts.proofs.SoundImages.{images-sound}
 use Rattle.blk_world.proofs.world.World.images_are_sound.Goals as goal
 
-pub returns : goal.returns
-returns g c = λ told.
+pub returns-clause-sound : goal.returns-clause-sound
+returns-clause-sound g c = λ told.
     let joined : IsJoined c.args.self.now.nodes = subst (λ (w : WorldSeen). IsJoined w.nodes) c.self.view_is c.edges.ensures.joined in
     let whole : IsWholeWorld c.args.self.now = subst IsWholeWorld c.self.view_is c.self.invariant in
     images-sound c.args.self.now joined whole.coherent (whole.tell told)
+
+pub returns-clause-kept : goal.returns-clause-kept
+returns-clause-kept g c =
+    let whole : IsWholeWorld c.args.self.now = subst IsWholeWorld c.self.view_is c.self.invariant in
+    whole.jobs

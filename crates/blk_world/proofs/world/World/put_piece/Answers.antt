@@ -37,6 +37,7 @@ returns-clause-made g c =
       progress = c.self.inside.progress;
       drains = c.self.inside.drained;
       bitmaps = c.self.inside.bitmaps;
+      works = c.self.inside.works;
     } in
     let on : drive_of w.table c.args.guest ≡ Some c.in-Some.drive = sym c.drive.ensures ∙ c.in-Some.is in
     rw (← c.self.view_is)
@@ -61,6 +62,7 @@ invariant_of-self g c =
       progress = c.self.inside.progress;
       drains = c.self.inside.drained;
       bitmaps = c.self.inside.bitmaps;
+      works = c.self.inside.works;
     } in
     let v : WorldSeen = record w {
       nodes = c.make_next-outcome.new.nodes;

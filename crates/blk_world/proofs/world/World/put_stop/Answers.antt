@@ -2,12 +2,12 @@ use Rattle.std.specs.Prelude.{string_bytes}
 use Rattle.qmp_codec.specs.Lines.{seen_stop}
 use Rattle.world_parts.specs.Saying.{given_line}
 use Rattle.blk_world.proofs.CarryBack.{unmoved_on}
-use Rattle.world_lines.proofs.CarryLines.{no_command_replied, no_command_comes}
+use Rattle.world_lines.proofs.CarryLines.{no_command_answers, no_command_comes}
 use Rattle.blk_world.proofs.world.World.put_stop.Goals as goal
 
 pub returns-clause-done : goal.returns-clause-done
 returns-clause-done g c =
-    rw (c.note_reply.ensures, c.in_ok-copy.ensures, ← c.self.view_is) (no_command_replied _
+    rw (c.note_reply.ensures, c.in_ok-copy.ensures, ← c.self.view_is) (no_command_answers _
     (given_line c.args.line c.args.given.now) (string_bytes c.in_ok-text.text)
     (seen_stop c.args.stop) c.requires.read c.in_ok-text.ensures)
 

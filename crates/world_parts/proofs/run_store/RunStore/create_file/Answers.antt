@@ -1,4 +1,4 @@
-use Rattle.std.proofs.Common.{◌≡◌, ℕ, List, sym}
+use Rattle.std.proofs.Common.{List, sym}
 use Rattle.blk_base.specs.declared.file.Opened.{Opened}
 use Rattle.world_parts.specs.Stores.{last_opened}
 use Rattle.world_parts.proofs.RunOpenings.{create-last, out-last}

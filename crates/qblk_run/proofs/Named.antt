@@ -1,0 +1,126 @@
+-- The job that a line begins has a name.
+use Rattle.std.proofs.Common.{◌≡◌, ℕ, ◌==◌, Bool, true, false, List, [], refl, sym, ◌∙◌, ap, subst, inl, inr, Option, Some, None, Ok, Err, ◌++◌}
+use Rattle.std.specs.Prelude.{◌⊎◌, Contains, IfOk, OnErr, Result}
+use Rattle.std.proofs.lemmas.Bool.{not-false}
+use Rattle.qmp_asks.specs.CommandAsks.{asks_of}
+use Rattle.qmp_asks.specs.JobAsks.{backup_names, backup_rest, backup_values}
+use Rattle.qmp_asks.specs.Naming.{is_name}
+use Rattle.qmp_asks.specs.declared.ask.Ask.TheVariants as ask
+use Rattle.qmp_codec.specs.Commands.{Cmd}
+use Rattle.qmp_codec.specs.Lines.{Stop, command_at}
+use Rattle.qmp_codec.specs.declared.command.Command.TheVariants as command
+use Rattle.qmp_codec.specs.declared.jobs.Backup.{Backup}
+use Rattle.qmp_rules.specs.Answers.{answer, answer_by, answer_for, line_answer, line_refusal, refusal_to}
+use Rattle.qmp_rules.specs.Asks.{holds}
+use Rattle.qmp_rules.specs.Changes.{all_changed}
+use Rattle.qmp_rules.specs.Edits.{backup_job, edits_of}
+use Rattle.qmp_rules.specs.Table.{RunTable, job_at}
+use Rattle.qmp_rules.specs.declared.refusal.Refusal.{Refusal}
+use Rattle.qmp_rules.specs.declared.rows.JobRecord.{JobRecord}
+use Rattle.qmp_rules.specs.declared.told.Told.{Told}
+use Rattle.blk_nodes.specs.Joined.{IsJoined}
+use Rattle.flat_machine.proofs.Asked.{NoneHolds, none-behind, not-refused}
+use Rattle.job_commands.proofs.Copies.{command_found, number_is_new}
+use Rattle.job_ends.proofs.Others.{at_number}
+use Rattle.job_progress.specs.Belonging.{HasWork, IsOfJob}
+use Rattle.job_progress.proofs.Belong.{found_there}
+use Rattle.job_tables.proofs.StartCommands.{accepted_met}
+use Rattle.job_works.proofs.Changed.{job_found}
+use Rattle.world_goings.proofs.Ahead.{job_there}
+use Rattle.world_parts.specs.Carrying.{AnswersLine, IsExecuted, IsPutBack}
+use Rattle.world_parts.specs.Coherent.{AreJobsKept, IsWholeWorld}
+use Rattle.world_parts.specs.Face.{WorldSeen}
+use Rattle.world_parts.specs.Jobs.{BeginsNone, BeginsOne}
+use Rattle.world_parts.specs.Saying.{Given}
+use Rattle.world_parts.specs.declared.executed.Executed.{Executed}
+use Rattle.world_parts.specs.declared.executed.Executed.TheVariants.{Replied, Later}
+use Rattle.world_parts.proofs.Accepted.{asked}
+use Rattle.world_parts.proofs.JobsAnswered.{jobs_kept}
+use Rattle.blk_world.proofs.KeptJobs.{starts_no_job}
+
+-- ---- a backup that nothing refuses
+
+name_said : (t : RunTable) (told : Told) (member name : List ℕ) → holds t told (ask.Named member (Some name)) ≡ None → is_name name ≡ true
+unfolding holds
+name_said t told member name none = not-false _ (not-refused _ _ none)
+
+backup_named : (t : RunTable) (told : Told) (c : Backup (List ℕ)) → refusal_to t told (command.BlockdevBackup c) ≡ None → is_name c.job_id ≡ true
+unfolding asks_of
+backup_named t told c none =
+    let all : NoneHolds t told (backup_values c ++ backup_names c ++ backup_rest c) = asked t told (command.BlockdevBackup c) none in
+    name_said t told _ c.job_id (none-behind t told (backup_values c) (backup_names c ++ backup_rest c) all).0
+
+-- ---- the job that begins behind a reply
+
+module _ (w : WorldSeen) (whole : IsWholeWorld w) (joined : IsJoined w.nodes) (u : RunTable) (row : JobRecord) (number : row.number ≡ w.table.started)
+    (there : job_at u row.number ≡ Some row) where
+  -- each job that is kept was there, as its work was
+  was_there : {A : Type 0} → AreJobsKept u w.works w.progress.aside → A
+  was_there kept =
+      let has : HasWork u w.works row = kept.belong.each row (job_there u row there) in
+      let own : IsOfJob w.table has.work = whole.jobs.belong.owned has.work (found_there w.works row.number has.work has.there) in
+      let same : own.row.number ≡ w.table.started = own.number ∙ job_found w.works row.number has.work has.there ∙ number in
+      let none : Some own.row ≡ None
+      = sym (at_number w.table whole.jobs.stand own.row own.there) ∙ number_is_new w.table whole.jobs.run own.row.number same in
+      absurd (let bad : Some own.row ≡ None = none in cc bad)
+
+  backup_begun : (told : Told) (c : Backup (List ℕ)) (first : Option Refusal) → refusal_to w.table told (command.BlockdevBackup c) ≡ first
+      → u ≡ all_changed w.table (answer w.table told (command.BlockdevBackup c)).changes → is_name row.id ≡ true
+  unfolding answer edits_of
+  backup_begun told c None none table =
+      let met = (accepted_met w.table told (command.BlockdevBackup c) none).1 in
+      let changed : u ≡ all_changed w.table (answer_by w.table told (command.BlockdevBackup c) None).changes
+      = table ∙ ap (λ (first : Option Refusal). all_changed w.table (answer_by w.table told (command.BlockdevBackup c) first).changes) none in
+      let found : job_at u (backup_job w.table None c).number ≡ Some (backup_job w.table None c)
+      = subst (λ (x : RunTable). job_at x (backup_job w.table None c).number ≡ Some (backup_job w.table None c)) (sym changed)
+      (command_found w.table told told (command.BlockdevBackup c) (backup_job w.table None c) whole.jobs.stand whole.jobs.run met refl) in
+      let both : Some row ≡ Some (backup_job w.table None c) = sym there ∙ ap (job_at u) number ∙ found in
+      let same : row ≡ backup_job w.table None c = cc both in
+      ap (λ (r : JobRecord). is_name r.id) same ∙ backup_named w.table told c none
+  backup_begun told c (Some cause) some table =
+      was_there
+      (jobs_kept w whole joined (command.BlockdevBackup c) told u (λ none. absurd (let bad : None ≡ Some cause = sym none ∙ some in cc bad)) table)
+
+  begun_by : (told : Told) (c : Cmd) → u ≡ all_changed w.table (answer w.table told c).changes → is_name row.id ≡ true
+  begun_by told (command.BlockdevBackup c) table = backup_begun told c (refusal_to w.table told (command.BlockdevBackup c)) refl table
+  begun_by told c table = was_there (jobs_kept w whole joined c told u (λ none. starts_no_job w.table told c refl none) table)
+
+  begun_behind : (told : Told) (line : List ℕ) (read : Result Cmd Stop) → u ≡ all_changed w.table (answer_for w.table told line read).changes
+      → is_name row.id ≡ true
+  begun_behind told line (Ok c) table = begun_by told c table
+  begun_behind told line (Err why) table = by_refusal (line_refusal w.table line why) refl
+    where
+      by_refusal : (first : Option Refusal) → line_refusal w.table line why ≡ first → is_name row.id ≡ true
+      by_refusal None is =
+          was_there (subst (λ (x : RunTable). AreJobsKept x w.works w.progress.aside) (sym (rw is at table)) whole.jobs)
+      by_refusal (Some cause) is =
+          was_there (subst (λ (x : RunTable). AreJobsKept x w.works w.progress.aside) (sym (rw is at table)) whole.jobs)
+
+-- ---- the line
+
+module _ (w v : WorldSeen) (whole : IsWholeWorld w) (joined : IsJoined w.nodes) (after : IsWholeWorld v) (row : JobRecord)
+    (there : job_at v.table w.table.started ≡ Some row) where
+  none_new : v.table.started ≡ w.table.started → is_name row.id ≡ true
+  none_new same =
+      absurd (let bad : Some row ≡ None = sym there ∙ number_is_new v.table after.jobs.run w.table.started (sym same) in cc bad)
+
+  answered_named : (line : Given) → AnswersLine w v line → is_name row.id ≡ true
+  unfolding line_answer
+  answered_named line answers = by_begins answers.begins
+    where
+      by_begins : BeginsNone w.table answers.between v ⊎ BeginsOne w.table answers.between v → is_name row.id ≡ true
+      by_begins (inl none) = none_new (ap (λ (x : WorldSeen). x.table.started) none.kept ∙ none.started)
+      by_begins (inr one) =
+          let tables : v.table ≡ answers.between.table = ap (λ (x : WorldSeen). x.table) one.begins.kept in
+          let both : Some row ≡ Some one.row
+          = sym there ∙ ap (λ (x : RunTable). job_at x w.table.started) tables ∙ ap (job_at answers.between.table) (sym one.number) ∙ one.begins.there in
+          let same : row ≡ one.row = cc both in
+          ap (λ (r : JobRecord). is_name r.id) same
+          ∙ begun_behind w whole joined answers.between.table one.row one.number one.begins.there answers.replied.told line.text (command_at line.text)
+          answers.replied.table
+
+  pub executed_named : {E : Type 0} (line : Given) (r : Result Executed E) → IfOk r (λ answer. IsExecuted w v line answer) → OnErr r (IsPutBack w v)
+      → is_name row.id ≡ true
+  executed_named line (Ok Replied) done back = answered_named line done
+  executed_named line (Ok (Later g r)) done back = none_new (ap (λ (x : WorldSeen). x.table.started) done.left)
+  executed_named line (Err stop) done back = none_new (ap (λ (t : RunTable). t.started) back.table)

@@ -1,0 +1,81 @@
+-- Each event leaves a world of the same run.
+use Rattle.std.proofs.Common.{◌≡◌, ◌∙◌, ℕ, Bool, true, false, List, ap, inl, inr, refl, Option, Some, None}
+use Rattle.std.specs.Prelude.{is_some}
+use Rattle.blk_base.specs.declared.fault.Outcome.{Outcome}
+use Rattle.blk_copy.specs.declared.transfers.Transfer.{Transfer}
+use Rattle.blk_history.specs.Fold.{With}
+use Rattle.blk_history.specs.Machine.{Flight}
+use Rattle.trace_codec.specs.declared.await.Await.{Await}
+use Rattle.trace_codec.specs.declared.op.Op.{Op}
+use Rattle.flat_machine.specs.declared.opening.Opening.{Opening}
+use Rattle.world_jobs.specs.declared.turned.Turned.{Turned}
+use Rattle.world_jobs.specs.declared.turned.Turned.TheVariants as turned
+use Rattle.world_parts.specs.Comes.{Comes}
+use Rattle.world_parts.specs.Face.{WorldSeen}
+use Rattle.world_parts.specs.Progress.{Progress, HasNext, flight_at}
+use Rattle.world_parts.specs.Steps.{after_admission, after_wait, with_history}
+use Rattle.world_parts.specs.declared.admission.Admission.{Admission}
+use Rattle.world_parts.specs.declared.admission.Admission.TheVariants.{Admitted, Refused, Held, Away}
+use Rattle.blk_world.specs.Pieces.{IsPieceBehind}
+use Rattle.qblk_run.specs.Slots.{HasSettled, HasTaken, IsTurned}
+use Rattle.qblk_run.specs.Turns.{StaysIn}
+use Rattle.qblk_run.specs.Worlds.{MakesPiece}
+use Rattle.qblk_run.proofs.Turning.{makes_piece}
+use Rattle.qblk_run.proofs.Worlds.{guarded_kept, kept_stay, runs_stay}
+
+module _ (w v : WorldSeen) (comes : (o : Opening) → Comes o w → Comes o v) where
+  same_stay : v ≡ w → StaysIn w v
+  same_stay same =
+      kept_stay w v (ap (λ (x : WorldSeen). x.files) same) (ap (λ (x : WorldSeen). x.first_faults) same) (ap (λ (x : WorldSeen). x.earlier) same)
+      (ap (λ (x : WorldSeen). x.room) same) comes
+
+  pub history_stay : (f : Progress → Progress) → v ≡ with_history w f → StaysIn w v
+  history_stay f kept =
+      kept_stay w v (ap (λ (x : WorldSeen). x.files) kept) (ap (λ (x : WorldSeen). x.first_faults) kept) (ap (λ (x : WorldSeen). x.earlier) kept)
+      (ap (λ (x : WorldSeen). x.room) kept) comes
+
+  pub admission_stay : (g : ℕ) (op : Op) (answer : Admission) → v ≡ after_admission w g op answer → StaysIn w v
+  admission_stay g op (Admitted r) kept = history_stay _ kept
+  admission_stay g op (Refused why) kept = history_stay _ kept
+  admission_stay g op (Held back) kept = same_stay kept
+  admission_stay g op (Away back) kept = same_stay kept
+
+  pub wait_stay : (line : ℕ) (what : Await (List ℕ)) (met : Bool) → v ≡ after_wait w line what met → StaysIn w v
+  wait_stay line what true kept = history_stay _ kept
+  wait_stay line what false kept = same_stay kept
+
+  made_stay : (g : ℕ) (f : Flight) (outcome : Outcome) → MakesPiece w v g f outcome → StaysIn w v
+  made_stay g f outcome makes =
+      let runs = makes.licence.runs in
+      let same = guarded_kept w makes.between g f makes.guarded in
+      record {
+        told = runs.told ∙ ap (λ (x : WorldSeen). is_some x.files) same;
+        first = runs.first ∙ ap (λ (x : WorldSeen). x.first_faults) same;
+        earlier = runs.earlier ∙ ap (λ (x : WorldSeen). x.earlier) same;
+        room = runs.room ∙ ap (λ (x : WorldSeen). x.room) same;
+        comes = comes;
+      }
+
+  pub piece_stay : (g : ℕ) (outcome : Outcome) → With (flight_at w.progress.guests g) HasNext
+      → ((f : Flight) → flight_at w.progress.guests g ≡ Some f → IsPieceBehind w v g f outcome) → StaysIn w v
+  piece_stay g outcome next made = by_flight (flight_at w.progress.guests g) refl next
+    where
+      by_flight : (found : Option Flight) → flight_at w.progress.guests g ≡ found → With found HasNext → StaysIn w v
+      by_flight None is next = absurd next
+      by_flight (Some f) is next = made_stay g f outcome (makes_piece w v g f outcome is (made f is))
+
+  pub turned_stay : (slot : ℕ) (t : Turned) → IsTurned w v slot t → StaysIn w v
+  turned_stay slot turned.Empty did = same_stay did.1
+  turned_stay slot turned.Copy did = same_stay did.1
+  turned_stay slot turned.Idle did = same_stay did.1
+  turned_stay slot turned.Became did =
+      kept_stay w v (ap (λ (x : WorldSeen). x.files) did.ends.kept) (ap (λ (x : WorldSeen). x.first_faults) did.ends.kept)
+      (ap (λ (x : WorldSeen). x.earlier) did.ends.kept) (ap (λ (x : WorldSeen). x.room) did.ends.kept) comes
+
+  pub taken_stay : (slot : ℕ) (buffer : List ℕ) (result : Option Transfer) → HasTaken w v slot buffer result → StaysIn w v
+  taken_stay slot buffer result (inl none) = same_stay none.1
+  taken_stay slot buffer result (inr takes) = runs_stay w v takes.takes.copies.runs comes
+
+  pub settled_stay : (t : Transfer) (bytes : List ℕ) (answer : Bool) → HasSettled w v t bytes answer → StaysIn w v
+  settled_stay t bytes answer (inl none) = same_stay none.1
+  settled_stay t bytes answer (inr settles) = runs_stay w v settles.settles.copies.runs comes

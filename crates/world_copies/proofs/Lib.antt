@@ -1,0 +1,5 @@
+pub mod Stopped
+pub mod JobFaults
+pub mod Steps
+pub mod Wholes
+pub mod JobSteps

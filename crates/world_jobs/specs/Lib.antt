@@ -1,0 +1,9 @@
+pub mod Beginning
+pub mod Filtering
+pub mod Starting
+pub mod Guarding
+pub mod Copying
+pub mod Copies
+pub mod Turning
+pub mod Ending
+pub mod Started

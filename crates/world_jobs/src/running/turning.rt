@@ -1,0 +1,47 @@
+//! What the turn of a backup is to do.
+ghost use Rattle.std.specs.Prelude.{◌≡◌, None, IsSome};
+ghost use Rattle.blk_history.specs.Fold.{With};
+ghost use Rattle.job_works.specs.Works.{work_of};
+ghost use Rattle.qmp_codec.specs.declared.event.JobKind.TheVariants.{Backup};
+ghost use Rattle.world_jobs.specs.Turning.{IsBackupStep, IsStepFor, IsTurnOf};
+
+use crate::running::RunningJobs;
+use crate::turned::Turn;
+use block_jobs::JobWork;
+use job_turns::{Step, step_of};
+use qmp_rules::JobRecord;
+
+fn turn_by(step: Step) -> Turn
+    requires { IsBackupStep step }
+    ensures { IsStepFor step result }
+{
+    match step {
+        Step::End(why) | Step::Finish(why) => Turn::End(why),
+        Step::Copy => Turn::Copy,
+        Step::Wait => Turn::Wait,
+        Step::Go | Step::GetReady => unreachable!(),
+    }
+}
+
+fn turn_of(all_done: bool, row: &JobRecord, work: &JobWork) -> Turn
+    requires { row.now.kind ≡ Backup }
+    ensures { IsTurnOf all_done row.now work.now result }
+{
+    work.law();
+    turn_by(step_of(all_done, row, work))
+}
+
+impl RunningJobs {
+    /// What the turn of a backup is to do.
+    pub fn turn(&self, all_done: bool, row: &JobRecord) -> Turn
+        requires there { IsSome (work_of self.now row.now.number) }
+        requires kind { row.now.kind ≡ Backup }
+        ensures { With (work_of self.now row.now.number)
+            (λ work. IsTurnOf all_done row.now work result) }
+    {
+        match self.of_job(row.number) {
+            Some(work) => turn_of(all_done, row, work),
+            None => unreachable!(),
+        }
+    }
+}
