@@ -14,7 +14,7 @@ use Rattle.qmp_rules.specs.declared.rows.JobRecord.{JobRecord}
 use Rattle.world_parts.specs.Coherent.{IsWholeWorld}
 use Rattle.world_parts.specs.Face.{WorldSeen}
 use Rattle.world_jobs.specs.Guarding.{HasWorkOver}
-use Rattle.blk_world.proofs.JobSteps.{room_to_copy}
+use Rattle.world_copies.proofs.JobSteps.{room_to_copy}
 
 -- a work has its job, of which the source is as long
 pub source_sized : (w : WorldSeen) → IsWholeWorld w → IsJoined w.nodes → (job : ℕ) (work : JobWork) → work_of w.works job ≡ Some work

@@ -7,6 +7,7 @@ use Rattle.std.proofs.lemmas.List.Elements.{All-weaker}
 use Rattle.blk_nodes.specs.Contents.{disk_of}
 use Rattle.block_jobs.specs.Ahead.{IsAhead, is_owed}
 use Rattle.block_jobs.specs.Work.{JobWork}
+use Rattle.job_commands.specs.Granules.{GranulesStand}
 use Rattle.job_progress.specs.Going.{AreJobsAhead, goal_of, is_due}
 use Rattle.blk_history.specs.declared.event.Event.{Event}
 use Rattle.qmp_codec.specs.Commands.{Cmd}
@@ -99,6 +100,9 @@ module _ (w v : WorldSeen) (is : IsPutBack w v) (o : Opening) (comes : Comes o w
         subst (λ (t : RunTable). IsTableAfter o.guests v.progress.log.events t (dirty_of v)) (sym is.table)
         (subst (λ (bitmaps : List Bitmap). IsTableAfter o.guests v.progress.log.events w.table (map dirty_in bitmaps)) (sym is.bitmaps)
         (subst (λ (es : List Event). IsTableAfter o.guests es w.table (dirty_of w)) (sym same-events) comes.table));
+    granules =
+        subst (λ (t : RunTable). GranulesStand t (dirty_of v)) (sym is.table)
+        (subst (λ (bitmaps : List Bitmap). GranulesStand w.table (map dirty_in bitmaps)) (sym is.bitmaps) comes.granules);
     coherent = is.coherent comes.coherent;
     shows = λ told.
         let was = sym is.runs.told ∙ told in
@@ -118,6 +122,7 @@ module _ (w v : WorldSeen) (is : IsPutBack w v) (o : Opening) (comes : Comes o w
           begun = was.begun;
           files = was.files;
           unsure = was.unsure;
+          whole = was.whole;
           ahead =
               subst (AreJobsAhead (start o) w.progress.log.events (replay (start o) w.progress.log.events) (disk_of v.nodes)) (sym is.works)
               (still-ahead (start o) w.progress.log.events (replay (start o) w.progress.log.events) w.works was.ahead);

@@ -98,6 +98,8 @@ fn new_parts<D: Device>(alloc: Global, guests: &Names1, room: Room) -> Result<Pa
 
 impl<S: Store> World<S> {
     ghost use Rattle.blk_base.specs.Files.{is_out};
+    ghost use Rattle.blk_nodes.specs.Contents.{disk_of};
+    ghost use Rattle.job_commands.specs.Whole.{HaveRowSizes};
     ghost use Rattle.std.specs.Prelude.{◌↔◌, true, false, None, IsTrue, IsNone, IfSome, Contains, is_none};
     ghost use Rattle.blk_history.specs.Fold.{With};
     ghost use Rattle.blk_history.specs.Legal.{IsFlightOver};
@@ -163,11 +165,13 @@ impl<S: Store> World<S> {
         Self::put_world(alloc, store, guests, room)
     }
 
-    /// Nothing is done: that the images of qcow2 nodes are sound, and that jobs are kept, is so between calls.
+    /// Nothing is done: that the images of qcow2 nodes are sound, jobs are kept, and disks are as long as rows say, is so between calls.
     fn images_are_sound(&self)
         ensures sound { is_some self.now.files ≡ true
             → ImagesAreSound self.now.table (held self.now) }
         ensures kept { AreJobsKept self.now.table self.now.works self.now.progress.aside }
+        ensures sizes { is_some self.now.files ≡ true
+            → HaveRowSizes self.now.table (disk_of self.now.nodes) }
     {
         let _ = self.nodes.edges();
     }

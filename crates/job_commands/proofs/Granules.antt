@@ -86,7 +86,7 @@ granules_of_old t now d later g shaped stays =
     }
 
 -- where a table has the same nodes, or nodes that stay
-granules_at : (t now : RunTable) (ds : List Dirty) → ((node : ℕ) → StaysNode t now node) → GranulesStand t ds → GranulesStand now ds
+pub granules_at : (t now : RunTable) (ds : List Dirty) → ((node : ℕ) → StaysNode t now node) → GranulesStand t ds → GranulesStand now ds
 granules_at t now ds stays stand d there = granules_of_old t now d d (stand d there) (shaped_self d) (stays d.node)
 
 where_granules : (t : RunTable) (test : Dirty → Bool) (f : Dirty → Dirty) → ((d : Dirty) → IsShaped d (f d)) → (ds : List Dirty) → GranulesStand t ds
@@ -359,7 +359,7 @@ abbrev pub StateGranules : State → Type 0
 StateGranules s = GranulesStand s.table s.dirty
 
 -- a guest's write leaves nodes as they are
-written_stays : (t : RunTable) (node other : ℕ) → StaysNode t (written_under node t) other
+pub written_stays : (t : RunTable) (node other : ℕ) → StaysNode t (written_under node t) other
 unfolding written_under
 written_stays t node other =
     row_stays_mapped t (written_under node t) (unsettled_over t node) other (keeps_where (λ r. is_over t node r.id) unsettled keeps_unsettled) refl
@@ -376,7 +376,7 @@ noted_granules outcome part drive t ds stand = by_flag (is_noted outcome)
     by_flag true = recording_granules t part ds (path t drive) stand
     by_flag false = stand
 
-by_granules : (op : Op) (outcome : Outcome) (part : Extent) (drive : ℕ) (t : RunTable) (ds : List Dirty) → GranulesStand t ds
+pub by_granules : (op : Op) (outcome : Outcome) (part : Extent) (drive : ℕ) (t : RunTable) (ds : List Dirty) → GranulesStand t ds
     → GranulesStand t (dirty_by op outcome part drive t ds)
 by_granules (Read span) outcome part drive t ds stand = stand
 by_granules (Write span payload) outcome part drive t ds stand = noted_granules outcome part drive t ds stand

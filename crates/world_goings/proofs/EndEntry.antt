@@ -49,6 +49,9 @@ use Rattle.job_tables.specs.Jobs.{EdgesAreDrawn, JobsStand}
 use Rattle.job_tables.specs.Running.{JobsRun}
 use Rattle.job_tables.specs.TargetFiles.{TargetFilesStand}
 use Rattle.job_tables.proofs.EndSuits.{ends_suit}
+use Rattle.job_entries.specs.Found.{HasBegun}
+use Rattle.job_commands.specs.Whole.{DisksAreWhole}
+use Rattle.job_commands.proofs.WholeEnds.{ended_whole}
 use Rattle.world_parts.specs.Face.{WorldSeen, seen_state}
 use Rattle.world_parts.specs.Jobs.{HasCopiedAll}
 
@@ -171,6 +174,9 @@ module _ (opening : List ℕ → Option (List ℕ)) (first s : State) (h : List 
       (end_can s rests.stands.table j row here why to_end) (steps_keep (changes_at_end s row why) s (end_steps s rests.stands.table j row here why)) rests.stands agrees
       end_performed shows node in
       record { noted = kept.noted; mapped = kept.mapped }
+
+  pub end_whole : HasBegun s row → DisksAreWhole s → DisksAreWhole (noted_end s row why)
+  end_whole begun was = ended_whole s row why j here suits begun was
 
   pub end_rests : StandsAtRest (noted_end s row why)
   end_rests =

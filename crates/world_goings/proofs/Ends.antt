@@ -37,6 +37,9 @@ use Rattle.job_tables.specs.Copiers.{CopiesGo}
 use Rattle.job_tables.specs.Jobs.{EdgesAreDrawn, JobsStand}
 use Rattle.job_tables.specs.Running.{JobsRun}
 use Rattle.job_tables.specs.TargetFiles.{TargetFilesStand}
+use Rattle.job_commands.specs.Granules.{GranulesStand}
+use Rattle.job_commands.proofs.Granules.{end_granules}
+use Rattle.job_entries.specs.Found.{HasBegun}
 use Rattle.job_tables.proofs.TargetEvents.{ended_files}
 use Rattle.job_works.specs.Works.{work_of}
 use Rattle.world_parts.specs.Coherent.{IsCoherent, IsLoneBackup, IsWholeWorld}
@@ -202,6 +205,9 @@ module _ (o : Opening) (w v : WorldSeen) (row : JobRecord) (why : JobEnd) (offse
           shows.table.rest.started there lone.kind shows.contents may loses shows.images;
     }
 
+    has_begun : HasBegun s row
+    has_begun = going.begun.begun row there (let below = run.numbers row there in let starts = shows.table.rest.started in omega (arith, below, starts))
+
     goes_on : ShowsJobs o (h ++ e ∷ []) next left
     goes_on = record {
       begun = ended_begun s row why stand there going.begun;
@@ -210,6 +216,9 @@ module _ (o : Opening) (w v : WorldSeen) (row : JobRecord) (why : JobEnd) (offse
           subst (λ (x : State). AreJobsAhead (start o) (h ++ e ∷ []) x (disk_of left.nodes) left.works) after_is
           (others_ahead (start o) s h row why offset (contents_of w) (contents_of left) w.works shows.stands.stands.table stand there belong performed going.ahead);
       unsure = ended_held s row why shows.stands.stands.table stand there going.unsure;
+      whole =
+          entry.end_whole (bytes_named o.files) (start o) s h row has.work why (contents_of w) (contents_of left) shows.stands stand run goes rows edges going.files
+          shows.table.rest.started there lone.kind shows.contents may loses has_begun going.whole;
     }
 
     fits : FitsOn o h s w left (e ∷ [])
@@ -247,6 +256,7 @@ module _ (o : Opening) (w v : WorldSeen) (row : JobRecord) (why : JobEnd) (offse
       },
       (refl, refl),
     );
+    granules = λ was. subst (GranulesStand left.table) (sym dirty_now) (end_granules t (dirty_of w) row (outcome_of why) whole.jobs.stand here was);
     counted = λ least. least;
     coherent = λ was. coherent;
     jobs = λ was. behind.jobs w v row why offset whole joined unfolds did;

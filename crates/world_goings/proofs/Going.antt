@@ -99,11 +99,12 @@ module _ (o : Opening) (w : WorldSeen) (nodes : Nodes) (works : List JobWork) wh
       counted = comes.counted;
       requests = comes.requests;
       table = comes.table;
+      granules = comes.granules;
       coherent = coherent_then w nodes on.after comes.coherent;
       shows = shows_then;
       sound = λ told. images-sound v on.joined (coherent_then w nodes on.after comes.coherent) (shown_then told).tell;
       jobs = kept_then w works on.belong comes.jobs;
       kept = on.kept;
-      going = λ told. let was = comes.going told in record { begun = was.begun; files = was.files; ahead = (shown_then told).ahead; unsure = was.unsure };
+      going = λ told. let was = comes.going told in record { begun = was.begun; files = was.files; ahead = (shown_then told).ahead; unsure = was.unsure; whole = was.whole };
       names = comes.names;
     }

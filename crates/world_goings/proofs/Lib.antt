@@ -34,3 +34,4 @@ pub mod StartKept
 pub mod StartSteps
 pub mod StartShown
 pub mod Starts
+pub mod CanCopy

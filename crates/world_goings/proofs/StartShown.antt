@@ -51,7 +51,11 @@ use Rattle.flat_machine.proofs.Recorded.{all_stepped-dirty}
 use Rattle.flat_machine.proofs.Resting.{stepped_table}
 use Rattle.job_commands.specs.Copies.{DisksStand}
 use Rattle.job_commands.specs.Granules.{GranulesStand}
-use Rattle.job_commands.specs.Whole.{HaveRowSizes}
+use Rattle.job_commands.specs.Whole.{DisksAreWhole, HaveRowSizes}
+use Rattle.job_commands.proofs.WholeCommands.{command_whole}
+use Rattle.job_commands.proofs.WholeEntries.{started_whole}
+use Rattle.blk_nodes.specs.Nodes.{AreTold}
+use Rattle.world_parts.proofs.WholeDisks.{row_sizes}
 use Rattle.job_commands.proofs.BegunKept.{backup_begun}
 use Rattle.job_commands.proofs.Copied.{backup_can}
 use Rattle.job_commands.proofs.Copies.{command_goes}
@@ -429,6 +433,18 @@ module _ (o : Opening) (w x : WorldSeen) (line : Given) (c : Backup (List ℕ)) 
         (subst (λ (u : RunTable). refusal_to u replied.told (BlockdevBackup c) ≡ None) (sym same) none) going.files)
         (subst IsSome (sym job_mid) refl))
 
+    reads_mid : HaveRowSizes mid.table (disk_of x.nodes)
+    reads_mid =
+        let alike = (world.start_coherent w x.table x.nodes replied.told replied.told c whole joined none table_is puts joined_next).alike in
+        let tells : AreTold x.nodes.devices = subst AreTold (sym (ap (λ nodes. nodes.devices) puts.are)) (whole.tell told) in
+        subst (λ (u : RunTable). HaveRowSizes u (disk_of x.nodes)) (sym table_mid) (row_sizes x.table x.nodes alike joined_next tells)
+
+    whole_next : DisksAreWhole final
+    unfolding edits_of
+    whole_next =
+        started_whole mid (Some job)
+        (command_whole s replied.told replied.told (BlockdevBackup c) (contents_of x) rest_s drawn_s.jobs.stand tt met_s can_all agrees.disks reads_mid (can.disks told))
+
     goes_on : ShowsJobs o (h ++ e ∷ Start job.number ∷ []) final left
     goes_on = record {
       begun = begun_next;
@@ -438,6 +454,7 @@ module _ (o : Opening) (w x : WorldSeen) (line : Given) (c : Backup (List ℕ)) 
           started_held mid job stand_mid there_mid turn
           (beginning_held s (backup_job s.table None c) shows.stands.stands.table drawn_s.jobs.stand begins
           (let is = shows.table.rest.started in omega (arith, is)) going.unsure);
+      whole = whole_next;
     }
 
     -- ---- all of it

@@ -11,8 +11,8 @@ use Rattle.blk_nodes.specs.Nodes.{AreTold}
 use Rattle.qmp_codec.specs.Lines.{command_at}
 use Rattle.qmp_codec.specs.declared.command.Command.TheVariants.{BlockdevBackup}
 use Rattle.qmp_codec.specs.declared.jobs.Backup.{Backup}
-use Rattle.qmp_rules.specs.Answers.{line_text}
-use Rattle.qmp_rules.specs.Edits.{backup_job}
+use Rattle.qmp_rules.specs.Answers.{command_edits, line_text}
+use Rattle.qmp_rules.specs.Edits.{backup_job, edits_of}
 use Rattle.qmp_rules.specs.Table.{RunTable, job_at}
 use Rattle.qmp_rules.specs.declared.rows.JobRecord.{JobRecord}
 use Rattle.flat_machine.specs.Bitmaps.{AreBitmapsOf, dirty_in}
@@ -21,10 +21,12 @@ use Rattle.flat_machine.specs.Jobs.{started}
 use Rattle.flat_machine.specs.Legal.{IsNotDone}
 use Rattle.flat_machine.specs.Licence.{faults_of}
 use Rattle.flat_machine.specs.Machine.{after}
+use Rattle.flat_machine.specs.Recording.{dirty_after}
 use Rattle.flat_machine.specs.Replies.{is_accepted}
 use Rattle.flat_machine.specs.State.{Dirty, State}
 use Rattle.flat_machine.specs.declared.opening.Opening.{Opening}
 use Rattle.job_commands.specs.Granules.{GranulesStand}
+use Rattle.job_commands.proofs.Granules.{command_granules, entry_granules}
 use Rattle.job_entries.proofs.Noted.{started_table}
 use Rattle.job_progress.specs.Beginning.{begun_by, work_begun}
 use Rattle.world_parts.specs.Carrying.{IsReplied, reply_entry}
@@ -156,6 +158,21 @@ module _ (o : Opening) (w x v : WorldSeen) (line : Given) (c : Backup (List ℕ)
       (shown.size_is o w x line c good replied begins.started whole joined unfolds joined_next can says) can.size whole.coherent.table (seen_state x) refl
       (subst (GranulesStand t) (ap (λ rows. map dirty_in rows) (sym (reply.bitmaps_same w x line c good replied begins.started))) can.granules)))
 
+  granules_next : GranulesStand t (dirty_of w) → GranulesStand x.table (dirty_of x)
+  unfolding edits_of
+  granules_next was =
+      subst (GranulesStand x.table) (sym (reply.dirty_is w x line c good replied begins.started))
+      (subst (λ (u : RunTable). GranulesStand u (dirty_after t (dirty_of w) (command_edits t replied.told (BlockdevBackup c))))
+      (sym (shown.table_is o w x line c good replied begins.started whole joined unfolds joined_next can says))
+      (command_granules t (dirty_of w) replied.told replied.told (BlockdevBackup c) whole.coherent.table whole.jobs.stand tt
+      (shown.met o w x line c good replied begins.started whole joined unfolds joined_next can says) was))
+
+  granules : GranulesStand t (dirty_of w) → GranulesStand left.table (dirty_of left)
+  granules was =
+      let stand = (shown.drawn_next o w x line c good replied begins.started whole joined unfolds joined_next can says).jobs.stand in
+      let behind = entry_granules mid (Start job.number) tt stand (granules_next was) in
+      subst (GranulesStand x.table) (sym begun.dirty) (subst (λ (u : RunTable). GranulesStand u (after mid (Start job.number)).dirty) (sym begun.table) behind)
+
   faults : AreRises (first_counts w) (counts_now w) (all_faults h w.works)
       → AreRises (first_counts left) (counts_now left) (all_faults (h ++ e ∷ Start job.number ∷ []) left.works)
   faults was =
@@ -181,6 +198,7 @@ module _ (o : Opening) (w x v : WorldSeen) (line : Given) (c : Backup (List ℕ)
     guests = ap (λ (p : Progress). p.guests) replied.progress;
     table = (x.table, dirty_of x, answered, (x.table, dirty_of left, begun, (refl, refl)));
     counted = λ was. (let first = replied.runs.first in let now = replied.runs.store in omega (arith, first, now, was));
+    granules = granules;
     coherent = λ was. coherent;
     jobs = λ was. jobs;
     kept = faults;

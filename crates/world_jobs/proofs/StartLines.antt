@@ -36,6 +36,7 @@ use Rattle.world_parts.specs.Saying.{Given}
 use Rattle.world_parts.specs.Steps.{lifted, with_history}
 use Rattle.world_parts.proofs.JobsAnswered.{StartsNoJob}
 use Rattle.world_parts.proofs.SoundImages.{images-sound}
+use Rattle.world_parts.proofs.WholeDisks.{row_sizes}
 
 last_same : (xs : List Event) (a b : Event) → xs ++ a ∷ [] ≡ xs ++ b ∷ [] → a ≡ b
 last_same [] a b same = let head : a ≡ b = cc same in head
@@ -54,7 +55,8 @@ module _ (w : WorldSeen) (line : Given) (c : Backup (List ℕ)) (good : command_
     pub refused_comes : IsWholeWorld w → IsJoined w.nodes → (o : Opening) → IsNotDone (seen_state w) 0 → Comes o w
         → Comes o (lifted (with_history w (with_bare_entry (Reply line.number line.text (Some (BlockdevBackup c)) text))))
     refused_comes whole joined o not_done comes =
-        answered_comes w w line text (BlockdevBackup c) good is none_starts (λ told. images-sound w joined whole.coherent (whole.tell told)) whole.jobs o not_done comes
+        answered_comes w w line text (BlockdevBackup c) good is none_starts (λ told. images-sound w joined whole.coherent (whole.tell told)) whole.jobs
+        (λ told. row_sizes w.table w.nodes whole.coherent.alike joined (whole.tell told)) o not_done comes
 
   -- ---- accepted
 

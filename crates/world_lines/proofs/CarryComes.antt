@@ -10,6 +10,8 @@ use Rattle.blk_history.specs.declared.event.Event.TheVariants.{Reply}
 use Rattle.block_jobs.specs.Work.{JobWork}
 use Rattle.blk_nodes.specs.Contents.{disk_of}
 use Rattle.job_ends.specs.Images.{HeldAreUnsure}
+use Rattle.job_commands.specs.Granules.{GranulesStand}
+use Rattle.job_commands.specs.Whole.{DisksAreWhole, HaveRowSizes}
 use Rattle.job_entries.specs.Found.{HaveBegun}
 use Rattle.job_progress.specs.Going.{AreJobsAhead}
 use Rattle.job_progress.proofs.Entries.{entries_leave}
@@ -41,7 +43,7 @@ use Rattle.flat_machine.specs.Replies.{IsAnswer, begins_job, is_accepted, edits_
 use Rattle.flat_machine.specs.Sights.{IsTold}
 use Rattle.flat_machine.specs.Licence.{named_in}
 use Rattle.flat_machine.specs.Final.{bytes_named}
-use Rattle.flat_machine.specs.Agreement.{Agrees}
+use Rattle.flat_machine.specs.Agreement.{Agrees, ReadAsDisks}
 use Rattle.flat_machine.specs.Performing.{AllCan, AllPerformed}
 use Rattle.flat_machine.specs.Standing.{Stands, StandsAtRest}
 use Rattle.flat_machine.specs.Suiting.{AllSuit}
@@ -70,6 +72,7 @@ use Rattle.world_parts.proofs.Pushing.{comes-push}
 use Rattle.world_parts.proofs.Quiet.{undone}
 use Rattle.world_parts.proofs.Counted.{answer-counted}
 use Rattle.world_parts.proofs.JobsAnswered.{StartsNoJob, begins_not, answer_begun, answer_files, answer_goes, answer_unsure}
+use Rattle.world_parts.proofs.WholeDisks.{answer_granules, answer_whole}
 use Rattle.world_parts.proofs.Rises.{rises-entry}
 use Rattle.world_lines.proofs.CarryCalm.{marked_calm}
 use Rattle.world_lines.proofs.CarryWords.{IsTellable}
@@ -342,7 +345,8 @@ module _ (w u : WorldSeen) (c : Cmd) (refusal' : Option Refusal) (is : IsCarried
 
       -- ---- jobs
 
-      module _ (kept : AreJobsKept w.table w.works w.progress.aside) (going : ShowsJobs o w.progress.log.events s w) (rest : TableAtRest w.table) where
+      module _ (kept : AreJobsKept w.table w.works w.progress.aside) (going : ShowsJobs o w.progress.log.events s w) (rest : TableAtRest w.table)
+          (sizes : is_some u.files ≡ true → HaveRowSizes u.table (disk_of u.nodes)) where
         rest-s : TableAtRest s.table
         rest-s = subst TableAtRest (sym same-table) rest
 
@@ -364,6 +368,15 @@ module _ (w u : WorldSeen) (c : Cmd) (refusal' : Option Refusal) (is : IsCarried
         unsure-now =
             as-changes (λ cs. HeldAreUnsure (all_stepped s cs)) (answer_unsure s is.told c w.works w.progress.aside rest-s kept-s starts-s going.unsure)
 
+        abbrev Whole : List Change → Type 0
+        Whole cs = AllCan s cs → ReadAsDisks (all_stepped s cs) (contents_of u) → HaveRowSizes (all_stepped s cs).table (disk_of u.nodes) → DisksAreWhole (all_stepped s cs)
+
+        whole-now : DisksAreWhole now
+        whole-now =
+            as-changes Whole
+            (answer_whole s is.told c (contents_of u) rest-s kept-s.stand (λ none. (starts-s none).one) going.whole)
+            can-all agrees.disks (subst (λ (t : RunTable). HaveRowSizes t (disk_of u.nodes)) (sym table-now) (sizes (is.runs.told ∙ told)))
+
         abbrev Goes : List Change → Type 0
         Goes cs = AllPerformed s cs (contents_of w) (contents_of u) → AreJobsAhead (start o) w.progress.log.events s (disk_of w.nodes) w.works
             → AreJobsAhead (start o) w.progress.log.events (all_stepped s cs) (disk_of u.nodes) w.works
@@ -380,6 +393,7 @@ module _ (w u : WorldSeen) (c : Cmd) (refusal' : Option Refusal) (is : IsCarried
           begun = begun-now;
           files = files-now;
           unsure = unsure-now;
+          whole = whole-now;
           ahead = entries_leave (start o) now now w.progress.log.events (reply number) (disk_of u.nodes) u.works refl refl refl ahead-now;
         }
 
@@ -398,14 +412,16 @@ module _ (w u : WorldSeen) (c : Cmd) (refusal' : Option Refusal) (is : IsCarried
 
     -- ---- the whole
 
-    pub carried_comes : (is_some u.files ≡ true → ImagesAreSound u.table (held u)) → AreJobsKept u.table u.works u.progress.aside → (number : ℕ) (o : Opening) → IsNotDone (seen_state w) 0 → Comes o w
+    pub carried_comes : (is_some u.files ≡ true → ImagesAreSound u.table (held u)) → AreJobsKept u.table u.works u.progress.aside
+        → (is_some u.files ≡ true → HaveRowSizes u.table (disk_of u.nodes)) → (number : ℕ) (o : Opening) → IsNotDone (seen_state w) 0 → Comes o w
         → Comes o (with_history u (with_bare_entry (reply number)))
-    carried_comes sound kept number o not_done comes = comes-push o w (with_history u (with_bare_entry (reply number))) (reply number ∷ []) comes (record {
+    carried_comes sound kept sizes number o not_done comes = comes-push o w (with_history u (with_bare_entry (reply number))) (reply number ∷ []) comes (record {
       events = ap (λ (p : Progress). p.log.events ++ reply number ∷ []) is.progress;
       names = ap (λ (t : RunTable). t.guests) is.table ∙ (all_tables_keep (answer w.table is.told c).changes w.table (answer_plain w.table is.told c starts-by)).guests;
       told = is.runs.told;
       guests = ap (λ (p : Progress). p.guests) is.progress;
       table = (u.table, dirty_of u, answered-by, (refl, refl));
+      granules = granules-then comes.coherent.table comes.jobs;
       counted = λ was. (let first = is.runs.first in let now = is.runs.store in omega arith);
       coherent = λ was. coherent-same u.table u.nodes u.opened u.progress (is.coherent was) (with_bare_entry (reply number) u.progress) refl;
       jobs = λ was. kept;
@@ -418,11 +434,16 @@ module _ (w u : WorldSeen) (c : Cmd) (refusal' : Option Refusal) (is : IsCarried
             legal = (fits.0, tt);
             marks = (fits.1, tt);
             shows = fits.2;
-            going = going-behind o s told shows comes.jobs going comes.coherent.table number;
+            going = going-behind o s told shows comes.jobs going comes.coherent.table sizes number;
             names = ap (λ (p : Progress). p.jobs) is.progress ∙ sym (append-nil w.progress.jobs);
           };
     })
       where
+        granules-then : TableAtRest w.table → AreJobsKept w.table w.works w.progress.aside → GranulesStand w.table (dirty_of w) → GranulesStand u.table (dirty_of u)
+        granules-then rest was stand =
+            let behind = answer_granules w.table (dirty_of w) is.told c rest was.stand (λ none. (starts-by none).one) stand in
+            subst (GranulesStand u.table) (sym dirty) (subst (λ (t : RunTable). GranulesStand t (dirty_after w.table (dirty_of w) (answer w.table is.told c).changes)) (sym is.table) behind)
+
         kept-then : (number : ℕ) → AreRises (first_counts w) (counts_now w) (all_faults w.progress.log.events w.works)
             → AreRises (first_counts u) (counts_now u) (all_faults (w.progress.log.events ++ reply number ∷ []) u.works)
         kept-then number was =

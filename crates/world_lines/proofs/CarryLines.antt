@@ -21,6 +21,7 @@ use Rattle.flat_machine.specs.State.{State}
 use Rattle.flat_machine.specs.Legal.{Fits, IsNotDone}
 use Rattle.flat_machine.specs.Machine.{replay}
 use Rattle.flat_machine.specs.Opening.{start}
+use Rattle.job_commands.specs.Whole.{HaveRowSizes}
 use Rattle.job_progress.proofs.Entries.{entries_leave}
 use Rattle.flat_machine.specs.Marks.{IsCalm, after_later, after_reply, drained_by, reply_marks, snapshot_marks}
 use Rattle.flat_machine.specs.Replies.{is_accepted, command_read, replied, edits_by}
@@ -228,6 +229,7 @@ module _ (w : WorldSeen) (line : Given) (text : List ℕ) (why : Stop) (bad : co
     told = refl;
     guests = refl;
     table = (w.table, dirty_of w, answered-so, (refl, refl));
+    granules = λ was. was;
     counted = λ was. was;
     coherent = λ was. coherent-same w.table w.nodes w.opened w.progress was (with_bare_entry entry w.progress) refl;
     jobs = λ was. was;
@@ -248,6 +250,7 @@ module _ (w : WorldSeen) (line : Given) (text : List ℕ) (why : Stop) (bad : co
                 begun = going.begun;
                 files = going.files;
                 unsure = going.unsure;
+                whole = going.whole;
                 ahead = entries_leave (start o) s s w.progress.log.events entry (disk_of w.nodes) w.works refl refl refl going.ahead;
               });
           names = sym (append-nil w.progress.jobs);
@@ -410,11 +413,12 @@ module _ (w u : WorldSeen) (line : Given) (text : List ℕ) (c : Cmd) (good : co
       begins = inl (record { started = none_started; kept = refl });
     }
 
-    pub answered_comes : (is_some u.files ≡ true → ImagesAreSound u.table (held u)) → AreJobsKept u.table u.works u.progress.aside → (o : Opening) → IsNotDone (seen_state w) 0 → Comes o w
+    pub answered_comes : (is_some u.files ≡ true → ImagesAreSound u.table (held u)) → AreJobsKept u.table u.works u.progress.aside
+        → (is_some u.files ≡ true → HaveRowSizes u.table (disk_of u.nodes)) → (o : Opening) → IsNotDone (seen_state w) 0 → Comes o w
         → Comes o (lifted (with_history u (with_bare_entry (Reply line.number line.text (Some c) text))))
-    answered_comes sound kept o not_done comes =
+    answered_comes sound kept sizes o not_done comes =
         comes-drains o (with_history u (with_bare_entry (Reply line.number line.text (Some c) text))) (after_reply u.drains)
-        (carried_comes w u c is.refusal is.carried line.text text good is.said is.dirty starts sound kept line.number o not_done comes)
+        (carried_comes w u c is.refusal is.carried line.text text good is.said is.dirty starts sound kept sizes line.number o not_done comes)
 
 -- ---- what became of a line
 

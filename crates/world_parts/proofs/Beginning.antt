@@ -14,6 +14,8 @@ use Rattle.world_parts.specs.Comes.{Comes, ShowsState}
 use Rattle.world_parts.proofs.Coherence.{coherent-new, jobs-new}
 use Rattle.world_parts.proofs.Rises.{licensed-kept}
 use Rattle.world_parts.specs.Keeping.{AreRises}
+use Rattle.job_commands.proofs.Granules.{opening_granules}
+use Rattle.job_commands.proofs.WholeEntries.{opening_whole}
 use Rattle.job_ends.proofs.Held.{opening_held}
 use Rattle.job_entries.proofs.Found.{opening_begun}
 use Rattle.job_tables.proofs.TargetEvents.{opening_files}
@@ -50,6 +52,7 @@ module _ (store : StoreSeen) (guests : List (List ℕ)) (room : Room) (o : Openi
     counted = omega arith;
     requests = sym (guests-start guests) ∙ ap (map (λ name. new_guest)) is.guests_are;
     table = (ap opening_table is.guests_are, refl);
+    granules = opening_granules guests;
     coherent = coherent-new guests room;
     shows = λ told. shows-start told;
     sound = λ told node image. absurd (false≢true image);
@@ -60,6 +63,7 @@ module _ (store : StoreSeen) (guests : List (List ℕ)) (room : Room) (o : Openi
       files = opening_files (start o) refl;
       ahead = λ row work there. absurd (omega (arith, there.1));
       unsure = opening_held o;
+      whole = opening_whole o;
     };
     names = λ told. refl;
   }

@@ -148,7 +148,7 @@ owed_by_changes t changes (inr (inr bitmap)) =
 
 -- ---- accepted
 
-met_of : (t : RunTable) (told : Told) (c : Cmd) → refusal_to t told c ≡ None → IsMet t told c
+pub met_of : (t : RunTable) (told : Told) (c : Cmd) → refusal_to t told c ≡ None → IsMet t told c
 unfolding refusal_to
 met_of t told c none =
     let built = none-both (unbuilt c) _ none in
@@ -156,7 +156,7 @@ met_of t told c none =
     let both = none-both (first_unmet_ask t told (asks_of c)) (refusal_behind t told c) turn.1 in
     record { asks = both.0; behind = both.1 }
 
-own_edits : (t : RunTable) (told : Told) (c : Cmd) → IsOneCommand c → command_edits t told c ≡ edits_of t told c
+pub own_edits : (t : RunTable) (told : Told) (c : Cmd) → IsOneCommand c → command_edits t told c ≡ edits_of t told c
 own_edits t told (command.Transaction c) one = absurd one
 own_edits t told c one = refl
 
@@ -230,7 +230,7 @@ module _ (t : RunTable) (told : Told) (c : BlockdevCreate (List ℕ)) (cause : R
 -- ---- every answer
 
 -- so it is behind a creation of which a call failed
-abbrev AfterFailures : RunTable → Told → (List Change → Type 0) → Type 0
+abbrev pub AfterFailures : RunTable → Told → (List Change → Type 0) → Type 0
 AfterFailures t told P =
     (c : BlockdevCreate (List ℕ)) (cause : Refusal) → refusal_to t told (command.BlockdevCreate c) ≡ Some cause → place_of cause ≡ None → P (spoiled t c.options)
 
@@ -243,7 +243,7 @@ left_as t told P (command.BlockdevCreate c) nothing spoils cause some = nothing
 left_as t told P c nothing spoils cause some = nothing
 
 -- What is so behind accepted changes, and behind what a refusal leaves, is so behind the answer.
-answered_as : (t : RunTable) (told : Told) (c : Cmd) (P : List Change → Type 0) → (refusal_to t told c ≡ None → P (command_edits t told c)) → P []
+pub answered_as : (t : RunTable) (told : Told) (c : Cmd) (P : List Change → Type 0) → (refusal_to t told c ≡ None → P (command_edits t told c)) → P []
     → AfterFailures t told P → P (answer t told c).changes
 unfolding answer
 answered_as t told c P accepted nothing spoils = by_refusal (refusal_to t told c) refl

@@ -26,6 +26,7 @@ pub mod InStep
 pub mod InTheWayLemmas
 pub mod DrawnEdges
 pub mod JobsAnswered
+pub mod WholeDisks
 pub mod Judging
 pub mod Rises
 pub mod Pushing

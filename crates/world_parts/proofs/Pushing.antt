@@ -17,6 +17,7 @@ use Rattle.flat_machine.specs.Opening.{start, new_guest}
 use Rattle.flat_machine.specs.Comes.{IsHistoryOf, guest_step, job_line_of, jobs_from}
 use Rattle.flat_machine.specs.Imaging.{ImagesAreSound}
 use Rattle.flat_machine.specs.declared.opening.Opening.{Opening}
+use Rattle.job_commands.specs.Granules.{GranulesStand}
 use Rattle.world_parts.specs.Coherent.{AreJobsKept, IsCoherent}
 use Rattle.world_parts.specs.Face.{WorldSeen, dirty_of, first_counts, counts_now, held}
 use Rattle.world_parts.specs.Comes.{Comes, ShowsState}
@@ -68,6 +69,7 @@ pub record Pushes (o : Opening) (w v : WorldSeen) (es : List Event) : Type 0 whe
   pub told : is_some v.files ≡ is_some w.files
   pub guests : v.progress.guests ≡ run guest_step w.progress.guests es
   pub table : AreTablesBy w.progress.guests w.table (dirty_of w) es v.table (dirty_of v)
+  pub granules : GranulesStand w.table (dirty_of w) → GranulesStand v.table (dirty_of v)
   pub counted : w.first_faults ≤ w.faults → v.first_faults ≤ v.faults
   pub coherent : IsCoherent w.table w.nodes w.opened w.progress → IsCoherent v.table v.nodes v.opened v.progress
   pub jobs : AreJobsKept w.table w.works w.progress.aside → AreJobsKept v.table v.works v.progress.aside
@@ -89,6 +91,7 @@ comes-push o w v es comes pushes = record {
   table =
       rw pushes.events (tables-append (map (λ name. new_guest) o.guests) (opening_table o.guests) [] w.progress.log.events es w.table v.table (dirty_of w) (dirty_of v) comes.table
       (subst (λ (guests : List Guest). AreTablesBy guests w.table (dirty_of w) es v.table (dirty_of v)) comes.requests pushes.table));
+  granules = pushes.granules comes.granules;
   coherent = pushes.coherent comes.coherent;
   shows = λ told. shows (sym pushes.told ∙ told);
   sound = pushes.sound;
@@ -152,11 +155,12 @@ comes-drains o w drains is = record {
   counted = is.counted;
   requests = is.requests;
   table = is.table;
+  granules = is.granules;
   coherent = is.coherent;
   shows = λ told. shows-drains o (replay (start o) w.progress.log.events) w drains (is.shows told);
   sound = is.sound;
   jobs = is.jobs;
   kept = is.kept;
-  going = λ told. let was = is.going told in record { begun = was.begun; files = was.files; ahead = was.ahead; unsure = was.unsure };
+  going = λ told. let was = is.going told in record { begun = was.begun; files = was.files; ahead = was.ahead; unsure = was.unsure; whole = was.whole };
   names = is.names;
 }

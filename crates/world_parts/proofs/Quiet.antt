@@ -24,6 +24,7 @@ use Rattle.job_ends.proofs.Held.{other_held}
 use Rattle.job_entries.specs.Found.{leaves_jobs}
 use Rattle.job_entries.proofs.Found.{other_begun}
 use Rattle.job_progress.proofs.Entries.{entries_leave}
+use Rattle.job_commands.proofs.WholeEntries.{beside_whole}
 use Rattle.job_tables.specs.TargetFiles.{TargetFilesStand}
 use Rattle.flat_machine.specs.Standing.{StandsAtRest}
 use Rattle.flat_machine.proofs.Resting.{beside_rests}
@@ -104,6 +105,7 @@ quiet o w p e comes events guests table coherent aside is fits = comes-push o w 
   told = refl;
   guests = guests;
   table = (w.table, dirty_of w, table, (refl, refl));
+  granules = λ was. was;
   counted = λ was. was;
   coherent = coherent;
   jobs = λ was. subst (AreJobsKept w.table w.works) (sym aside.aside) was;
@@ -123,6 +125,7 @@ quiet o w p e comes events guests table coherent aside is fits = comes-push o w 
               entries_leave (start o) s (after s e) w.progress.log.events e (disk_of w.nodes) w.works (is.beside s).files.table (is.beside s).disks (is.beside s).begun
               going.ahead;
           unsure = other_held s e is.jobs going.unsure;
+          whole = beside_whole s (after s e) (is.beside s).files.table (is.beside s).disks going.whole;
         };
         names = aside.jobs ∙ sym (append-nil w.progress.jobs) ∙ ap (λ ns. w.progress.jobs ++ ns) (sym (is.lines s));
       };

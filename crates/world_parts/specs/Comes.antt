@@ -10,6 +10,7 @@ use Rattle.flat_machine.specs.Agreement.{Agrees}
 use Rattle.flat_machine.specs.Imaging.{ImagesAreSound, ShowsImages}
 use Rattle.flat_machine.specs.Standing.{StandsAtRest}
 use Rattle.flat_machine.specs.declared.opening.Opening.{Opening}
+use Rattle.job_commands.specs.Granules.{GranulesStand}
 use Rattle.world_parts.specs.Progress.{ended_in}
 use Rattle.world_parts.specs.Coherent.{IsCoherent, AreJobsKept}
 use Rattle.world_parts.specs.Face.{WorldSeen, contents_of, dirty_of, first_counts, counts_now, held}
@@ -46,7 +47,7 @@ pub record ShowsState (o : Opening) (s : State) (w : WorldSeen) : Type 0 where
 -- ---- the whole
 
 -- The guests are the opening's, their rows are what their own entries make of them, table and dirty granules are what the entries
--- make, the parts of the world belong together, the store's count hasn't fallen, and each fault that the history names or that a
+-- make, granules are as their nodes' disks have them, the parts of the world belong together, the store's count hasn't fallen, and each fault that the history names or that a
 -- job keeps is a rise of its own. Where the store tells its files, the history is one of that opening, what the world shows at this
 -- moment is what the flat machine comes to by it, the image in the file of each qcow2 node is sound, and jobs have their names and are
 -- as far as they are to be.
@@ -56,6 +57,7 @@ pub record Comes (o : Opening) (w : WorldSeen) : Type 0 where
   pub counted : w.first_faults ≤ w.faults
   pub requests : w.progress.guests ≡ guests_after o w.progress.log.events
   pub table : IsTableAfter o.guests w.progress.log.events w.table (dirty_of w)
+  pub granules : GranulesStand w.table (dirty_of w)
   pub coherent : IsCoherent w.table w.nodes w.opened w.progress
   pub shows : is_some w.files ≡ true → ShowsState o (replay (start o) w.progress.log.events) w
   pub sound : is_some w.files ≡ true → ImagesAreSound w.table (held w)

@@ -12,6 +12,7 @@ use Rattle.flat_machine.specs.Licence.{Counts, Differ, IsBetweenCounts, fault_at
 use Rattle.flat_machine.specs.Opening.{start}
 use Rattle.flat_machine.specs.State.{State}
 use Rattle.flat_machine.specs.declared.opening.Opening.{Opening}
+use Rattle.job_commands.specs.Whole.{DisksAreWhole}
 use Rattle.job_entries.specs.Found.{HaveBegun}
 use Rattle.job_ends.specs.Images.{HeldAreUnsure}
 use Rattle.job_progress.specs.Going.{AreJobsAhead}
@@ -39,10 +40,11 @@ all_faults h works = faults_of h ++ faults_kept works
 
 -- ---- where the store tells its files
 
--- what their starts found, the files that they write, how far they have come, and what isn't said of their images, by a state that
--- the entries lead to
+-- what their starts found, the files that they write, how far they have come, what isn't said of their images, and that disks are as
+-- long as rows say, by a state that the entries lead to
 pub record ShowsJobs (o : Opening) (h : List Event) (s : State) (w : WorldSeen) : Type 0 where
   pub begun : HaveBegun s
   pub files : TargetFilesStand s
   pub ahead : AreJobsAhead (start o) h s (disk_of w.nodes) w.works
   pub unsure : HeldAreUnsure s
+  pub whole : DisksAreWhole s

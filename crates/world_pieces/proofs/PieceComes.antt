@@ -64,6 +64,9 @@ use Rattle.job_progress.proofs.Entries.{entries_leave}
 use Rattle.job_progress.proofs.Pieces.{piece_goes}
 use Rattle.job_progress.specs.Going.{AreJobsAhead}
 use Rattle.job_progress.specs.Piecing.{CanPass, IsGuarded, marked_by}
+use Rattle.job_commands.specs.Granules.{GranulesStand}
+use Rattle.job_commands.proofs.WholeEntries.{beside_whole, piece_keeps_whole}
+use Rattle.world_parts.proofs.WholeDisks.{piece_granules}
 use Rattle.job_tables.proofs.TargetEvents.{piece_files}
 use Rattle.world_parts.proofs.CountsKept.{counts-same, hides-none, hides-stopped}
 use Rattle.world_parts.proofs.OverFiles.{over-row}
@@ -342,6 +345,9 @@ module _ (w v : WorldSeen) (g : ℕ) (f : Flight) (outcome : Outcome) (made : Is
             (ap (λ (t : RunTable). marked_by f.op outcome t (disk_node t made.drive) part w.works) t_is ∙ unmarked w.table w.works w.progress.aside kept f.op outcome node part ∙ sym works_kept) far in
             entries_leave (start o) now (after s entry) w.progress.log.events entry (disk_of v.nodes) v.works (ap (λ (x : State). x.table) is_now) (ap (λ (x : State). x.disks) is_now) (ap (λ (x : State). x.begun) is_now) same;
         unsure = other_held s entry refl going.unsure;
+        whole =
+            beside_whole now (after s entry) (ap (λ (x : State). x.table) is_now) (ap (λ (x : State). x.disks) is_now)
+            (piece_keeps_whole s made.drive f.op outcome part (rw (s_node, t_is) within) going.whole);
       }
 
   pub piece_comes : IsApartFromJobs w.table node f.op → (is_write f.op ≡ true → IsGuarded w.table w.works node part) → Unfolds w.nodes → DevicesTell w.files w.nodes.devices
@@ -365,6 +371,10 @@ module _ (w v : WorldSeen) (g : ℕ) (f : Flight) (outcome : Outcome) (made : Is
           },
           (refl, refl),
         );
+        granules = λ was.
+            subst (GranulesStand v.table) (sym (dirty_then bitmaps))
+            (subst (λ (t : RunTable). GranulesStand t (dirty_by f.op outcome part made.drive t (dirty_of w))) (sym table_kept)
+            (piece_granules w.table (dirty_of w) f.op node made.drive outcome part was));
         counted = λ least. subst (λ (x : WorldSeen). x.first_faults ≤ x.faults) (sym made.kept) least;
         coherent = λ coherent. piece_coherent;
         jobs = λ jobs. piece_jobs apart;

@@ -22,7 +22,7 @@ returns-in-Said-clause-comes g c =
     rw (c.note_reply.ensures, c.requires.copy) (λ o comes. answered_comes c.args.self.now c.carry.new.self
     (given_line c.args.line c.args.given.now) (string_bytes c.in-Said.text) (seen_command c.args.command) c.requires.read said
     (starts_no_job c.args.self.now.table said.carried.told (seen_command c.args.command) said.refusal c.requires.other said.carried.answered)
-    c.images_are_sound.ensures.sound c.images_are_sound.ensures.kept o c.requires.open comes)
+    c.images_are_sound.ensures.sound c.images_are_sound.ensures.kept c.images_are_sound.ensures.sizes o c.requires.open comes)
 
 pub returns-in-Later-clause-done : goal.returns-in-Later-clause-done
 returns-in-Later-clause-done g c =
