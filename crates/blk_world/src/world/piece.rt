@@ -103,13 +103,7 @@ impl<S: Store> World<S> {
         };
         let node = self.names.disk_node(drive);
         let written = next_written(&self.progress, guest);
-        guard_written(
-            &mut self.works,
-            &mut self.nodes,
-            &self.names,
-            node,
-            written,
-        );
+        guard_written(&mut self.works, &mut self.nodes, &self.names, node, written);
         let _ = self.nodes.edges();
     }
 
