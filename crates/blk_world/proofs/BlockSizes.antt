@@ -1,5 +1,5 @@
 -- How long the disk is that a block is copied of.
-use Rattle.std.proofs.Common.{◌≡◌, ℕ, refl, sym, ◌∙◌, ap, subst, Option, Some, None}
+use Rattle.std.proofs.Common.{◌≡◌, ℕ, sym, ◌∙◌, ap, Some}
 use Rattle.std.specs.Prelude.{option_map}
 use Rattle.blk_nodes.specs.Joined.{IsJoined}
 use Rattle.blk_nodes.specs.Nodes.{node_size}

@@ -1,5 +1,5 @@
 -- What is left of a block is copied for the backup of its disk before a guest's piece is written there.
-use Rattle.std.proofs.Common.{◌≡◌, ℕ, ◌+◌, ◌/◌, ◌<◌, ◌≤◌, Bool, true, false, List, refl, sym, ◌∙◌, ap, subst, arith, Option, Some, None}
+use Rattle.std.proofs.Common.{◌≡◌, ℕ, ◌/◌, ◌<◌, ◌≤◌, true, List, refl, sym, ◌∙◌, ap, subst, arith, Option, Some, None}
 use Rattle.std.specs.Prelude.{Contains, IfSome, IsSome}
 use Rattle.std.proofs.lemmas.Bool.{eqb-true, eq-eqb, false≢true}
 use Rattle.blk_base.specs.Pieces.{Extent, end_of}
@@ -10,7 +10,7 @@ use Rattle.blk_history.specs.Fold.{With}
 use Rattle.blk_history.specs.Machine.{Flight}
 use Rattle.blk_nodes.specs.Joined.{IsJoined}
 use Rattle.blk_nodes.specs.Nodes.{AreTold, Nodes}
-use Rattle.block_jobs.specs.Work.{JobWork, block_count}
+use Rattle.block_jobs.specs.Work.{JobWork}
 use Rattle.flat_machine.specs.State.{drive_of}
 use Rattle.flat_machine.specs.declared.opening.Opening.{Opening}
 use Rattle.flat_machine.proofs.Wired.{with_at}
@@ -36,8 +36,8 @@ use Rattle.world_parts.specs.Comes.{Comes}
 use Rattle.world_parts.specs.Face.{WorldSeen}
 use Rattle.world_parts.specs.Jobs.{GuardsBlock}
 use Rattle.world_parts.specs.Piecing.{part_of}
-use Rattle.world_parts.specs.Progress.{HasNext, Progress, flight_at}
-use Rattle.world_parts.proofs.CountLemmas.{HoldsThere, there}
+use Rattle.world_parts.specs.Progress.{HasNext, flight_at}
+use Rattle.world_parts.proofs.CountLemmas.{there}
 use Rattle.world_pieces.specs.Pieces.{IsGuardedPiece, written_in}
 use Rattle.world_pieces.proofs.PieceGuards.{done_for_backup}
 use Rattle.world_pieces.proofs.PieceReady.{part_within}

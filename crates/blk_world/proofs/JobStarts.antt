@@ -1,8 +1,7 @@
 -- Lines that start backups, as the calls leave them.
-use Rattle.std.proofs.Common.{◌≡◌, ℕ, ◌≤◌, ◌<◌, ◌^◌, ◌++◌, length, List, [], ◌∷◌, Bool, true, false, Ok, Option, Some, None, refl, sym, ◌∙◌, ap, subst}
-use Rattle.std.specs.Prelude.{IsSome, OnErr, Result, String, string_bytes}
+use Rattle.std.proofs.Common.{◌≡◌, ℕ, ◌≤◌, ◌<◌, ◌^◌, ◌++◌, length, List, [], ◌∷◌, Ok, Option, Some, None, refl, sym, ◌∙◌, ap, subst}
+use Rattle.std.specs.Prelude.{OnErr, Result, String, string_bytes}
 use Rattle.std.specs.declared.alloc.Global.{Global}
-use Rattle.std.proofs.lemmas.Bool.{false≢true}
 use Rattle.blk_bitmaps.specs.declared.row.Bitmap.{Bitmap}
 use Rattle.blk_history.specs.declared.event.Event.{Event}
 use Rattle.blk_history.specs.declared.event.Event.TheVariants.{Reply}
@@ -30,9 +29,9 @@ use Rattle.world_goings.proofs.CanCopy.{can_copy_whole}
 use Rattle.world_goings.proofs.StartWorld.{size_same}
 use Rattle.world_jobs.specs.Beginning.{BegunJob, bitmaps_after}
 use Rattle.world_jobs.specs.Started.{IsStartIn, begun_world, replied_world, start_reply}
-use Rattle.world_jobs.specs.Starting.{IsStartOf, IsStarted, StartScene, is_start, start_scene}
+use Rattle.world_jobs.specs.Starting.{IsStartOf, IsStarted, StartScene, start_scene}
 use Rattle.world_jobs.specs.declared.start.Started.{Started}
-use Rattle.world_jobs.specs.declared.start.Started.TheVariants.{Refused, Later, Begun}
+use Rattle.world_jobs.specs.declared.start.Started.TheVariants.{Refused, Later}
 use Rattle.world_jobs.proofs.StartBegun.{begins_so}
 use Rattle.world_jobs.proofs.StartCarried.{started_in}
 use Rattle.world_jobs.proofs.StartLines.{begun_answers, begun_comes, refused_answers, refused_comes}
@@ -59,16 +58,6 @@ pub reply_is : (line : ℕ) (copy given : List ℕ) (command : MadeCommand) (b :
     → Reply line copy (Some (seen_command command)) text ≡ start_reply (given_line line given) (seen_backup b) text
 reply_is line copy given command b text same is =
     ap (λ (x : List ℕ). Reply line x (Some (seen_command command)) text) same ∙ ap (λ (x : MadeCommand). Reply line given (Some (seen_command x)) text) is
-
--- ---- which commands start one
-
-pub start_there : (c : MadeCommand) → ((b : Backup (String Global)) → c ≡ BlockdevBackup b → ⊥) → is_start (seen_command c) ≡ true → ⊥
-start_there (BlockdevBackup b) other is = other b refl
-start_there _ other is = false≢true is
-
-pub no_start : (c : MadeCommand) → ((b : Backup (String Global)) → c ≡ BlockdevBackup b → ⊥) → is_start (seen_command c) ≡ false
-no_start (BlockdevBackup b) other = absurd (other b refl)
-no_start _ other = refl
 
 -- ---- the work of a job that begins
 

@@ -1,5 +1,5 @@
 -- Turns of a world's jobs, as the calls leave them.
-use Rattle.std.proofs.Common.{◌≡◌, ℕ, Bool, List, Option, Some, None, refl, sym, subst, ap, ◌∙◌}
+use Rattle.std.proofs.Common.{◌≡◌, ℕ, Bool, List, Some, refl, sym, subst}
 use Rattle.std.specs.Prelude.{◌↔◌, Contains, IsSome, IsTrue}
 use Rattle.blk_bitmaps.specs.declared.row.Bitmap.{Bitmap}
 use Rattle.blk_history.specs.Fold.{With}
@@ -18,7 +18,7 @@ use Rattle.qmp_rules.specs.Table.{RunTable, job_at, job_in}
 use Rattle.qmp_rules.specs.declared.rows.JobRecord.{JobRecord}
 use Rattle.world_copies.proofs.JobSteps.{in_slot}
 use Rattle.world_goings.proofs.Ends.{ends_comes}
-use Rattle.world_jobs.specs.Ending.{CanBeEnded, HasPulled, IsBehindEnd, ended_table, offset_by}
+use Rattle.world_jobs.specs.Ending.{CanBeEnded, HasPulled, ended_table, offset_by}
 use Rattle.world_jobs.specs.Turning.{EndsInTurn, HasTurn, IsTurned, IsTurnOf}
 use Rattle.world_jobs.specs.declared.turned.Turn.{Turn}
 use Rattle.world_jobs.specs.declared.turned.Turn.TheVariants as turn

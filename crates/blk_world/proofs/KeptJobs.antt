@@ -1,5 +1,5 @@
 -- Commands that start no job: jobs are kept behind them.
-use Rattle.std.proofs.Common.{◌≡◌, true, false, List, [], Some, None, Ok, Err, refl, sym, ◌∙◌, ap, subst}
+use Rattle.std.proofs.Common.{◌≡◌, true, false, Some, None, Ok, Err, refl, sym, ◌∙◌, subst}
 use Rattle.std.specs.Prelude.{Option, Result, OnOk, OnErr}
 use Rattle.qmp_asks.specs.CommandAsks.{is_built}
 use Rattle.qmp_codec.specs.Commands.{Cmd}

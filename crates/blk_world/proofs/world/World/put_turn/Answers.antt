@@ -1,4 +1,4 @@
-use Rattle.std.proofs.Common.{◌≡◌, Some, refl, sym, ◌∙◌, ap}
+use Rattle.std.proofs.Common.{◌≡◌, Some, refl, sym}
 use Rattle.qmp_rules.specs.Table.{job_in}
 use Rattle.world_jobs.specs.declared.turned.Turn.TheVariants as turn
 use Rattle.world_parts.specs.Face.{WorldSeen, face_of}
