@@ -54,7 +54,7 @@ backup_named t told c none =
 -- ---- a line that is no command
 
 nothing_changed : (t : RunTable) (first : Option Refusal)
-    → all_changed t (elim first as (λ _. Answer) [ | None ↦ accepted [] (object no_members) | Some cause ↦ refused_so [] cause ]).changes ≡ t
+    → all_changed t (elim first as (λ _. Answer) [ None ↦ accepted [] (object no_members) | Some cause ↦ refused_so [] cause ]).changes ≡ t
 nothing_changed t None = refl
 nothing_changed t (Some cause) = refl
 

@@ -1,4 +1,3 @@
-use Rattle.std.proofs.Common.{sym, ◌∙◌}
 use Rattle.qblk_run.proofs.Blocks.{both-done, none-read, settled-in, took-in}
 use Rattle.qblk_run.proofs.Worlds.{come-settled, come-taken}
 use Rattle.qblk_run.proofs.slot_turn.copy_block.Goals as goal
