@@ -1,0 +1,5 @@
+pub mod Rows
+pub mod Entries
+pub mod Starts
+pub mod Ends
+pub mod Results
