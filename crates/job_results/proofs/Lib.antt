@@ -3,3 +3,4 @@ pub mod Entries
 pub mod Starts
 pub mod Ends
 pub mod Results
+pub mod Finished

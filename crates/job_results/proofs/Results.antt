@@ -2,7 +2,7 @@
 use Rattle.std.proofs.Common.{◌≡◌, ◌≢◌, ℕ, true, false, List, [], ◌∷◌, ◌++◌, refl, sym, ◌∙◌, ap, subst, Option, Some, None}
 use Rattle.std.specs.Prelude.{if◌then◌else◌}
 use Rattle.std.specs.List.{Contains}
-use Rattle.blk_history.specs.Fold.{With}
+use Rattle.blk_history.specs.Fold.{Each, With}
 use Rattle.blk_history.specs.declared.entry.JobEnd.{JobEnd}
 use Rattle.blk_history.specs.declared.entry.JobEnd.TheVariants.{Completed, Pivoted, Copied, Failed, Cancelled}
 use Rattle.blk_history.specs.declared.event.Event.{Event}
@@ -30,10 +30,10 @@ use Rattle.job_results.proofs.Ends.{backup_none, backup_shown, mirror_shown, non
 use Rattle.job_results.proofs.Starts.{end_known, one_place}
 use Rattle.job_results.proofs.Rows.{found_number, found_there}
 
--- both parts of a legal history are legal
-legal_parts : (a b : List Event) (s : State) → Legal s (a ++ b) → Legal s a × Legal (replay s a) b
-legal_parts [] b s legal = (tt, legal)
-legal_parts (e ∷ a) b s legal = let rest = legal_parts a b (after s e) legal.1 in ((legal.0, rest.0), rest.1)
+-- what holds of each entry holds of each of both parts
+pub each_parts : (P : State → Event → Type 0) (a b : List Event) (s : State) → Each after P s (a ++ b) → Each after P s a × Each after P (replay s a) b
+each_parts P [] b s all = (tt, all)
+each_parts P (e ∷ a) b s all = let rest = each_parts P a b (after s e) all.1 in ((all.0, rest.0), rest.1)
 
 pub began : (o : Opening) (h : List Event) (number : ℕ) (row : JobRecord) (why : JobEnd) (offset : ℕ) → EndsNext o h number row why offset
     → StartOf (start o) h number row
@@ -42,7 +42,7 @@ began o h number row why offset ends = (end_known o h number row why offset ends
 pub each_end : (o : Opening) (before behind : List Event) (number : ℕ) (why : JobEnd) (offset : ℕ) → Legal (start o) (before ++ End number why offset ∷ behind)
     → With (job_at (replay (start o) before).table number) (λ row. EndsNext o before number row why offset)
 each_end o before behind number why offset legal =
-    let parts = legal_parts before (End number why offset ∷ behind) (start o) legal in
+    let parts = each_parts Fits before (End number why offset ∷ behind) (start o) legal in
     by_row (job_at (replay (start o) before).table number) refl (parts.0, parts.1.0)
   where
     by_row : (found : Option JobRecord) → job_at (replay (start o) before).table number ≡ found
@@ -57,7 +57,7 @@ once first h number row a b legal =
 
 -- ---- an end, by the job's row
 
-ended_at : (s : State) (number : ℕ) (row : JobRecord) (why : JobEnd) → job_at s.table number ≡ Some row → noted_end s row why ≡ ended s (job_at s.table number) why
+pub ended_at : (s : State) (number : ℕ) (row : JobRecord) (why : JobEnd) → job_at s.table number ≡ Some row → noted_end s row why ≡ ended s (job_at s.table number) why
 ended_at s number row why at = ap (λ found. ended s found why) (sym at)
 
 -- ---- backups

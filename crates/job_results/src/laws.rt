@@ -20,7 +20,16 @@ ghost use Rattle.flat_machine.specs.declared.opening.Opening.{Opening};
 ghost use Rattle.job_tables.specs.Jobs.{JobsStand};
 ghost use Rattle.job_tables.specs.Running.{JobsRun};
 ghost use Rattle.job_results.specs.Disks.{SettlesNone, ShowsCopy, ShowsDisk, ShowsStart};
+ghost use Rattle.job_results.specs.Finished.{CopiesAreShown, StandAtEnds};
 ghost use Rattle.job_results.specs.Starts.{EndsNext, StartOf};
+
+/// In a legal history, where jobs stand right before each end: a backup that completed leaves its target the flat disk that its source had
+/// at the backup's start, and by a bitmap what that made of both disks as they were then; a mirror that ended without error leaves its
+/// target the flat disk of its source right before; and no other end changes a disk, or gives a node one.
+pub fn finished_copies_are_shown()
+    ensures { (o : Opening) (h : List Event) → Legal (start o) h → StandAtEnds o h
+        → CopiesAreShown o h }
+{}
 
 /// Each end in a legal history is that of a job of the table there. The job's start stands before it, once, and the job has the same
 /// source, target and bitmap at both.
