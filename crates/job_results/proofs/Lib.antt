@@ -4,3 +4,5 @@ pub mod Starts
 pub mod Ends
 pub mod Results
 pub mod Finished
+pub mod Replied
+pub mod Once

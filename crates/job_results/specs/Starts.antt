@@ -1,8 +1,9 @@
 -- Where a job began in a history, and where it is to end.
-use Rattle.std.specs.Prelude.{◌≡◌, ◌++◌, ◌∷◌, ℕ, List, Some}
+use Rattle.std.specs.Prelude.{◌≡◌, ◌++◌, [], ◌∷◌, ℕ, List, Option, Some}
 use Rattle.blk_history.specs.declared.entry.JobEnd.{JobEnd}
 use Rattle.blk_history.specs.declared.event.Event.{Event}
-use Rattle.blk_history.specs.declared.event.Event.TheVariants.{Start, End}
+use Rattle.blk_history.specs.declared.event.Event.TheVariants.{Reply, Start, End}
+use Rattle.qmp_codec.specs.Commands.{Cmd}
 use Rattle.qmp_rules.specs.declared.rows.JobRecord.{JobRecord}
 use Rattle.qmp_rules.specs.Table.{job_at}
 use Rattle.flat_machine.specs.Legal.{Fits, Legal}
@@ -28,6 +29,26 @@ pub record StartOf (first : State) (h : List Event) (number : ℕ) (row : JobRec
   pub was : JobRecord
   pub found : job_at (replay first before).table number ≡ Some was
   pub same : IsOneJob was row
+
+-- starts, and nothing else
+abbrev pub IsStart : Event → Type 0
+IsStart (Start job) = Unit {0}
+IsStart e = ⊥
+
+abbrev pub AreStarts : List Event → Type 0
+AreStarts [] = Unit {0}
+AreStarts (e ∷ es) = IsStart e × AreStarts es
+
+-- The history ends with a reply, and what starts stand behind it.
+pub record EndsByReply (h : List Event) : Type 0 where
+  pub earlier : List Event
+  pub line : ℕ
+  pub given : List ℕ
+  pub command : Option Cmd
+  pub text : List ℕ
+  pub starts : List Event
+  pub place : h ≡ earlier ++ Reply line given command text ∷ starts
+  pub only : AreStarts starts
 
 -- behind a legal history the end of the job of this number, whose row is `row`, is an entry that fits
 pub record EndsNext (o : Opening) (h : List Event) (number : ℕ) (row : JobRecord) (why : JobEnd)

@@ -20,8 +20,8 @@ ghost use Rattle.flat_machine.specs.declared.opening.Opening.{Opening};
 ghost use Rattle.job_tables.specs.Jobs.{JobsStand};
 ghost use Rattle.job_tables.specs.Running.{JobsRun};
 ghost use Rattle.job_results.specs.Disks.{SettlesNone, ShowsCopy, ShowsDisk, ShowsStart};
-ghost use Rattle.job_results.specs.Finished.{CopiesAreShown, StandAtEnds};
-ghost use Rattle.job_results.specs.Starts.{EndsNext, StartOf};
+ghost use Rattle.job_results.specs.Finished.{CopiesAreShown, EndIn, StandAtEnds};
+ghost use Rattle.job_results.specs.Starts.{AreStarts, EndsByReply, EndsNext, StartOf};
 
 /// In a legal history, where jobs stand right before each end: a backup that completed leaves its target the flat disk that its source had
 /// at the backup's start, and by a bitmap what that made of both disks as they were then; a mirror that ended without error leaves its
@@ -31,8 +31,8 @@ pub fn finished_copies_are_shown()
         → CopiesAreShown o h }
 {}
 
-/// Each end in a legal history is that of a job of the table there. The job's start stands before it, once, and the job has the same
-/// source, target and bitmap at both.
+/// Each end in a legal history is that of a job of the table there, which ends once. The job's start stands before it, once, and the
+/// job has the same source, target and bitmap at both.
 pub fn jobs_that_end_began()
     ensures ends { (o : Opening) (before behind : List Event) (number : ℕ) (why : JobEnd)
         (offset : ℕ) → Legal (start o) (before ++ End number why offset ∷ behind)
@@ -42,6 +42,17 @@ pub fn jobs_that_end_began()
         (offset : ℕ) → EndsNext o h number row why offset → StartOf (start o) h number row }
     ensures once { (first : State) (h : List Event) (number : ℕ) (row : JobRecord)
         (a b : StartOf first h number row) → Legal first h → a.before ≡ b.before }
+    ensures ends_once { (o : Opening) (h : List Event) (e f : EndIn o h) → Legal (start o) h
+        → e.number ≡ f.number → e.before ≡ f.before }
+{}
+
+/// A job's start stands behind the reply to a command, with none but starts between, and those leave each disk: so what it finds is what
+/// is so right behind the reply.
+pub fn starts_follow_a_reply()
+    ensures follows { (o : Opening) (h : List Event) (number : ℕ) (row : JobRecord)
+        (a : StartOf (start o) h number row) → Legal (start o) h → EndsByReply a.before }
+    ensures disks { (es : List Event) (s : State) (node : ℕ) → AreStarts es
+        → bytes_at_node (replay s es) node ≡ bytes_at_node s node }
 {}
 
 /// From the end of a backup that completed its target shows the disk that its source had at its start. Where it copied by a bitmap,

@@ -1,3 +1,4 @@
+use Rattle.job_results.proofs.Once.{ends_once}
 use Rattle.job_results.proofs.Results.{began, each_end, once}
 use Rattle.job_results.proofs.laws.jobs_that_end_began.Goals as goal
 
@@ -9,3 +10,6 @@ returns-clause-began c = began
 
 pub returns-clause-once : goal.returns-clause-once
 returns-clause-once c = once
+
+pub returns-clause-ends_once : goal.returns-clause-ends_once
+returns-clause-ends_once c = ends_once
