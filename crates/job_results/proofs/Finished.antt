@@ -1,5 +1,5 @@
 -- In a legal history where jobs stand at their ends, finished backups and mirrors show what they are to.
-use Rattle.std.proofs.Common.{◌≡◌, ℕ, true, false, List, ◌∷◌, sym, ◌∙◌, ap, subst, Some, None}
+use Rattle.std.proofs.Common.{◌≡◌, ℕ, true, false, List, [], ◌∷◌, ◌++◌, sym, ◌∙◌, ap, subst, Some, None}
 use Rattle.blk_history.specs.Fold.{Each, With}
 use Rattle.blk_history.specs.declared.entry.JobEnd.TheVariants.{Completed}
 use Rattle.blk_history.specs.declared.event.Event.{Event}
@@ -12,13 +12,13 @@ use Rattle.qmp_rules.specs.Table.{node_by_id}
 use Rattle.qmp_rules.specs.declared.rows.NodeRecord.{NodeRecord}
 use Rattle.flat_machine.specs.Jobs.{copied_to, is_success}
 use Rattle.flat_machine.specs.Legal.{Fits, Legal}
-use Rattle.flat_machine.specs.Machine.{after}
+use Rattle.flat_machine.specs.Machine.{after, replay}
 use Rattle.flat_machine.specs.Opening.{start}
 use Rattle.flat_machine.specs.State.{State, bytes_at_node, flat_disk_of}
 use Rattle.flat_machine.specs.declared.opening.Opening.{Opening}
 use Rattle.job_tables.specs.Jobs.{JobsStand}
 use Rattle.job_results.specs.Disks.{SettlesNone, ShowsCopy, ShowsDisk, ShowsStart}
-use Rattle.job_results.specs.Finished.{CopiesAreShown, EndIn, HasCopyOfStart, HasDiskOfStart, StandAtEnds, StandsAtEnd, before_end, behind_end}
+use Rattle.job_results.specs.Finished.{AreNoEnds, CopiesAreShown, EndIn, EndsFirst, HasCopyOfStart, HasDiskOfStart, IsNoEnd, StandAtEnds, StandsAtEnd, before_end, behind_end}
 use Rattle.job_results.specs.Starts.{EndsNext}
 use Rattle.job_results.proofs.Ends.{target_stays}
 use Rattle.job_results.proofs.Results.{by_bitmap, each_parts, ended_at, failed, mirrors, onto_none, target_flat, whole}
@@ -80,3 +80,31 @@ copies_shown o h legal stand = record {
   mirrors = λ e target. mirror_end o h legal stand e target;
   others = λ e fails. failed (before_end o h e) e.number e.why e.offset fails;
 }
+
+-- ---- jobs that stand at ends
+
+pub stand_beginning : (o : Opening) → StandAtEnds o []
+stand_beginning o = tt
+
+each_append : (P : State → Event → Type 0) (a b : List Event) (s : State) → Each after P s a → Each after P (replay s a) b → Each after P s (a ++ b)
+each_append P [] b s first rest = rest
+each_append P (e ∷ a) b s first rest = (first.0, each_append P a b (after s e) first.1 rest)
+
+no_end_stands : (s : State) (e : Event) → IsNoEnd e → StandsAtEnd s e
+no_end_stands s (End number why offset) none = absurd none
+no_end_stands s e none = tt
+
+no_ends_stand : (es : List Event) (s : State) → AreNoEnds es → Each after StandsAtEnd s es
+no_ends_stand [] s none = tt
+no_ends_stand (e ∷ es) s none = (no_end_stands s e none.0, no_ends_stand es (after s e) none.1)
+
+stands_at : (s : State) (e : Event) → JobsStand s.table → StandsAtEnd s e
+stands_at s (End number why offset) stand = stand
+stands_at s e stand = tt
+
+first_stands : (es : List Event) (s : State) → JobsStand s.table → EndsFirst es → Each after StandsAtEnd s es
+first_stands [] s stand first = tt
+first_stands (e ∷ es) s stand first = (stands_at s e stand, no_ends_stand es (after s e) first)
+
+pub stand_on : (o : Opening) (h es : List Event) → StandAtEnds o h → JobsStand (replay (start o) h).table → EndsFirst es → StandAtEnds o (h ++ es)
+stand_on o h es all stand first = each_append StandsAtEnd h es (start o) all (first_stands es (replay (start o) h) stand first)

@@ -1,5 +1,5 @@
 -- What the finished backups and mirrors of a history show.
-use Rattle.std.specs.Prelude.{◌≡◌, ◌++◌, ◌∷◌, ℕ, true, false, List, Some, None}
+use Rattle.std.specs.Prelude.{◌≡◌, ◌++◌, [], ◌∷◌, ℕ, true, false, List, Some, None}
 use Rattle.blk_history.specs.Fold.{Each}
 use Rattle.blk_history.specs.declared.entry.JobEnd.{JobEnd}
 use Rattle.blk_history.specs.declared.entry.JobEnd.TheVariants.{Completed}
@@ -45,6 +45,19 @@ StandsAtEnd s e = Unit {0}
 
 abbrev pub StandAtEnds : Opening → List Event → Type 0
 StandAtEnds o h = Each after StandsAtEnd (start o) h
+
+-- at most the first of these entries is an end
+abbrev pub IsNoEnd : Event → Type 0
+IsNoEnd (End number why offset) = ⊥
+IsNoEnd e = Unit {0}
+
+abbrev pub AreNoEnds : List Event → Type 0
+AreNoEnds [] = Unit {0}
+AreNoEnds (e ∷ es) = IsNoEnd e × AreNoEnds es
+
+abbrev pub EndsFirst : List Event → Type 0
+EndsFirst [] = Unit {0}
+EndsFirst (e ∷ es) = AreNoEnds es
 
 -- ---- what they show
 

@@ -1,5 +1,5 @@
 //! Laws of what jobs leave of disks, each the contract of a function that does nothing.
-ghost use Rattle.std.specs.Prelude.{◌≡◌, ◌≢◌, ℕ, true, false, List, ◌∷◌, ◌++◌, Contains, Some, None};
+ghost use Rattle.std.specs.Prelude.{◌≡◌, ◌≢◌, ℕ, true, false, List, [], ◌∷◌, ◌++◌, Contains, Some, None};
 ghost use Rattle.blk_history.specs.Fold.{With};
 ghost use Rattle.blk_history.specs.declared.entry.JobEnd.{JobEnd};
 ghost use Rattle.blk_history.specs.declared.entry.JobEnd.TheVariants.{Completed};
@@ -20,7 +20,7 @@ ghost use Rattle.flat_machine.specs.declared.opening.Opening.{Opening};
 ghost use Rattle.job_tables.specs.Jobs.{JobsStand};
 ghost use Rattle.job_tables.specs.Running.{JobsRun};
 ghost use Rattle.job_results.specs.Disks.{SettlesNone, ShowsCopy, ShowsDisk, ShowsStart};
-ghost use Rattle.job_results.specs.Finished.{CopiesAreShown, EndIn, StandAtEnds};
+ghost use Rattle.job_results.specs.Finished.{CopiesAreShown, EndIn, EndsFirst, StandAtEnds};
 ghost use Rattle.job_results.specs.Starts.{AreStarts, EndsByReply, EndsNext, StartOf};
 
 /// In a legal history, where jobs stand right before each end: a backup that completed leaves its target the flat disk that its source had
@@ -29,6 +29,14 @@ ghost use Rattle.job_results.specs.Starts.{AreStarts, EndsByReply, EndsNext, Sta
 pub fn finished_copies_are_shown()
     ensures { (o : Opening) (h : List Event) → Legal (start o) h → StandAtEnds o h
         → CopiesAreShown o h }
+{}
+
+/// Jobs stand right before each end of a history with more entries, where they do in the history, jobs stand behind it, and none but the
+/// first of the new ones is an end: so it is kept entry by entry.
+pub fn jobs_stand_at_ends()
+    ensures beginning { (o : Opening) → StandAtEnds o [] }
+    ensures more { (o : Opening) (h es : List Event) → StandAtEnds o h
+        → JobsStand (replay (start o) h).table → EndsFirst es → StandAtEnds o (h ++ es) }
 {}
 
 /// Each end in a legal history is that of a job of the table there, which ends once. The job's start stands before it, once, and the
