@@ -96,7 +96,7 @@ abbrev pub BackupsOntoNoneShowNothing : Opening → List Event → Type 0
 BackupsOntoNoneShowNothing o h = (e : EndIn o h) → e.why ≡ Completed → e.row.kind ≡ Backup
     → settles_target e.row.bitmap ≡ false → SettlesNone (before_end o h e) (behind_end o h e)
 
--- neither does an end that isn't without error
+-- neither does an end without success
 abbrev pub OthersShowNothing : Opening → List Event → Type 0
 OthersShowNothing o h = (e : EndIn o h) → is_success e.why ≡ false
     → SettlesNone (before_end o h e) (behind_end o h e)

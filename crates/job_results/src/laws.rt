@@ -25,7 +25,7 @@ ghost use Rattle.job_results.specs.Starts.{AreStarts, EndsByReply, EndsNext, Sta
 
 /// In a legal history, where jobs stand right before each end: a backup that completed leaves its target the flat disk that its source had
 /// at the backup's start, and by a bitmap what that made of both disks as they were then; a mirror that ended without error leaves its
-/// target the flat disk of its source right before; and no other end changes a disk, or gives a node one.
+/// target the flat disk of its source right before; and an end without success changes no disk, and gives no node one.
 pub fn finished_copies_are_shown()
     ensures { (o : Opening) (h : List Event) → Legal (start o) h → StandAtEnds o h
         → CopiesAreShown o h }
