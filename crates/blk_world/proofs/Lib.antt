@@ -1,4 +1,7 @@
 pub mod CarryBack
 pub mod KeptJobs
-pub mod JobSteps
 pub mod BlockSizes
+pub mod JobCopies
+pub mod JobTurns
+pub mod PieceBlocks
+pub mod JobGuards

@@ -1,21 +1,30 @@
 -- A guest's piece, before which what is left of its block is copied for the backup of its disk.
-use Rattle.std.specs.Prelude.{◌≡◌, ℕ, Option, Some, None}
+use Rattle.std.specs.Prelude.{◌≡◌, ℕ, List, Option, Some, None}
 use Rattle.blk_base.specs.Pieces.{Extent}
 use Rattle.blk_base.specs.declared.fault.Outcome.{Outcome}
 use Rattle.blk_history.specs.Fold.{With}
 use Rattle.blk_history.specs.Machine.{Flight}
-use Rattle.block_jobs.specs.Work.{block_at}
+use Rattle.blk_nodes.specs.Nodes.{Nodes}
+use Rattle.block_jobs.specs.Work.{JobWork, block_at}
 use Rattle.flat_machine.specs.State.{drive_of}
 use Rattle.qmp_rules.specs.Chains.{disk_node}
+use Rattle.qmp_rules.specs.Table.{RunTable}
 use Rattle.qmp_rules.specs.declared.rows.JobRecord.{JobRecord}
 use Rattle.trace_codec.specs.declared.op.Op.{Op}
 use Rattle.trace_codec.specs.declared.op.Op.TheVariants.{Write, Zero}
-use Rattle.world_jobs.specs.Guarding.{backup_of}
+use Rattle.world_jobs.specs.Guarding.{IsGuardedBy, backup_of}
 use Rattle.world_parts.specs.Face.{WorldSeen}
 use Rattle.world_parts.specs.Jobs.{GuardsBlock}
 use Rattle.world_parts.specs.Piecing.{part_of}
 use Rattle.world_parts.specs.Progress.{flight_at}
 use Rattle.world_pieces.specs.Pieces.{HasPieceLicence, IsPieceMade}
+
+-- for the backup of a node, before a part is written there
+abbrev pub GuardsWritten : Option Extent → RunTable → ℕ → Nodes → Nodes → List JobWork → List JobWork
+    → Type 0
+GuardsWritten None t node nodes now works after = (now ≡ nodes) × (after ≡ works)
+GuardsWritten (Some part) t node nodes now works after =
+    IsGuardedBy (backup_of t node) nodes now (block_at part.start) works after
 
 -- the block of a part that is to be written is copied for the backup, where there is one
 abbrev pub GuardsBy : Option JobRecord → WorldSeen → WorldSeen → ℕ → Op → Extent → Type 0

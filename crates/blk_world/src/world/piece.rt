@@ -1,22 +1,32 @@
 //! Pieces of requests in flight.
-ghost use Rattle.std.specs.Prelude.{◌≡◌, Some};
+ghost use Rattle.std.specs.Prelude.{◌≡◌, IsSome, Some, option_copied};
+ghost use Rattle.blk_base.specs.Pieces.{Extent};
 ghost use Rattle.blk_history.specs.Fold.{With};
 ghost use Rattle.blk_history.specs.Machine.{Flight};
 ghost use Rattle.blk_nodes.specs.Contents.{Unfolds};
 ghost use Rattle.blk_nodes.specs.Joined.{IsJoined};
+ghost use Rattle.blk_nodes.specs.Nodes.{AreTold};
+ghost use Rattle.block_jobs.specs.Work.{JobWork as Work, block_at};
 ghost use Rattle.flat_machine.specs.declared.opening.Opening.{Opening};
+ghost use Rattle.job_works.specs.Works.{work_of};
+ghost use Rattle.qmp_rules.specs.declared.rows.JobRecord.{JobRecord as Row};
+ghost use Rattle.world_goings.specs.Copied.{HasSmallFault};
+ghost use Rattle.world_jobs.specs.Guarding.{CanGuard, backup_of, is_backup_of};
 ghost use Rattle.world_parts.specs.Coherent.{IsWholeWorld};
 ghost use Rattle.world_parts.specs.Comes.{Comes};
-ghost use Rattle.blk_world.specs.Pieces.{GuardsNext, IsPieceBehind};
+ghost use Rattle.blk_world.specs.Pieces.{GuardsNext, GuardsWritten, IsPieceBehind};
 ghost use Rattle.world_pieces.specs.Pieces.{IsGuardedPiece, IsPieceMade};
 ghost use Rattle.world_parts.specs.Piecing.{table_after};
 ghost use Rattle.world_parts.specs.Progress.{HasNext, flight_at};
 
 use crate::world::World;
-use blk_base::{Outcome, PIECE, Store};
+use blk_base::{Device, Outcome, PIECE, Span, Store};
 use blk_graph::NodeId;
-use qmp_rules::Names;
+use blk_nodes::Nodes;
+use qmp_codec::JobKind;
+use qmp_rules::{JobRecord, Names};
 use trace_codec::Op;
+use world_jobs::RunningJobs;
 use world_pieces::{next_written, note_written};
 
 /// A request that changes a node's disk: every other node that reads it as a backing node has no flat disk any more.
@@ -29,6 +39,54 @@ fn note_write(names: &mut Names, node: NodeId, op: &Op)
     }
 }
 
+/// Whether a job is a backup of a node.
+fn is_backup_of(row: &JobRecord, node: NodeId) -> bool
+    ensures { result ≡ is_backup_of node row.now }
+{
+    matches!(row.kind, JobKind::Backup) && row.source == node
+}
+
+/// The backup of a node, if there is one.
+fn backup_of(names: &Names, node: NodeId) -> Option<&JobRecord>
+    ensures { option_copied result ≡ backup_of names.now.table node }
+{
+    names.jobs().iter().find(|row| is_backup_of(row, node))
+}
+
+/// The count of the fault that the backup of a node met is one of 64 bits.
+fn guard_law(works: &RunningJobs, names: &Names, node: NodeId)
+    ensures { (row : Row) (work : Work) → backup_of names.now.table node ≡ Some row
+        → work_of works.now row.number ≡ Some work → HasSmallFault work }
+{
+    if let Some(row) = backup_of(names, node) {
+        works.fault_law(row.number);
+    }
+}
+
+/// What is left of a part's block is copied for the backup of a node, where a part is written there and there is one.
+fn guard_written<D: Device>(
+    works: &mut RunningJobs,
+    nodes: &mut Nodes<D>,
+    names: &Names,
+    node: NodeId,
+    written: Option<Span>,
+)
+    requires can { (part : Extent) → written ≡ Some part
+        → CanGuard names.now.table nodes.old works.old node (block_at part.start) }
+    ensures guards { GuardsWritten written names.now.table node nodes.old nodes.new works.old
+        works.new }
+    ensures told { AreTold nodes.old.devices → AreTold nodes.new.devices }
+    ensures small { IsSome written → (row : Row) (work : Work)
+        → backup_of names.now.table node ≡ Some row → work_of works.new row.number ≡ Some work
+        → HasSmallFault work }
+{
+    let Some(part) = written else {
+        return;
+    };
+    works.guard(nodes, names, node, part.start / PIECE);
+    guard_law(works, names, node);
+}
+
 impl<S: Store> World<S> {
     /// What is left of the block of a guest's next piece is copied for the backup of its disk, where the piece is written and there
     /// is one: then the backup owes nothing of it.
@@ -39,14 +97,19 @@ impl<S: Store> World<S> {
         ensures comes { (o : Opening) → Comes o self.old → Comes o self.new }
     {
         let _ = self.nodes.edges();
+        self.works.law();
         let Some(drive) = self.names.drive(guest) else {
             unreachable!()
         };
         let node = self.names.disk_node(drive);
-        if let Some(part) = next_written(&self.progress, guest) {
-            self.works
-                .guard(&mut self.nodes, &self.names, node, part.start / PIECE);
-        }
+        let written = next_written(&self.progress, guest);
+        guard_written(
+            &mut self.works,
+            &mut self.nodes,
+            &self.names,
+            node,
+            written,
+        );
         let _ = self.nodes.edges();
     }
 
