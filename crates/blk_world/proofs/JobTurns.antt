@@ -64,7 +64,7 @@ module _ (w : WorldSeen) (slot : ℕ) (row : JobRecord) (whole : IsWholeWorld w)
         (released : (r : JobRecord) → job_at w.table row.number ≡ Some r → bitmaps ≡ bitmaps_ended r why w.bitmaps)
         (gone : works ≡ without_work row.number w.works)
         (noted : (r : JobRecord) → job_at w.table row.number ≡ Some r
-            → progress ≡ with_job_entry (entries_owed r) (End row.number why (offset_by w.table r why)) w.progress) where
+        → progress ≡ with_job_entry (entries_owed r) (End row.number why (offset_by w.table r why)) w.progress) where
       abbrev v : WorldSeen
       v = record w { nodes = nodes; table = u; bitmaps = bitmaps; works = works; progress = progress }
 
