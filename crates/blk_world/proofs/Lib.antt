@@ -5,3 +5,4 @@ pub mod JobCopies
 pub mod JobTurns
 pub mod PieceBlocks
 pub mod JobGuards
+pub mod JobStarts
