@@ -29,7 +29,7 @@ use Rattle.flat_machine.specs.Licence.{Counts, AreLicensed}
 use Rattle.flat_machine.specs.declared.opening.Opening.{Opening}
 use Rattle.world_files.specs.Closing.{IsBackAfterFlush, IsToldBack, count_back, store_in}
 use Rattle.world_parts.specs.Comes.{Comes}
-use Rattle.world_parts.specs.Face.{WorldSeen, seen_state, first_counts, counts_now}
+use Rattle.world_parts.specs.Face.{WorldSeen, counts_now, dirty_of, first_counts, seen_state}
 use Rattle.world_parts.specs.Progress.{ended_in}
 use Rattle.world_parts.specs.Steps.{StoreSeen, IsOpeningOf, new_world}
 use Rattle.world_parts.specs.Tabling.{IsTableAfter}
@@ -229,15 +229,18 @@ module _ (old : StoreSeen) (guests : List (List ℕ)) (w v : WorldSeen) (store :
     all-idle rows each = λ k d below. each k (get_or rows k d) (at-get rows k d below)
 
     pub ends-done : AllRest v after → AreDone after → EndsDone (is_some old.files) work account
-    ends-done rest done = record {
-      done = record {
-        guests = count;
-        whole = is-whole v after work.script work.traces can keeps done;
-        idle = rw comes.requests at (all-idle v.progress.guests (idle-at v after work.script work.traces can keeps done));
-      };
-      history = λ told. comes.history.history (told-as told);
-      jobs = λ told. ap (λ (t : RunTable). t.jobs) (comes.shows (told-as told)).table.table_is ∙ rest.jobs;
-    }
+    ends-done rest done = (
+      record {
+        done = record {
+          guests = count;
+          whole = is-whole v after work.script work.traces can keeps done;
+          idle = rw comes.requests at (all-idle v.progress.guests (idle-at v after work.script work.traces can keeps done));
+        };
+        history = λ told. comes.history.history (told-as told);
+        jobs = λ told. ap (λ (t : RunTable). t.jobs) (comes.shows (told-as told)).table.table_is ∙ rest.jobs;
+      },
+      record { table = v.table; dirty = dirty_of v; after = comes.table; none = rest.jobs },
+    )
 
     -- what is asked of a state is asked of its table, its guests and the actors that are done
     waits-alike : (s t : State) (c : Course) (actor : ℕ) (what : Waits (List ℕ)) → s.table ≡ t.table → s.guests ≡ t.guests → s.ended ≡ t.ended

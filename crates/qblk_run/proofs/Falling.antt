@@ -88,11 +88,11 @@ uneventful-kept orders w v (inl off) = rw (put-off-left orders w v off) refl
 uneventful-kept orders w v (inr (inl took)) = rw took.takes.copies.kept refl
 uneventful-kept orders w v (inr (inr settled)) = rw settled.settles.copies.kept refl
 
-told-made : (orders : List Order) (w v : WorldSeen) (es : List Event) → MakesEvent orders w v es → is_some v.files ≡ is_some w.files
+pub told-made : (orders : List Order) (w v : WorldSeen) (es : List Event) → MakesEvent orders w v es → is_some v.files ≡ is_some w.files
 told-made orders w v [] made = ap (λ (u : WorldSeen). is_some u.files) (uneventful-kept orders w v made)
 told-made orders w v (e ∷ es) made = told-by w v e es made.left
 
-adds-made : (orders : List Order) (w v : WorldSeen) (es : List Event) → MakesEvent orders w v es → v.progress.log.events ≡ w.progress.log.events ++ es
+pub adds-made : (orders : List Order) (w v : WorldSeen) (es : List Event) → MakesEvent orders w v es → v.progress.log.events ≡ w.progress.log.events ++ es
 adds-made orders w v [] made = ap (λ (u : WorldSeen). u.progress.log.events) (uneventful-kept orders w v made) ∙ sym (append-nil w.progress.log.events)
 adds-made orders w v (e ∷ es) made = made.adds
 

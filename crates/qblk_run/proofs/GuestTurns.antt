@@ -169,7 +169,7 @@ started-after Flush node t = refl
 started-after (Discard span) node t = refl
 
 guard-flights : (w v : WorldSeen) (g : ℕ) (f : Flight) → IsGuardedFor w v g f → NoneFlies w.works → NoneFlies v.works
-guard-flights w v g f (inl same) none = subst NoneFlies (ap (λ (u : WorldSeen). u.works) (sym same)) none
+guard-flights w v g f (inl same) none = subst NoneFlies (ap (λ (u : WorldSeen). u.works) (sym same.0)) none
 guard-flights w v g f (inr guards) none =
     let change = guards.guards.guards in
     let landed : change.now.rows ≡ [] = guard-lands w.nodes v.nodes change.was change.now guards.row.source guards.target guards.block

@@ -36,3 +36,4 @@ pub mod Named
 pub mod Taken
 pub mod Staying
 pub mod Settling
+pub mod Shown

@@ -10,7 +10,7 @@ use Rattle.qmp_codec.specs.Commands.{Cmd}
 use Rattle.qmp_codec.specs.Lines.{Stop, command_at}
 use Rattle.qmp_codec.specs.declared.command.Command.TheVariants as command
 use Rattle.qmp_codec.specs.declared.jobs.Backup.{Backup}
-use Rattle.qmp_rules.specs.Answers.{answer, answer_by, answer_for, line_answer, line_refusal, refusal_to}
+use Rattle.qmp_rules.specs.Answers.{Answer, accepted, answer, answer_by, answer_for, line_answer, line_refusal, refusal_to, refused_so}
 use Rattle.qmp_rules.specs.Asks.{holds}
 use Rattle.qmp_rules.specs.Changes.{all_changed}
 use Rattle.qmp_rules.specs.Edits.{backup_job, edits_of}
@@ -18,6 +18,7 @@ use Rattle.qmp_rules.specs.Table.{RunTable, job_at}
 use Rattle.qmp_rules.specs.declared.refusal.Refusal.{Refusal}
 use Rattle.qmp_rules.specs.declared.rows.JobRecord.{JobRecord}
 use Rattle.qmp_rules.specs.declared.told.Told.{Told}
+use Rattle.serde_json.specs.Data.{object, no_members}
 use Rattle.blk_nodes.specs.Joined.{IsJoined}
 use Rattle.flat_machine.proofs.Asked.{NoneHolds, none-behind, not-refused}
 use Rattle.job_commands.proofs.Copies.{command_found, number_is_new}
@@ -49,6 +50,13 @@ unfolding asks_of
 backup_named t told c none =
     let all : NoneHolds t told (backup_values c ++ backup_names c ++ backup_rest c) = asked t told (command.BlockdevBackup c) none in
     name_said t told _ c.job_id (none-behind t told (backup_values c) (backup_names c ++ backup_rest c) all).0
+
+-- ---- a line that is no command
+
+nothing_changed : (t : RunTable) (first : Option Refusal)
+    → all_changed t (elim first as (λ _. Answer) [ None ↦ accepted [] (object no_members) | Some cause ↦ refused_so [] cause ]).changes ≡ t
+nothing_changed t None = refl
+nothing_changed t (Some cause) = refl
 
 -- ---- the job that begins behind a reply
 
@@ -83,18 +91,15 @@ module _ (w : WorldSeen) (whole : IsWholeWorld w) (joined : IsJoined w.nodes) (u
 
   begun_by : (told : Told) (c : Cmd) → u ≡ all_changed w.table (answer w.table told c).changes → is_name row.id ≡ true
   begun_by told (command.BlockdevBackup c) table = backup_begun told c (refusal_to w.table told (command.BlockdevBackup c)) refl table
-  begun_by told c table = was_there (jobs_kept w whole joined c told u (λ none. starts_no_job w.table told c refl none) table)
+  begun_by told c table = was_there (jobs_kept w whole joined c told u (λ none. starts_no_job w.table told c (refusal_to w.table told c) refl refl none) table)
 
   begun_behind : (told : Told) (line : List ℕ) (read : Result Cmd Stop) → u ≡ all_changed w.table (answer_for w.table told line read).changes
       → is_name row.id ≡ true
   begun_behind told line (Ok c) table = begun_by told c table
-  begun_behind told line (Err why) table = by_refusal (line_refusal w.table line why) refl
-    where
-      by_refusal : (first : Option Refusal) → line_refusal w.table line why ≡ first → is_name row.id ≡ true
-      by_refusal None is =
-          was_there (subst (λ (x : RunTable). AreJobsKept x w.works w.progress.aside) (sym (rw is at table)) whole.jobs)
-      by_refusal (Some cause) is =
-          was_there (subst (λ (x : RunTable). AreJobsKept x w.works w.progress.aside) (sym (rw is at table)) whole.jobs)
+  begun_behind told line (Err why) table =
+      was_there
+      (subst (λ (x : RunTable). AreJobsKept x w.works w.progress.aside) (sym (table ∙ nothing_changed w.table (line_refusal w.table line why)))
+      whole.jobs)
 
 -- ---- the line
 

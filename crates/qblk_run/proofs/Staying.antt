@@ -5,7 +5,7 @@ use Rattle.blk_base.specs.declared.fault.Outcome.{Outcome}
 use Rattle.blk_copy.specs.declared.transfers.Transfer.{Transfer}
 use Rattle.blk_history.specs.Fold.{With}
 use Rattle.blk_history.specs.Machine.{Flight}
-use Rattle.trace_codec.specs.declared.await.Await.{Await}
+use Rattle.trace_codec.specs.declared.awaiting.Await.{Await}
 use Rattle.trace_codec.specs.declared.op.Op.{Op}
 use Rattle.flat_machine.specs.declared.opening.Opening.{Opening}
 use Rattle.world_jobs.specs.declared.turned.Turned.{Turned}
@@ -13,7 +13,7 @@ use Rattle.world_jobs.specs.declared.turned.Turned.TheVariants as turned
 use Rattle.world_parts.specs.Comes.{Comes}
 use Rattle.world_parts.specs.Face.{WorldSeen}
 use Rattle.world_parts.specs.Progress.{Progress, HasNext, flight_at}
-use Rattle.world_parts.specs.Steps.{after_admission, after_wait, with_history}
+use Rattle.world_parts.specs.Steps.{after_admission, after_wait}
 use Rattle.world_parts.specs.declared.admission.Admission.{Admission}
 use Rattle.world_parts.specs.declared.admission.Admission.TheVariants.{Admitted, Refused, Held, Away}
 use Rattle.blk_world.specs.Pieces.{IsPieceBehind}
@@ -21,7 +21,7 @@ use Rattle.qblk_run.specs.Slots.{HasSettled, HasTaken, IsTurned}
 use Rattle.qblk_run.specs.Turns.{StaysIn}
 use Rattle.qblk_run.specs.Worlds.{MakesPiece}
 use Rattle.qblk_run.proofs.Turning.{makes_piece}
-use Rattle.qblk_run.proofs.Worlds.{guarded_kept, kept_stay, runs_stay}
+use Rattle.qblk_run.proofs.Worlds.{guarded-kept, kept_stay, runs_stay}
 
 module _ (w v : WorldSeen) (comes : (o : Opening) → Comes o w → Comes o v) where
   same_stay : v ≡ w → StaysIn w v
@@ -29,25 +29,25 @@ module _ (w v : WorldSeen) (comes : (o : Opening) → Comes o w → Comes o v) w
       kept_stay w v (ap (λ (x : WorldSeen). x.files) same) (ap (λ (x : WorldSeen). x.first_faults) same) (ap (λ (x : WorldSeen). x.earlier) same)
       (ap (λ (x : WorldSeen). x.room) same) comes
 
-  pub history_stay : (f : Progress → Progress) → v ≡ with_history w f → StaysIn w v
-  history_stay f kept =
+  pub progress_stay : (p : Progress) → v ≡ record w { progress = p } → StaysIn w v
+  progress_stay p kept =
       kept_stay w v (ap (λ (x : WorldSeen). x.files) kept) (ap (λ (x : WorldSeen). x.first_faults) kept) (ap (λ (x : WorldSeen). x.earlier) kept)
       (ap (λ (x : WorldSeen). x.room) kept) comes
 
   pub admission_stay : (g : ℕ) (op : Op) (answer : Admission) → v ≡ after_admission w g op answer → StaysIn w v
-  admission_stay g op (Admitted r) kept = history_stay _ kept
-  admission_stay g op (Refused why) kept = history_stay _ kept
+  admission_stay g op (Admitted r) kept = progress_stay _ kept
+  admission_stay g op (Refused why) kept = progress_stay _ kept
   admission_stay g op (Held back) kept = same_stay kept
   admission_stay g op (Away back) kept = same_stay kept
 
   pub wait_stay : (line : ℕ) (what : Await (List ℕ)) (met : Bool) → v ≡ after_wait w line what met → StaysIn w v
-  wait_stay line what true kept = history_stay _ kept
+  wait_stay line what true kept = progress_stay _ kept
   wait_stay line what false kept = same_stay kept
 
   made_stay : (g : ℕ) (f : Flight) (outcome : Outcome) → MakesPiece w v g f outcome → StaysIn w v
   made_stay g f outcome makes =
       let runs = makes.licence.runs in
-      let same = guarded_kept w makes.between g f makes.guarded in
+      let same = guarded-kept w makes.between g f makes.guarded in
       record {
         told = runs.told ∙ ap (λ (x : WorldSeen). is_some x.files) same;
         first = runs.first ∙ ap (λ (x : WorldSeen). x.first_faults) same;

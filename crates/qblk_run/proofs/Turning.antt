@@ -20,7 +20,9 @@ use Rattle.qmp_rules.specs.Chains.{disk_node}
 use Rattle.qmp_rules.specs.Table.{job_at, job_in}
 use Rattle.qmp_rules.specs.declared.rows.JobRecord.{JobRecord}
 use Rattle.trace_codec.specs.declared.op.Op.{Op}
-use Rattle.trace_codec.specs.declared.op.Op.TheVariants.{Write, Zero}
+use Rattle.trace_codec.specs.declared.op.Op.TheVariants.{Discard, Flush, Read, Write, Zero}
+use Rattle.blk_history.specs.Disk.{is_write}
+use Rattle.flat_machine.proofs.Wired.{with_at}
 use Rattle.world_jobs.specs.Copies as copies
 use Rattle.world_jobs.specs.Guarding.{backup_of}
 use Rattle.world_jobs.specs.Turning as turning
@@ -34,8 +36,8 @@ use Rattle.world_parts.specs.Jobs.{GuardsBlock}
 use Rattle.world_parts.specs.Piecing.{part_of}
 use Rattle.world_parts.specs.Progress.{flight_at}
 use Rattle.blk_world.specs.Pieces.{GuardsBy, GuardsNext, GuardsPart, IsPieceBehind}
-use Rattle.qblk_run.specs.Slots.{HasSettled, HasStep, HasTaken, IsTurned, SettlesFor, given_of}
-use Rattle.qblk_run.specs.Worlds.{IsGuardedFor, MakesPiece}
+use Rattle.qblk_run.specs.Slots.{HasSettled, HasStep, HasTaken, IsTurned, SettlesFor, front_of, given_of}
+use Rattle.qblk_run.specs.Worlds.{IsGuardedFor, MakesPiece, NeedsNoGuard}
 
 -- ---- the turn of the job in a slot
 
@@ -97,33 +99,46 @@ has_taken w v slot buffer result = by_row (job_in w.table slot) refl
     by_row (Some row) e took =
         inr (record { row = row; answer = took.answer; there = e; given = given took.answer result took.told_is; takes = took.takes })
 
-pub has_settled : (w v : WorldSeen) (t : Transfer) (bytes front : List ℕ) (answer : Bool) → copies.IsSettled (job_at w.table t.job) w v t front answer
-    → HasSettled w v t bytes answer
-has_settled w v t bytes front answer = by_row (job_at w.table t.job) refl
+pub has_settled : (w v : WorldSeen) (t : Transfer) (bytes front : List ℕ) (answer : Bool) → ((work : JobWork) → work_of w.works t.job ≡ Some work → front ≡ front_of work t bytes)
+    → copies.IsSettled (job_at w.table t.job) w v t front answer → HasSettled w v t bytes answer
+has_settled w v t bytes front answer front_is = by_row (job_at w.table t.job) refl
   where
     by_row : (found : Option JobRecord) → job_at w.table t.job ≡ found → copies.IsSettled found w v t front answer → HasSettled w v t bytes answer
     by_row None e did = inl (e, did.1, did.0)
-    by_row (Some row) e did = inr (record { row = row; target = did.target; block = front; there = e; settles = did.settles })
+    by_row (Some row) e did = inr (record { row = row; target = did.target; block = front; front = front_is; there = e; settles = did.settles })
 
 -- ---- a piece
 
 module _ (w v : WorldSeen) (g : ℕ) (f : Flight) where
-  guarded_by : (drive : ℕ) → drive_of w.table g ≡ Some drive → (found : Option JobRecord) (op : Op) → op ≡ f.op → GuardsBy found w v drive op (part_of f)
-      → IsGuardedFor w v g f
-  guarded_by drive on None op is guards = inl guards
-  guarded_by drive on (Some row) op is guards = inr (record {
+  abbrev backup_on : ℕ → Option JobRecord
+  backup_on drive = backup_of w.table (disk_node w.table drive)
+
+  unneeded : (drive : ℕ) → drive_of w.table g ≡ Some drive → (op : Op) → op ≡ f.op → NeedsNoGuard op (backup_on drive)
+      → With (drive_of w.table g) (λ d. NeedsNoGuard f.op (backup_on d))
+  unneeded drive on op is none =
+      with_at (λ d. NeedsNoGuard f.op (backup_on d)) (drive_of w.table g) drive on (subst (λ (o : Op). NeedsNoGuard o (backup_on drive)) is none)
+
+  guarded_by : (drive : ℕ) → drive_of w.table g ≡ Some drive → (op : Op) → op ≡ f.op → is_write op ≡ true → ((b : Option JobRecord) → b ≡ None → NeedsNoGuard op b)
+      → (found : Option JobRecord) → backup_on drive ≡ found → GuardsBy found w v drive op (part_of f) → IsGuardedFor w v g f
+  guarded_by drive on op is writes needs None there guards = inl (guards, unneeded drive on op is (needs (backup_on drive) there))
+  guarded_by drive on op is writes needs (Some row) there guards = inr (record {
     drive = drive;
     on = on;
+    writes = subst (λ (o : Op). is_write o ≡ true) is writes;
     row = row;
+    backup = there;
     target = guards.0;
     block = block_at (part_of f).start;
+    block_is = refl;
     guards = subst (λ (o : Op). GuardsBlock w v drive o row guards.0 (block_at (part_of f).start)) is guards.1;
   })
 
   guarded_part : (drive : ℕ) → drive_of w.table g ≡ Some drive → (op : Op) → op ≡ f.op → GuardsPart w v drive op (part_of f) → IsGuardedFor w v g f
-  guarded_part drive on (Write span payload) is guards = guarded_by drive on (backup_of w.table (disk_node w.table drive)) (Write span payload) is guards
-  guarded_part drive on (Zero span) is guards = guarded_by drive on (backup_of w.table (disk_node w.table drive)) (Zero span) is guards
-  guarded_part drive on _ is guards = inl guards
+  guarded_part drive on (Write span payload) is guards = guarded_by drive on (Write span payload) is refl (λ b none. none) (backup_on drive) refl guards
+  guarded_part drive on (Zero span) is guards = guarded_by drive on (Zero span) is refl (λ b none. none) (backup_on drive) refl guards
+  guarded_part drive on (Read span) is guards = inl (guards, unneeded drive on (Read span) is tt)
+  guarded_part drive on Flush is guards = inl (guards, unneeded drive on Flush is tt)
+  guarded_part drive on (Discard span) is guards = inl (guards, unneeded drive on (Discard span) is tt)
 
   guarded_drive : (found : Option ℕ) → drive_of w.table g ≡ found → With found (λ drive. GuardsPart w v drive f.op (part_of f)) → IsGuardedFor w v g f
   guarded_drive None on guards = absurd guards

@@ -212,7 +212,7 @@ record IsUnharmed (v : WorldSeen) (es : List Event) : Type 0 where
   pub works : NoneAreFull v.works
 
 guarded-full : (w v : WorldSeen) (g : ℕ) (f : Flight) (guarded : IsGuardedFor w v g f) → GuardHasSpace w v g f guarded → NoneAreFull w.works → NoneAreFull v.works
-guarded-full w v g f (inl same) space none = subst NoneAreFull (ap (λ (u : WorldSeen). u.works) (sym same)) none
+guarded-full w v g f (inl same) space none = subst NoneAreFull (ap (λ (u : WorldSeen). u.works) (sym same.0)) none
 guarded-full w v g f (inr guards) space none =
     let change = guards.guards.guards in
     let own = guard-full w.nodes v.nodes change.was change.now guards.row.source guards.target guards.block change.done.guards space

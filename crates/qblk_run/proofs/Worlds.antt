@@ -156,7 +156,7 @@ judged-number w g r P judged = by_row (slice_get w.progress.guests g) judged.1
 
 -- what is guarded leaves all but nodes and works
 pub guarded-kept : (w v : WorldSeen) (g : ℕ) (f : Flight) → IsGuardedFor w v g f → v ≡ record w { nodes = v.nodes; works = v.works }
-guarded-kept w v g f (inl same) = rw same refl
+guarded-kept w v g f (inl same) = rw same.0 refl
 guarded-kept w v g f (inr guards) = guards.guards.copies.kept
 
 guarded-progress : (w v : WorldSeen) (g : ℕ) (f : Flight) → IsGuardedFor w v g f → v.progress ≡ w.progress

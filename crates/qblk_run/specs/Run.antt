@@ -18,7 +18,7 @@ use Rattle.blk_history.specs.Fold.{With}
 use Rattle.blk_history.specs.Names.{JobLine, RowNames}
 use Rattle.blk_history.specs.Transcript.{transcript}
 use Rattle.blk_history.specs.declared.event.Event.{Event}
-use Rattle.flat_machine.specs.State.{State, filename_of}
+use Rattle.flat_machine.specs.State.{Dirty, State, filename_of}
 use Rattle.flat_machine.specs.Machine.{replay}
 use Rattle.flat_machine.specs.Opening.{start}
 use Rattle.flat_machine.specs.Comes.{IsHistoryOf, IsInOrder, HasEnded, guests_after, jobs_from}
@@ -213,9 +213,17 @@ pub record EndsStuck (is_told : Bool) (work : Work) (a : Account) (actor : ℕ)
   pub ended : state.ended ≡ (course_in work a).ended
   pub stuck : IsStuck state (course_in work a) actor what
 
--- script and traces are used up
+-- No job is left in the table that the entries make, with what is dirty, whatever the store tells.
+pub record LeavesNoJob (a : Account) : Type 0 where
+  pub table : RunTable
+  pub dirty : List Dirty
+  pub after : IsTableAfter a.opening.guests a.events table dirty
+  pub none : table.jobs ≡ []
+
+-- script and traces are used up, and so are the jobs
 abbrev pub EndsDone : Bool → Work → Account → Type 0
-EndsDone is_told work a = HasEnded a.opening is_told work.script work.traces a.events
+EndsDone is_told work a =
+    HasEnded a.opening is_told work.script work.traces a.events × LeavesNoJob a
 
 -- a run stops in one of these two ways
 abbrev pub HasRunStopped : Bool → Work → Account → Type 0

@@ -101,6 +101,7 @@ pub record SettlesFor (w v : WorldSeen) (t : Transfer) (bytes : List ℕ) (resul
     pub row : JobRecord
     pub target : ℕ
     pub block : List ℕ
+    pub front : (work : JobWork) → work_of w.works t.job ≡ Some work → block ≡ front_of work t bytes
     pub there : job_at w.table t.job ≡ Some row
     pub settles : SettlesBlock w v row target t block result
 

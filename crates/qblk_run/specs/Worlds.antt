@@ -1,10 +1,11 @@
 -- The worlds that a run goes through: one event of the world after another, each as its call says.
-use Rattle.std.specs.Prelude.{◌≡◌, ◌⊎◌, ℕ, Bool, true, false, List, [], ◌∷◌, ◌++◌, Option, Some, Result}
+use Rattle.std.specs.Prelude.{◌≡◌, ◌⊎◌, ℕ, Bool, true, false, List, [], ◌∷◌, ◌++◌, Option, Some, None, Result}
 use Rattle.trace_codec.specs.declared.order.Order.TheVariants.{Give}
 use Rattle.trace_codec.specs.Script.{Order}
 use Rattle.blk_base.specs.declared.fault.Fault.{Fault}
 use Rattle.blk_base.specs.declared.fault.Outcome.{Outcome}
 use Rattle.blk_copy.specs.declared.transfers.Transfer.{Transfer}
+use Rattle.blk_history.specs.Disk.{is_write}
 use Rattle.blk_history.specs.Fold.{With}
 use Rattle.blk_history.specs.Legal.{IsFlightOver}
 use Rattle.blk_history.specs.Machine.{Flight}
@@ -12,8 +13,12 @@ use Rattle.blk_history.specs.Small.{IsSmallEnd}
 use Rattle.blk_history.specs.declared.entry.JobEnd.{JobEnd}
 use Rattle.blk_history.specs.declared.event.Event.{Event}
 use Rattle.blk_history.specs.declared.event.Event.TheVariants.{Admit, Refuse, Piece, Retire, Reply, Reached, Start, End, Done}
+use Rattle.block_jobs.specs.Work.{block_at}
+use Rattle.trace_codec.specs.declared.op.Op.{Op}
+use Rattle.trace_codec.specs.declared.op.Op.TheVariants.{Write, Zero}
 use Rattle.qmp_codec.specs.Lines.{command_at}
 use Rattle.qmp_rules.specs.Answers.{line_text}
+use Rattle.qmp_rules.specs.Chains.{disk_node}
 use Rattle.qmp_rules.specs.Table.{RunTable}
 use Rattle.qmp_rules.specs.declared.rows.JobRecord.{JobRecord}
 use Rattle.flat_machine.specs.Courses.{Course, course_after}
@@ -27,24 +32,39 @@ use Rattle.world_parts.specs.Comes.{Comes}
 use Rattle.world_parts.specs.Face.{WorldSeen, seen_state}
 use Rattle.world_parts.specs.Jobs.{BeginsNone, BeginsOne, EndsJob, GuardsBlock, SettlesBlock, TakesBlock}
 use Rattle.world_pieces.specs.Pieces.{IsPieceMade, HasPieceLicence}
+use Rattle.world_goings.specs.Copied.{WasRead}
+use Rattle.world_jobs.specs.Guarding.{backup_of}
+use Rattle.world_parts.specs.Piecing.{part_of}
 use Rattle.world_parts.specs.Progress.{flight_at, with_retirement, HasNext}
 use Rattle.world_parts.specs.Saying.{given_line}
 use Rattle.world_parts.specs.Steps.{with_history, after_admission, IsAnswered, after_wait, after_actor_end, IsActorIdle}
 
 -- ---- pieces
 
--- what a backup still needs of a block that the request writes is copied
+-- what the backup of the disk that the request writes still needs of the block of its next piece is copied
 pub record GuardsFor (w v : WorldSeen) (g : ℕ) (f : Flight) : Type 0 where
   pub drive : ℕ
   pub on : drive_of w.table g ≡ Some drive
+  pub writes : is_write f.op ≡ true
   pub row : JobRecord
+  pub backup : backup_of w.table (disk_node w.table drive) ≡ Some row
   pub target : ℕ
   pub block : ℕ
+  pub block_is : block ≡ block_at (part_of f).start
   pub guards : GuardsBlock w v drive f.op row target block
+
+-- the request writes nothing, or there is no such backup
+abbrev pub NeedsNoGuard : Op → Option JobRecord → Type 0
+NeedsNoGuard (Write span payload) backup = backup ≡ None
+NeedsNoGuard (Zero span) backup = backup ≡ None
+NeedsNoGuard op backup = Unit {0}
 
 -- before a piece
 abbrev pub IsGuardedFor : WorldSeen → WorldSeen → ℕ → Flight → Type 0
-IsGuardedFor w v g f = (v ≡ w) ⊎ GuardsFor w v g f
+IsGuardedFor w v g f =
+    ((v ≡ w) × With (drive_of w.table g)
+    (λ drive. NeedsNoGuard f.op (backup_of w.table (disk_node w.table drive))))
+    ⊎ GuardsFor w v g f
 
 -- the next piece of this request was made, with its cause
 pub record MakesPiece (w v : WorldSeen) (g : ℕ) (f : Flight) (outcome : Outcome) : Type 0 where
@@ -133,13 +153,14 @@ pub record IsTakeStep (w v : WorldSeen) : Type 0 where
   pub answer : Result (Option Transfer) Fault
   pub takes : TakesBlock w v row buffer answer
 
--- a block that was read for one is written
+-- a block is written for one, of the bytes that were read
 pub record IsSettleStep (w v : WorldSeen) : Type 0 where
   pub row : JobRecord
   pub target : ℕ
   pub transfer : Transfer
   pub bytes : List ℕ
   pub answer : Bool
+  pub read : (o : Opening) → Comes o w → WasRead o w row transfer bytes
   pub settles : SettlesBlock w v row target transfer bytes answer
 
 abbrev pub IsUneventful : List Order → WorldSeen → WorldSeen → Type 0

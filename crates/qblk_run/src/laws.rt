@@ -8,6 +8,7 @@ ghost use Rattle.flat_machine.specs.Comes.{IsInOrder};
 ghost use Rattle.flat_machine.specs.Courses.{course_of};
 ghost use Rattle.flat_machine.specs.Entries.{FallsIntoEvents};
 ghost use Rattle.flat_machine.specs.Opening.{start};
+ghost use Rattle.job_results.specs.Finished.{CopiesAreShown};
 ghost use Rattle.world_parts.specs.Steps.{StoreSeen, new_world};
 ghost use Rattle.qblk_core.specs.declared.status.InputWhy.{InputWhy};
 ghost use Rattle.qblk_core.specs.declared.status.Status.{Status};
@@ -60,4 +61,14 @@ pub fn runs_fall_into_events()
         (old new : StoreSeen) (a : Account)
         → IsRun cast work had fault old new a → is_some old.files ≡ true
         → FallsIntoEvents (start a.opening) a.events }
+{}
+
+/// Where the store tells its files, each finished job of a run shows what it is to: the target of a backup of a whole disk has the disk that
+/// the source had at the job's start, which stands before in the history; by a bitmap, on a target that had a disk, the granules that the
+/// bitmap held are the source's of then. No other end gives a node a disk.
+pub fn finished_copies_are_shown()
+    ensures { (cast : Cast) (work : Work) (had : Bool) (fault : Option FaultAt)
+        (old new : StoreSeen) (a : Account)
+        → IsRun cast work had fault old new a → is_some old.files ≡ true
+        → CopiesAreShown a.opening a.events }
 {}

@@ -1,5 +1,5 @@
 //! Pieces of requests in flight.
-ghost use Rattle.std.specs.Prelude.{◌≡◌, IsSome, Some, option_copied};
+ghost use Rattle.std.specs.Prelude.{◌≡◌, IsSome, Some};
 ghost use Rattle.blk_base.specs.Pieces.{Extent};
 ghost use Rattle.blk_history.specs.Fold.{With};
 ghost use Rattle.blk_history.specs.Machine.{Flight};
@@ -11,7 +11,7 @@ ghost use Rattle.flat_machine.specs.declared.opening.Opening.{Opening};
 ghost use Rattle.job_works.specs.Works.{work_of};
 ghost use Rattle.qmp_rules.specs.declared.rows.JobRecord.{JobRecord as Row};
 ghost use Rattle.world_goings.specs.Copied.{HasSmallFault};
-ghost use Rattle.world_jobs.specs.Guarding.{CanGuard, backup_of, is_backup_of};
+ghost use Rattle.world_jobs.specs.Guarding.{CanGuard, backup_of};
 ghost use Rattle.world_parts.specs.Coherent.{IsWholeWorld};
 ghost use Rattle.world_parts.specs.Comes.{Comes};
 ghost use Rattle.blk_world.specs.Pieces.{GuardsNext, GuardsWritten, IsPieceBehind};
@@ -23,8 +23,7 @@ use crate::world::World;
 use blk_base::{Device, Outcome, PIECE, Span, Store};
 use blk_graph::NodeId;
 use blk_nodes::Nodes;
-use qmp_codec::JobKind;
-use qmp_rules::{JobRecord, Names};
+use qmp_rules::Names;
 use trace_codec::Op;
 use world_jobs::RunningJobs;
 use world_pieces::{next_written, note_written};
@@ -36,30 +35,6 @@ fn note_write(names: &mut Names, node: NodeId, op: &Op)
     match op {
         Op::Write(..) | Op::Zero(_) => names.write_under(node),
         Op::Read(_) | Op::Flush | Op::Discard(_) => {}
-    }
-}
-
-/// Whether a job is a backup of a node.
-fn is_backup_of(row: &JobRecord, node: NodeId) -> bool
-    ensures { result ≡ is_backup_of node row.now }
-{
-    matches!(row.kind, JobKind::Backup) && row.source == node
-}
-
-/// The backup of a node, if there is one.
-fn backup_of(names: &Names, node: NodeId) -> Option<&JobRecord>
-    ensures { option_copied result ≡ backup_of names.now.table node }
-{
-    names.jobs().iter().find(|row| is_backup_of(row, node))
-}
-
-/// The count of the fault that the backup of a node met is one of 64 bits.
-fn guard_law(works: &RunningJobs, names: &Names, node: NodeId)
-    ensures { (row : Row) (work : Work) → backup_of names.now.table node ≡ Some row
-        → work_of works.now row.number ≡ Some work → HasSmallFault work }
-{
-    if let Some(row) = backup_of(names, node) {
-        works.fault_law(row.number);
     }
 }
 
@@ -84,7 +59,6 @@ fn guard_written<D: Device>(
         return;
     };
     works.guard(nodes, names, node, part.start / PIECE);
-    guard_law(works, names, node);
 }
 
 impl<S: Store> World<S> {

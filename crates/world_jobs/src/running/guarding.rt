@@ -1,7 +1,11 @@
 //! A block of a backup's source, before a guest writes it.
 ghost use Rattle.std.specs.Prelude.{◌≡◌, ◌<◌, Some, None, IsSome, length, option_copied};
 ghost use Rattle.blk_nodes.specs.Nodes.{AreTold};
+ghost use Rattle.block_jobs.specs.Work.{JobWork as Work};
+ghost use Rattle.job_works.specs.Works.{work_of};
 ghost use Rattle.qmp_rules.specs.Table.{RunTable};
+ghost use Rattle.qmp_rules.specs.declared.rows.JobRecord.{JobRecord as Row};
+ghost use Rattle.world_goings.specs.Copied.{HasSmallFault};
 ghost use Rattle.world_jobs.specs.Guarding.{CanGuard, IsGuardedBy, backup_of, is_backup_of};
 
 use crate::running::RunningJobs;
@@ -42,6 +46,8 @@ impl RunningJobs {
         ensures guards { IsGuardedBy (backup_of names.now.table node) nodes.old nodes.new block
             self.old self.new }
         ensures told { AreTold nodes.old.devices → AreTold nodes.new.devices }
+        ensures small { (row : Row) (work : Work) → backup_of names.now.table node ≡ Some row
+            → work_of self.new row.number ≡ Some work → HasSmallFault work }
     {
         let Some(row) = backup_of(names, node) else {
             return;
@@ -57,5 +63,6 @@ impl RunningJobs {
             block,
             &mut self.block,
         );
+        self.fault_law(row.number);
     }
 }

@@ -1,4 +1,4 @@
-use Rattle.std.proofs.Common.{List, sym, subst}
+use Rattle.std.proofs.Common.{sym, subst}
 use Rattle.blk_base.specs.Written.{memory_of}
 use Rattle.blk_history.specs.Names.{RowNames}
 use Rattle.qblk_core.specs.Output.{AllLinesFit}

@@ -1,4 +1,4 @@
-use Rattle.std.proofs.Common.{length, List, subst, sym, Bool}
+use Rattle.std.proofs.Common.{length, subst, sym, Bool}
 use Rattle.qblk_run.specs.Rounds.{Goes}
 use Rattle.qblk_run.specs.Tasks.{ScriptTask}
 use Rattle.qblk_run.specs.Worlds.{HasCome}

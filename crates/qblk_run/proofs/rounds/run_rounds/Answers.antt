@@ -1,4 +1,4 @@
-use Rattle.std.proofs.Common.{◌≡◌, Bool, length, subst}
+use Rattle.std.proofs.Common.{Bool, length, subst}
 use Rattle.qblk_run.specs.Rounds.{Goes}
 use Rattle.qblk_run.specs.Slots.{StandsInRun}
 use Rattle.qblk_run.proofs.Continuing.{round-lowers, round-rests}

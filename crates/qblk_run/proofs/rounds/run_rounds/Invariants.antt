@@ -1,4 +1,4 @@
-use Rattle.std.proofs.Common.{◌≡◌, ◌*◌, ◌+◌, ◌^◌, length}
+use Rattle.std.proofs.Common.{◌*◌, ◌+◌, ◌^◌}
 use Rattle.qblk_run.specs.Rounds.{Continues, steps_in}
 use Rattle.qblk_run.specs.Slots.{parts_left}
 use Rattle.qblk_run.specs.Turns.{StaysIn}

@@ -1,4 +1,4 @@
-use Rattle.std.proofs.Common.{◌≡◌, ◌+◌, ◌∙◌, Bool, refl, sym, subst}
+use Rattle.std.proofs.Common.{◌≡◌, ◌+◌, ◌∙◌, Bool, sym, subst}
 use Rattle.std.specs.Prelude.{◌||◌}
 use Rattle.qblk_run.specs.Rounds.{AreSlotTurns}
 use Rattle.qblk_run.proofs.Continuing.{continues-same, continues-then, stays_same, stays_then}

@@ -1,4 +1,3 @@
-use Rattle.std.proofs.Common.{◌≡◌, length}
 use Rattle.qblk_run.specs.Turns.{StaysIn}
 use Rattle.qblk_run.specs.Worlds.{ComesOnBeside}
 use Rattle.qblk_run.specs.Rounds.{AreSlotTurns, Continues}

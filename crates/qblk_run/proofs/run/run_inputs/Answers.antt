@@ -4,7 +4,7 @@ use Rattle.trace_codec.specs.Script.{seen_order}
 use Rattle.world_parts.specs.Steps.{seen_store}
 use Rattle.qblk_inputs.specs.Inputs.{Work}
 use Rattle.qblk_run.specs.Run.{Setting, setting}
-use Rattle.qblk_run.proofs.Runs.{play-can, play-drains, play-stands, traces-count, played-here, given-here, if-some}
+use Rattle.qblk_run.proofs.Runs.{play-can, play-drains, play-stands, traces-count, played-here, given-here, if-some, lines-here}
 use Rattle.qblk_run.proofs.run.run_inputs.Goals as goal
 
 pub new-requires-clause-few : goal.new-requires-clause-few
@@ -39,3 +39,14 @@ returns-in-Some-clause-ended g c = λ cast names said work.
     played-here cast w old new c.in-Ok.field-0.room c.args.inputs.guests c.in-Ok.field-0.guests c.in-Ok.field-0.names c.in-Ok.field-0.actors c.in-Ok-new.world c.in-Ok.ensures.ready names
     (traces-count c.args.inputs.traces _ c.requires.count) c.in-Ok-new.ensures.ok c.in-Ok-new.ensures.comes
     c.in-Some.made.history c.in-Some.made.jobs.items c.in-Some.made.fault c.in-Some.made.waiting c.write_out.result said work made c.write_out.ensures
+
+pub write_out-requires : goal.write_out-requires
+write_out-requires g c =
+    let store = seen_store (g.S.Store.files c.args.store) (g.S.Store.opened c.args.store) (g.S.Store.room c.args.store) (g.S.Store.faults c.args.store) (g.S.Store.failed_call c.args.store) in
+    let after = seen_store (g.S.Store.files c.play-made.result.1) (g.S.Store.opened c.play-made.result.1) (g.S.Store.room c.play-made.result.1) (g.S.Store.faults c.play-made.result.1) (g.S.Store.failed_call c.play-made.result.1) in
+    record {
+      lines = lines-here store (map seen_order c.args.inputs.script.items) (map (λ t. t.items) c.args.inputs.traces.items) c.args.inputs.guests c.in-Ok.field-0.guests
+          c.in-Ok.field-0.names c.in-Ok.field-0.actors c.in-Ok.field-0.room c.in-Ok-new.world after c.in-Some.made.history c.in-Some.made.jobs.items c.in-Some.made.fault
+          c.in-Some.made.waiting c.in-Ok.ensures.ready (traces-count c.args.inputs.traces _ c.requires.count) c.in-Ok-new.ensures.ok
+          (if-some c.play-made.result.0 c.in-Some.made _ c.in-Some.is c.play-made.ensures.made);
+    }

@@ -1,5 +1,5 @@
-use Rattle.std.proofs.Common.{sym, ◌∙◌}
 use Rattle.qblk_run.proofs.Blocks.{both-done, none-read, settled-in, took-in}
+use Rattle.qblk_run.proofs.Settling.{settled_read}
 use Rattle.qblk_run.proofs.Worlds.{come-settled, come-taken}
 use Rattle.qblk_run.proofs.slot_turn.copy_block.Goals as goal
 
@@ -21,7 +21,15 @@ returns-in-Some-clause-comes g c = λ orders o d first has.
     let settled = settled-in w x c.args.slot c.take.new.buffer c.take.result c.requires.stands c.requires.copies took v c.in-Some.t c.in-Some.is c.take.new.buffer c.settle.result c.settle.ensures.settled in
     let between = come-taken o d first w x orders has (c.take.ensures.comes o) (record { row = took.row; buffer = c.take.new.buffer; answer = took.answer; takes = took.takes }) in
     come-settled o d first x v orders between (c.settle.ensures.comes o)
-    (record { row = settled.row; target = settled.target; transfer = c.in-Some.t; bytes = settled.block; answer = c.settle.result; settles = settled.settles })
+    (record {
+      row = settled.row;
+      target = settled.target;
+      transfer = c.in-Some.t;
+      bytes = settled.block;
+      answer = c.settle.result;
+      read = settled_read x v c.in-Some.t c.take.new.buffer c.settle.result settled (rw c.in-Some.is at c.take.ensures.bytes);
+      settles = settled.settles;
+    })
 
 pub returns-in_default-clause-copied : goal.returns-in_default-clause-copied
 returns-in_default-clause-copied g c =

@@ -1,4 +1,3 @@
-use Rattle.std.proofs.Common.{sym, subst}
 use Rattle.qblk_run.proofs.Blocks.{none-waits}
 use Rattle.qblk_run.proofs.Worlds.{come-ended}
 use Rattle.qblk_run.proofs.slot_turn.slot_turn.Goals as goal
