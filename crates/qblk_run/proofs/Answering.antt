@@ -1,5 +1,5 @@
 -- Why a run ended with its status.
-use Rattle.std.proofs.Common.{◌≡◌, ◌⊎◌, ℕ, Bool, true, false, List, [], ◌∷◌, ◌++◌, length, take, refl, sym, ◌∙◌, ap, subst, arith, Option, Some, None, inl, inr}
+use Rattle.std.proofs.Common.{◌≡◌, ◌⊎◌, ℕ, Bool, true, false, List, ◌++◌, length, take, refl, sym, ◌∙◌, ap, subst, arith, Option, Some, None, inl, inr}
 use Rattle.std.specs.Prelude.{is_some, MatchOption, option_map}
 use Rattle.std.proofs.lemmas.List.{take_all, take-append-le}
 use Rattle.blk_base.specs.Counts.{Rose}

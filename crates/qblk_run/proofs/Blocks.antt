@@ -1,5 +1,5 @@
 -- A block that is copied in a slot's turn, and a slot for whose job nothing is to be done.
-use Rattle.std.proofs.Common.{◌≡◌, ◌⊎◌, ℕ, ◌+◌, ◌<◌, Bool, true, false, not, List, [], ◌∷◌, length, refl, sym, ◌∙◌, ap, subst, arith, Option, Some, None, Result, Ok, Err, inl, inr}
+use Rattle.std.proofs.Common.{◌≡◌, ℕ, ◌<◌, Bool, true, false, not, List, [], length, refl, sym, ◌∙◌, ap, subst, arith, Option, Some, None, Result, Ok, Err, inl, inr}
 use Rattle.std.specs.Prelude.{◌==◌, if◌then◌else◌, is_some}
 use Rattle.std.specs.List.{list_any}
 use Rattle.std.proofs.lemmas.Bool.{false≢true}
@@ -15,19 +15,18 @@ use Rattle.job_copies.specs.Settling.{Settles, after_write}
 use Rattle.job_copies.specs.Taking.{FailsToTake, Takes, TakesBlock as TakesOf}
 use Rattle.job_progress.specs.Going.{copies_blocks}
 use Rattle.job_turns.specs.Turns.{copied_step, going_step, has_next, has_rows, ready_end, step_before, step_of, stop_of}
-use Rattle.job_turns.specs.declared.step.Step.{Step}
 use Rattle.job_turns.specs.declared.step.Step.TheVariants as step
 use Rattle.job_works.specs.Works.{with_work, work_of}
 use Rattle.job_works.proofs.Changed.{job_found}
 use Rattle.node_copies.specs.Putting.{answer_of}
 use Rattle.qmp_codec.specs.declared.event.JobKind.{JobKind}
 use Rattle.qmp_codec.specs.declared.event.JobKind.TheVariants.{Backup}
-use Rattle.qmp_rules.specs.Table.{RunTable, job_at, job_in}
+use Rattle.qmp_rules.specs.Table.{job_at, job_in}
 use Rattle.qmp_rules.specs.declared.rows.AskedEnd.{AskedEnd}
 use Rattle.qmp_rules.specs.declared.rows.AskedEnd.TheVariants as asked
 use Rattle.qmp_rules.specs.declared.rows.JobRecord.{JobRecord}
 use Rattle.world_parts.specs.Face.{WorldSeen}
-use Rattle.world_parts.specs.Jobs.{SettlesBlock, TakesBlock}
+use Rattle.world_parts.specs.Jobs.{SettlesBlock}
 use Rattle.qblk_run.specs.Slots.{HasSettled, HasStep, HasTaken, NoneFlies, SettlesFor, SlotCopies, StandsInRun, TakesInSlot, given_of, parts_left}
 use Rattle.qblk_run.proofs.Counts.{failed-less, flights-again, flights-found, flights-with, found-with, next-left, parts-with, settled-lands, settled-less, taken-flies}
 use Rattle.qblk_run.proofs.SlotTurns.{slot-there}

@@ -1,8 +1,8 @@
 -- How many parts are left of works, and that no copy of them is in flight.
-use Rattle.std.proofs.Common.{◌≡◌, ◌≢◌, ◌⊎◌, ℕ, zero, suc, ◌+◌, ◌*◌, ◌<◌, ◌≤◌, Bool, true, false, cond, not, List, [], ◌∷◌, ◌++◌, length, map, replicate, refl, sym, ◌∙◌, ap, subst, arith, Option, Some, None, Result, Ok, Err, inl, inr}
-use Rattle.std.specs.Prelude.{◌==◌, ◌&&◌, get_or, slice_index_or, find}
+use Rattle.std.proofs.Common.{◌≡◌, ◌≢◌, ◌⊎◌, ℕ, zero, suc, ◌+◌, ◌*◌, ◌<◌, ◌≤◌, Bool, true, false, cond, not, List, [], ◌∷◌, ◌++◌, length, map, replicate, refl, sym, ◌∙◌, ap, subst, arith, Some, Result, Ok, Err, inl, inr}
+use Rattle.std.specs.Prelude.{◌==◌, ◌&&◌, get_or, slice_index_or}
 use Rattle.std.specs.List.{range_with_len, list_any}
-use Rattle.std.proofs.lemmas.Bool.{false≢true, eqb-true, eq-eqb, le-leb, lt-ltb}
+use Rattle.std.proofs.lemmas.Bool.{false≢true, eq-eqb, le-leb, lt-ltb}
 use Rattle.std.proofs.lemmas.List.Sums.{sum_by-cons}
 use Rattle.std.proofs.lemmas.List.FromFn.{fill_by_all}
 use Rattle.blk_bits.specs.Granules.{contains, in_span, member_count, those_below, without_span}
@@ -14,7 +14,7 @@ use Rattle.block_jobs.proofs.PartLemmas.{find_found}
 use Rattle.blk_base.specs.declared.fault.Fault.{Fault}
 use Rattle.blk_nodes.specs.Nodes.{Nodes}
 use Rattle.job_copies.specs.Guarding.{Guards, after_guard}
-use Rattle.job_works.specs.Works.{with_changed, with_work, without_work, work_of}
+use Rattle.job_works.specs.Works.{with_work, without_work, work_of}
 use Rattle.qblk_run.specs.Slots.{NoneFlies, parts_left}
 use Rattle.qblk_run.proofs.Lists.{same_or_not}
 

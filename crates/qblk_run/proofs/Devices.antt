@@ -38,7 +38,6 @@ use Rattle.blk_base.specs.declared.memory.Room.{Room}
 use Rattle.trace_codec.specs.declared.op.Op.{Op}
 use Rattle.trace_codec.specs.declared.op.Op.TheVariants.{Read, Write, Zero, Flush, Discard}
 use Rattle.qmp_rules.specs.Chains.{disk_node, written_under}
-use Rattle.qmp_rules.specs.declared.rows.JobRecord.{JobRecord}
 use Rattle.flat_machine.specs.Courses.{Course, course_after}
 use Rattle.flat_machine.specs.Entries.{all_of}
 use Rattle.flat_machine.specs.Jobs.{outcome_of}

@@ -1,9 +1,8 @@
 -- The entries of a run fall into those of its events.
-use Rattle.std.proofs.Common.{◌≡◌, ◌⊎◌, ℕ, ◌+◌, Bool, true, false, List, [], ◌∷◌, ◌++◌, append-nil, map, refl, sym, ◌∙◌, ap, subst, arith, Option, Some, None, Result, Ok, Err, inl, inr}
+use Rattle.std.proofs.Common.{◌≡◌, ℕ, ◌+◌, Bool, true, false, List, [], ◌∷◌, ◌++◌, append-nil, map, refl, sym, ◌∙◌, ap, subst, arith, Option, Some, None, Result, Ok, Err, inl, inr}
 use Rattle.std.specs.Prelude.{◌-◌, if◌then◌else◌, is_some}
 use Rattle.std.specs.List.{range_with_len}
 use Rattle.std.proofs.lemmas.Bool.{false≢true}
-use Rattle.blk_base.specs.declared.fault.FaultAt.{FaultAt}
 use Rattle.blk_base.specs.declared.file.File.{File}
 use Rattle.qmp_codec.specs.Commands.{Cmd}
 use Rattle.qmp_codec.specs.Lines.{Stop, command_at}
@@ -14,7 +13,6 @@ use Rattle.qmp_rules.specs.Answers.{command_edits}
 use Rattle.qmp_rules.specs.Changes.{all_changed, changed}
 use Rattle.qmp_rules.specs.Edits.{spoiled}
 use Rattle.qmp_rules.specs.Table.{RunTable, job_at}
-use Rattle.qmp_rules.specs.declared.change.Change.{Change}
 use Rattle.qmp_rules.specs.declared.rows.JobRecord.{JobRecord}
 use Rattle.trace_codec.specs.Script.{Order}
 use Rattle.blk_history.specs.Fold.{With}
@@ -22,7 +20,6 @@ use Rattle.blk_history.specs.declared.entry.JobEnd.{JobEnd}
 use Rattle.blk_history.specs.declared.event.Event.{Event}
 use Rattle.blk_history.specs.declared.event.Event.TheVariants.{Admit, Refuse, Piece, Retire, Reply, Reached, Start, Ready, End, Done}
 use Rattle.flat_machine.specs.State.{State}
-use Rattle.flat_machine.specs.Changed.{all_stepped}
 use Rattle.flat_machine.specs.Courses.{Course, course_after}
 use Rattle.flat_machine.specs.Entries.{AreEnds, AreEvents, FallsIntoEvents, IsEvent, all_of, new_jobs, starts_of}
 use Rattle.flat_machine.specs.Jobs.{noted_start, started, unleft}
@@ -33,9 +30,8 @@ use Rattle.flat_machine.specs.Sights.{expected}
 use Rattle.flat_machine.specs.declared.opening.Opening.{Opening}
 use Rattle.flat_machine.proofs.Resting.{stepped_table}
 use Rattle.world_parts.specs.Comes.{Comes}
-use Rattle.world_parts.specs.Counting.{RunsOn}
 use Rattle.world_parts.specs.Face.{WorldSeen}
-use Rattle.qblk_run.specs.Worlds.{AreStartsBehind, GoesThrough, IsEndOf, IsGuardedFor, IsLeftAlone, IsLeftBy, IsReplyOf, IsUneventful, MakesEvent}
+use Rattle.qblk_run.specs.Worlds.{AreStartsBehind, GoesThrough, IsEndOf, IsLeftAlone, IsLeftBy, IsReplyOf, IsUneventful, MakesEvent}
 use Rattle.qblk_run.proofs.History.{run-append}
 use Rattle.qblk_run.proofs.Lists.{at-with}
 use Rattle.qblk_run.proofs.SlotTurns.{job-there}

@@ -1,6 +1,6 @@
 -- The job that a line begins has a name.
-use Rattle.std.proofs.Common.{◌≡◌, ℕ, ◌==◌, Bool, true, false, List, [], refl, sym, ◌∙◌, ap, subst, inl, inr, Option, Some, None, Ok, Err, ◌++◌}
-use Rattle.std.specs.Prelude.{◌⊎◌, Contains, IfOk, OnErr, Result}
+use Rattle.std.proofs.Common.{◌≡◌, ℕ, true, List, [], refl, sym, ◌∙◌, ap, subst, inl, inr, Option, Some, None, Ok, Err, ◌++◌}
+use Rattle.std.specs.Prelude.{◌⊎◌, IfOk, OnErr, Result}
 use Rattle.std.proofs.lemmas.Bool.{not-false}
 use Rattle.qmp_asks.specs.CommandAsks.{asks_of}
 use Rattle.qmp_asks.specs.JobAsks.{backup_names, backup_rest, backup_values}

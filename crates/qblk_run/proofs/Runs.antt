@@ -1,5 +1,5 @@
 -- A run from its inputs on.
-use Rattle.std.proofs.Common.{◌≡◌, ℕ, ◌+◌, ◌*◌, ◌≤◌, false, List, [], ◌∷◌, length, map, refl, sym, ◌∙◌, ap, subst, arith, Option, Some, None, inl, inr, Vec, Global}
+use Rattle.std.proofs.Common.{◌≡◌, ℕ, ◌+◌, ◌*◌, ◌≤◌, false, List, ◌∷◌, length, map, refl, sym, ◌∙◌, ap, subst, arith, Option, Some, None, inl, inr, Vec, Global}
 use Rattle.std.specs.Prelude.{vec_len, IfSome}
 use Rattle.std.proofs.lemmas.List.{length-map}
 use Rattle.blk_base.specs.Files.{IfTold}

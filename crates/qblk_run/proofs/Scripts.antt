@@ -8,7 +8,6 @@ use Rattle.trace_codec.specs.Script.{Order}
 use Rattle.qmp_rules.specs.Chains.{is_listed}
 use Rattle.blk_history.specs.declared.event.Event.{Event}
 use Rattle.blk_history.specs.declared.event.Event.TheVariants.{Admit, Refuse, Piece, Retire, Reply, Reached, Start, Ready, End, Done}
-use Rattle.blk_history.specs.Fold.{Each}
 use Rattle.blk_history.specs.Line.{HasJob, IsActorNamed, StaysInJson}
 use Rattle.blk_history.specs.Names.{JobLine, RowNames, no_job}
 use Rattle.blk_history.specs.Transcript.{job_line}

@@ -1,10 +1,8 @@
 -- What a slot's turn makes of a run, and what several do.
-use Rattle.std.proofs.Common.{◌≡◌, ◌≢◌, ◌⊎◌, ℕ, zero, suc, ◌+◌, ◌-◌, ◌<◌, ◌≤◌, Bool, true, false, cond, List, [], ◌∷◌, ◌++◌, length, refl, sym, ◌∙◌, ap, subst, arith, Option, Some, None, inl, inr}
+use Rattle.std.proofs.Common.{◌≡◌, ◌≢◌, ◌⊎◌, ℕ, zero, suc, ◌+◌, ◌-◌, ◌<◌, ◌≤◌, Bool, true, false, cond, List, [], ◌∷◌, ◌++◌, length, refl, sym, ◌∙◌, ap, arith, Some, None, inl, inr}
 use Rattle.std.specs.Prelude.{◌==◌, ◌||◌, Contains, find, if◌then◌else◌, slice_index_or}
-use Rattle.std.proofs.lemmas.Bool.{false≢true}
 use Rattle.trace_codec.specs.declared.wish.Wish.{Wish}
 use Rattle.trace_codec.specs.Script.{Order}
-use Rattle.blk_history.specs.Names.{RowNames}
 use Rattle.blk_history.specs.declared.entry.JobEnd.{JobEnd}
 use Rattle.blk_history.specs.declared.event.Event.{Event}
 use Rattle.blk_history.specs.declared.event.Event.TheVariants.{End}
@@ -12,16 +10,15 @@ use Rattle.blk_history.proofs.Folds.{each-push}
 use Rattle.qmp_rules.specs.Chains.{is_listed}
 use Rattle.qmp_rules.specs.Table.{RunTable, job_at, job_in}
 use Rattle.qmp_rules.specs.declared.rows.JobRecord.{JobRecord}
-use Rattle.flat_machine.specs.Courses.{IsOwn, course_after, course_of, onward}
+use Rattle.flat_machine.specs.Courses.{IsOwn, course_of, onward}
 use Rattle.flat_machine.specs.Jobs.{outcome_of}
-use Rattle.flat_machine.specs.Marks.{Drained}
 use Rattle.world_parts.specs.Coherent.{entries_owed, entries_owed_by}
 use Rattle.world_parts.specs.Face.{WorldSeen}
 use Rattle.world_parts.specs.Jobs.{EndsJob}
 use Rattle.world_parts.specs.Progress.{Progress, ended_in}
 use Rattle.world_parts.proofs.InStep.{ended-push}
-use Rattle.qblk_run.specs.Rounds.{AreSlotTurns, Continues, LeavesLess, SlotsHalt, steps_in}
-use Rattle.qblk_run.specs.Slots.{IsSlotTurn, SlotCopies, SlotEnds, StandsInRun}
+use Rattle.qblk_run.specs.Rounds.{AreSlotTurns, Continues, LeavesLess, SlotsHalt}
+use Rattle.qblk_run.specs.Slots.{IsSlotTurn, SlotCopies, StandsInRun}
 use Rattle.qblk_run.specs.Tasks.{CanGoOn, CanHaveLine, CanPrintSoFar, KeepsTo, Tasks, names_in}
 use Rattle.qblk_run.specs.Turns.{StaysIn}
 use Rattle.qblk_run.proofs.Continuing.{continues-same, drains_stay, less-then, then-less}

@@ -1,12 +1,11 @@
 -- What a buffer holds of a block that was read for a job.
-use Rattle.std.proofs.Common.{◌≡◌, ℕ, ◌+◌, ◌*◌, ◌<◌, ◌≤◌, min, true, List, get_or, length, take, refl, sym, ◌∙◌, ap, subst, arith, inl, inr, Option, Some, None}
+use Rattle.std.proofs.Common.{◌≡◌, ℕ, ◌*◌, ◌≤◌, true, List, length, take, refl, sym, ◌∙◌, ap, subst, arith, inl, inr, Option, Some, None}
 use Rattle.std.specs.Prelude.{Contains, IfSome, Result, Ok, Err, is_some}
 use Rattle.std.proofs.lemmas.List.{get_or-take, length-take-le, take_all}
 use Rattle.blk_base.specs.Content.{bytes_at}
 use Rattle.blk_base.specs.Pieces.{block_size}
 use Rattle.blk_base.specs.declared.fault.Fault.{Fault}
 use Rattle.blk_base.proofs.Contents.{bytes_at-by_place, get_or-bytes_at, length-bytes_at}
-use Rattle.blk_copy.specs.Rows.{is_in_flight}
 use Rattle.blk_copy.specs.declared.transfers.Transfer.{Transfer}
 use Rattle.blk_history.specs.declared.event.Event.{Event}
 use Rattle.blk_nodes.specs.Contents.{disk_of}
@@ -29,12 +28,11 @@ use Rattle.flat_machine.specs.declared.opening.Opening.{Opening}
 use Rattle.world_goings.proofs.Ahead.{job_there}
 use Rattle.world_goings.proofs.Failed.{found_then}
 use Rattle.world_goings.proofs.JobNodes.{source_disk, source_itself, source_plain}
-use Rattle.world_goings.specs.Copied.{WasRead}
 use Rattle.world_parts.specs.Coherent.{IsWholeWorld}
 use Rattle.world_parts.specs.Comes.{Comes, ShowsState}
 use Rattle.world_parts.specs.Face.{WorldSeen}
 use Rattle.world_parts.specs.Jobs.{TakesBlock}
-use Rattle.qblk_run.specs.Slots.{HasTaken, HoldsTaken, TakesInSlot, front_of, given_of}
+use Rattle.qblk_run.specs.Slots.{HasTaken, HoldsTaken, front_of, given_of}
 
 -- ---- bytes
 

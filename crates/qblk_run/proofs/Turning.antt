@@ -1,6 +1,6 @@
 -- What a world's calls say of jobs and pieces, as rounds ask for it.
-use Rattle.std.proofs.Common.{◌≡◌, ℕ, ◌*◌, ◌≤◌, true, List, length, take, refl, sym, ◌∙◌, ap, subst, inl, inr, Option, Some, None}
-use Rattle.std.specs.Prelude.{◌⊎◌, Bool, Contains, IfSome, Result, Ok, Err, false, is_some, option_and_then}
+use Rattle.std.proofs.Common.{◌≡◌, ℕ, true, List, refl, subst, inl, inr, Option, Some, None}
+use Rattle.std.specs.Prelude.{Bool, IfSome, Result, Ok, Err, option_and_then}
 use Rattle.blk_base.specs.declared.fault.Fault.{Fault}
 use Rattle.blk_base.specs.declared.fault.Outcome.{Outcome}
 use Rattle.blk_copy.specs.declared.transfers.Transfer.{Transfer}
@@ -36,7 +36,7 @@ use Rattle.world_parts.specs.Jobs.{GuardsBlock}
 use Rattle.world_parts.specs.Piecing.{part_of}
 use Rattle.world_parts.specs.Progress.{flight_at}
 use Rattle.blk_world.specs.Pieces.{GuardsBy, GuardsNext, GuardsPart, IsPieceBehind}
-use Rattle.qblk_run.specs.Slots.{HasSettled, HasStep, HasTaken, IsTurned, SettlesFor, front_of, given_of}
+use Rattle.qblk_run.specs.Slots.{HasSettled, HasStep, HasTaken, IsTurned, front_of, given_of}
 use Rattle.qblk_run.specs.Worlds.{IsGuardedFor, MakesPiece, NeedsNoGuard}
 
 -- ---- the turn of the job in a slot

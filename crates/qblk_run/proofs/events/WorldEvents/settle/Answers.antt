@@ -1,4 +1,3 @@
-use Rattle.std.proofs.Common.{List, ℕ, take}
 use Rattle.qblk_run.proofs.Settling.{settle_front, settle_read, settle_whole}
 use Rattle.qblk_run.proofs.Staying.{settled_stay}
 use Rattle.qblk_run.proofs.Turning.{has_settled}
