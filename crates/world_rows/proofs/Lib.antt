@@ -1,0 +1,4 @@
+mod Free
+mod Untold
+mod Ready
+mod Calls
