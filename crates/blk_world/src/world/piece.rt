@@ -17,7 +17,7 @@ use blk_base::{Outcome, PIECE, Store};
 use blk_graph::NodeId;
 use qmp_rules::Names;
 use trace_codec::Op;
-use world_pieces::{next_written, note_written};
+use world_pieces::{next_written, note_written, noted_part};
 
 /// A request that changes a node's disk: every other node that reads it as a backing node has no flat disk any more.
 fn note_write(names: &mut Names, node: NodeId, op: &Op)
@@ -71,6 +71,8 @@ impl<S: Store> World<S> {
             .buffer
             .make_next(&mut self.nodes, &mut self.progress, drive, node, guest);
         note_written(&mut self.bitmaps, &self.names, drive, outcome, written);
+        self.works
+            .mark(&self.names, node, noted_part(outcome, written));
         let _ = self.nodes.edges();
         outcome
     }
@@ -78,7 +80,7 @@ impl<S: Store> World<S> {
     /// Makes the next piece of a guest's request in flight, on its drive where it is read, else on the node that the drive reads as,
     /// and notes it. What is read through a copy-on-read is kept in the image below it. A fault that is named is one of a device
     /// which the drive leads to, and was reached in this call. Before it is written what is left of its block is copied for the backup
-    /// of the disk, where there is one. Takes no memory.
+    /// of the disk, where there is one; what was written a mirror of the disk has to copy again. Takes no memory.
     pub fn piece(&mut self, guest: u32) -> Outcome
         requires { With (flight_at self.old.progress.guests guest) HasNext }
         ensures made { (f : Flight) → flight_at self.old.progress.guests guest ≡ Some f
