@@ -193,7 +193,7 @@ pub record AreJobsKept (t : RunTable) (works : List JobWork) (aside : ℕ) : Typ
 pub record IsAskedJob (t : RunTable) (job : ℕ) : Type 0 where
   pub row : JobRecord
   pub there : job_at t job ≡ Some row
-  pub asked : row.asked ≢ asked.Nothing
+  pub ends : row.asked ≢ asked.Nothing
 
 -- Those that hold a disk are such jobs, each once.
 pub record AreDrainsKept (t : RunTable) (drains : Drained) : Type 0 where
