@@ -49,10 +49,10 @@ pub record IsPlanned (t : RunTable) (row : JobRecord) (why : JobEnd) (end : Plan
 -- a filter may go: no edge of the table leads to it, with which the nodes may go on
 pub record FilterCanGo (u : RunTable) (nodes : Nodes) (kind : FilterKind) (filter : ℕ) : Type 0
   where
-  pub wiring : IsWiring nodes (kinds_with kind filter (kinds_of u.nodes)) u.edges
-  pub there : HasNode nodes.graph filter
-  pub lone : first_parent filter u.edges ≡ None
-  pub bare : device_in nodes.devices filter ≡ None
+    pub wiring : IsWiring nodes (kinds_with kind filter (kinds_of u.nodes)) u.edges
+    pub there : HasNode nodes.graph filter
+    pub lone : first_parent filter u.edges ≡ None
+    pub bare : device_in nodes.devices filter ≡ None
 
 -- A job may end: its filter may go, it has its work, and there is room for its entries.
 pub record CanBeEnded (t : RunTable) (nodes : Nodes) (works : List JobWork) (p : Progress)
