@@ -1,8 +1,10 @@
 //! What a command copies that starts a backup or a mirror.
-ghost use Rattle.std.specs.Prelude.{◌≡◌, MatchOption};
-ghost use Rattle.job_commands.specs.Begun.{CopyCmd, cmd_of};
+ghost use Rattle.std.specs.Prelude.{◌≡◌, option_map, string_bytes};
+ghost use Rattle.job_commands.specs.Begun.{OfBackup, OfMirror};
+ghost use Rattle.qmp_asks.specs.Seen.{seen_text};
 ghost use Rattle.qmp_codec.specs.Commands.{seen_command};
-ghost use Rattle.world_jobs.specs.Plans.{IsPlanOf, copy_of};
+ghost use Rattle.qmp_codec.specs.Jobs.{seen_backup, seen_mirror};
+ghost use Rattle.world_jobs.specs.Plans.{IsPlanOf, copy_of, plan_of, seen_plan};
 
 use qmp_codec::{Backup, Command, JobKind, Mirror};
 
@@ -16,14 +18,18 @@ pub struct CopyPlan<'x> {
     pub bitmap: Option<&'x str>,
 }
 
-fn text_of(text: &Option<String>) -> Option<&str> {
+fn text_of(text: &Option<String>) -> Option<&str>
+    ensures { seen_text result ≡ option_map string_bytes text.now }
+{
     match text {
         Some(text) => Some(text.as_str()),
         None => None,
     }
 }
 
-fn backup_plan(c: &Backup) -> CopyPlan<'_> {
+fn backup_plan(c: &Backup) -> CopyPlan<'_>
+    ensures { seen_plan result ≡ plan_of (OfBackup (seen_backup c.now)) }
+{
     CopyPlan {
         kind: JobKind::Backup,
         job_id: c.job_id.as_str(),
@@ -33,7 +39,9 @@ fn backup_plan(c: &Backup) -> CopyPlan<'_> {
     }
 }
 
-fn mirror_plan(c: &Mirror) -> CopyPlan<'_> {
+fn mirror_plan(c: &Mirror) -> CopyPlan<'_>
+    ensures { seen_plan result ≡ plan_of (OfMirror (seen_mirror c.now)) }
+{
     CopyPlan {
         kind: JobKind::Mirror,
         job_id: c.job_id.as_str(),

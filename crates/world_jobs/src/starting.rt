@@ -1,5 +1,5 @@
 //! Commands that start backups and mirrors.
-ghost use Rattle.std.specs.Prelude.{◌≡◌, ◌<◌, ◌≤◌, ◌^◌, ℕ, None, Ok, Some, IfOk, IfSome, IsSome, OnErr, OnOk, option_copied, length, option_map, string_bytes};
+ghost use Rattle.std.specs.Prelude.{◌≡◌, ◌++◌, ◌<◌, ◌≤◌, ◌^◌, ℕ, List, None, Ok, Some, IfOk, IfSome, IsSome, OnErr, OnOk, option_copied, length, option_map, string_bytes};
 ghost use Rattle.blk_bitmaps.specs.Refusals.{find, use_refusal};
 ghost use Rattle.blk_bitmaps.specs.Rows.{IsSpareOf};
 ghost use Rattle.flat_machine.specs.Bitmaps.{AreBitmapsOf};
@@ -226,7 +226,9 @@ fn new_job(
 }
 
 /// What the name of a filter begins with.
-fn prefix_of(kind: JobKind) -> &'static str {
+fn prefix_of(kind: JobKind) -> &'static str
+    ensures { (id : List ℕ) → result.now ++ id ≡ filter_name (filter_kind (filter_of kind)) id }
+{
     match kind {
         JobKind::Backup => "#cbw:",
         JobKind::Stream | JobKind::Commit | JobKind::Mirror => "#mirror:",
