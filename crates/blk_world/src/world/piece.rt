@@ -8,15 +8,17 @@ ghost use Rattle.flat_machine.specs.declared.opening.Opening.{Opening};
 ghost use Rattle.world_parts.specs.Coherent.{IsWholeWorld};
 ghost use Rattle.world_parts.specs.Comes.{Comes};
 ghost use Rattle.blk_world.specs.Pieces.{GuardsNext, IsPieceBehind};
-ghost use Rattle.world_pieces.specs.Pieces.{IsGuardedPiece, IsPieceMade};
+ghost use Rattle.world_jobs.specs.Marking.{marked_in};
+ghost use Rattle.world_pieces.specs.Pieces.{IsGuardedPiece, IsPieceMade, noted_part};
 ghost use Rattle.world_parts.specs.Piecing.{table_after};
 ghost use Rattle.world_parts.specs.Progress.{HasNext, flight_at};
 
 use crate::world::World;
-use blk_base::{Outcome, PIECE, Store};
+use blk_base::{Outcome, PIECE, Span, Store};
 use blk_graph::NodeId;
 use qmp_rules::Names;
 use trace_codec::Op;
+use world_jobs::RunningJobs;
 use world_pieces::{next_written, note_written, noted_part};
 
 /// A request that changes a node's disk: every other node that reads it as a backing node has no flat disk any more.
@@ -27,6 +29,21 @@ fn note_write(names: &mut Names, node: NodeId, op: &Op)
         Op::Write(..) | Op::Zero(_) => names.write_under(node),
         Op::Read(_) | Op::Flush | Op::Discard(_) => {}
     }
+}
+
+/// What a piece wrote on a node, where it wrote something, the mirror of the node has to copy again.
+fn note_again(
+    works: &mut RunningJobs,
+    names: &Names,
+    node: NodeId,
+    outcome: Outcome,
+    written: &Option<Span>,
+)
+    ensures { works.new
+        ≡ marked_in (noted_part outcome written.now) names.now.table node works.old }
+{
+    let noted = noted_part(outcome, *written);
+    works.mark(names, node, noted);
 }
 
 impl<S: Store> World<S> {
@@ -70,9 +87,8 @@ impl<S: Store> World<S> {
         let outcome = self
             .buffer
             .make_next(&mut self.nodes, &mut self.progress, drive, node, guest);
+        note_again(&mut self.works, &self.names, node, outcome, &written);
         note_written(&mut self.bitmaps, &self.names, drive, outcome, written);
-        self.works
-            .mark(&self.names, node, noted_part(outcome, written));
         let _ = self.nodes.edges();
         outcome
     }
