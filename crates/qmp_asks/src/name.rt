@@ -35,6 +35,13 @@ impl Name {
         Name { text }
     }
 
+    /// The string of the name, with its memory.
+    pub fn into_string(self) -> String
+        ensures { string_bytes result ≡ self }
+    {
+        self.text
+    }
+
     pub fn as_str(&self) -> &str
         ensures { result.now ≡ self.now }
     {
