@@ -13,8 +13,8 @@ use Rattle.qmp_rules.specs.declared.change.Change.{Change}
 use Rattle.qmp_rules.specs.declared.change.Change.TheVariants as change
 use Rattle.qmp_rules.specs.Changes.{changed}
 use Rattle.qmp_rules.specs.Edits.{spoiled}
-use Rattle.qmp_rules.specs.Fitting.{ChangeFits, AllChangesFit, fits_always, fits, all_fit}
-use Rattle.qmp_rules.specs.Table.{RunTable}
+use Rattle.qmp_rules.specs.Fitting.{ChangeFits, AllChangesFit, fits_always, fits, all_fit, fit_at_once}
+use Rattle.qmp_rules.specs.Table.{RunTable, has_name}
 
 both_left : (a b : Bool) → (a && b) ≡ true → a ≡ true
 both_left true b h = refl
@@ -27,12 +27,13 @@ both_right false b h = cc
 -- ---- whatever the table is
 
 fits_one : (t : RunTable) (c : Change) → fits_always c ≡ true → ChangeFits t c
+fits_one t (change.KeepId id) h = cc
 fits_one t (change.AddDevice device node) h = ltb-true device.number 80 h
 fits_one t (change.UseNode slot what node) h = ltb-true slot 16 h
 fits_one t (change.PutFilter row node) h = cc
 fits_one t _ h = tt
 
-pub all_fit_always : (t : RunTable) (changes : List Change) → list_all fits_always changes ≡ true → AllChangesFit t changes
+all_fit_always : (t : RunTable) (changes : List Change) → list_all fits_always changes ≡ true → AllChangesFit t changes
 all_fit_always t [] h = tt
 all_fit_always t (c ∷ changes) h = (
   fits_one t c (both_left (fits_always c) (list_all fits_always changes) h),
@@ -53,7 +54,12 @@ lone edges node none = IsLone-untouched edges node (λ k d within. by_test k d w
     by_test k d within false e = e
     by_test k d within true e = absurd (true≢false (sym none ∙ ap not (list_any_at (touches node) edges k d within e)))
 
+none_is : (b : Bool) → not b ≡ true → b ≡ false
+none_is true h = cc
+none_is false h = refl
+
 pub fits_here : (t : RunTable) (c : Change) → fits t c ≡ true → ChangeFits t c
+fits_here t (change.KeepId id) h = none_is (has_name id t.kept) h
 fits_here t (change.AddDevice device node) h = ltb-true device.number 80 h
 fits_here t (change.UseNode slot what node) h = ltb-true slot 16 h
 fits_here t (change.PutFilter row node) h = lone t.edges row.id h
@@ -68,4 +74,11 @@ steps_fit [] t h = tt
 steps_fit (c ∷ changes) t h = (
   fits_here t c (both_left (fits t c) (all_fit (changed t c) changes) h),
   steps_fit changes (changed t c) (both_right (fits t c) (all_fit (changed t c) changes) h),
+)
+
+pub all_fit_at_once : (t : RunTable) (changes : List Change) → fit_at_once t changes ≡ true → AllChangesFit t changes
+all_fit_at_once t [] h = tt
+all_fit_at_once t (c ∷ changes) h = (
+  fits_here t c (both_left (fits t c) (list_all fits_always changes) h),
+  all_fit_always (changed t c) changes (both_right (fits t c) (list_all fits_always changes) h),
 )

@@ -11,3 +11,4 @@ pub mod ItemLemmas
 pub mod WriteLemmas
 pub mod StartLemmas
 pub mod EndLemmas
+pub mod KeyedLemmas

@@ -14,4 +14,5 @@ pub mod Room
 pub mod Reach
 pub mod Prepared
 pub mod Fitting
+pub mod Keyed
 pub mod Printed

@@ -285,10 +285,11 @@ impl Names {
     }
 
     /// Whether a change fits the table.
-    fn change_fits(&self, change: &Change) -> bool
+    pub(crate) fn change_fits(&self, change: &Change) -> bool
         ensures { result ≡ fits self.now.table change.now }
     {
         match change {
+            Change::KeepId(id) => !self.is_kept(id.as_str()),
             Change::AddDevice { device, .. } => device.number < 80,
             Change::UseNode { slot, .. } => *slot < 16,
             Change::PutFilter { row, .. } => !find::is_touched(self.edges(), row.id),

@@ -1,12 +1,11 @@
 //! The edits of lists of rows, each made in place.
-ghost use Rattle.std.specs.Prelude.{◌≡◌, ◌<◌, ◌≤◌, ◌+◌, [], Some, map, length, vec_capacity, vec_len};
-ghost use Rattle.qmp_rules.specs.Changes.{asked_for, bitmap_changed, bitmaps_but_of, followed, given_back, is_used_by, kept_from_writes, lost_with, node_changed, ready_for, settled, stands_over, with_read_only, with_recording, with_settled, unsettled, with_turned, with_unsettled, with_writable, without_bitmap, without_device, without_job, without_name, without_record, writable};
-ghost use Rattle.qmp_rules.specs.Table.{has_file, row_in_state, kind_of_record, kinds_of, with_file};
+ghost use Rattle.std.specs.Prelude.{◌≡◌, ◌≤◌, [], Some, map, length, vec_capacity, vec_len};
+ghost use Rattle.qmp_rules.specs.Changes.{asked_for, bitmap_changed, bitmaps_but_of, followed, given_back, is_used_by, kept_from_writes, lost_with, node_changed, ready_for, settled, stands_over, with_read_only, with_recording, with_settled, unsettled, with_turned, with_unsettled, with_writable, without_bitmap, without_device, without_job, without_record, writable};
+ghost use Rattle.qmp_rules.specs.Table.{kind_of_record, kinds_of};
 
 use crate::find;
-use crate::rows::{AskedEnd, BitmapRow, DeviceRow, FileRow, FileState, JobRecord, NodeRecord};
+use crate::rows::{AskedEnd, BitmapRow, DeviceRow, JobRecord, NodeRecord};
 use blk_graph::{MOST_NODES, NO_KIND, NodeId, NodeKind};
-use qmp_asks::Name;
 
 fn unsettle_one(row: &mut NodeRecord, id: NodeId)
     ensures { row.new ≡ node_changed id unsettled row.old }
@@ -235,14 +234,6 @@ pub(crate) fn drop_bitmaps_of(rows: &mut Vec<BitmapRow>, node: NodeId)
     rows.retain(|row| row.node != node);
 }
 
-pub(crate) fn drop_name(names: &mut Vec<Name>, name: &str)
-    ensures items { names.new.items ≡ without_name name.now names.old.items }
-    ensures count { vec_len names.new ≤ vec_len names.old }
-    ensures capacity { vec_capacity names.new ≡ vec_capacity names.old }
-{
-    names.retain(|other| other.as_str() != name);
-}
-
 fn followed(old: AskedEnd, new: AskedEnd) -> AskedEnd
     ensures { result ≡ followed old new }
 {
@@ -294,44 +285,4 @@ pub(crate) fn drop_job(rows: &mut Vec<JobRecord>, number: u32)
     ensures capacity { vec_capacity rows.new ≡ vec_capacity rows.old }
 {
     rows.retain(|job| job.number != number);
-}
-
-fn set_one(row: &mut FileRow, name: &str, state: FileState)
-    ensures { row.new ≡ row_in_state name.now state row.old }
-{
-    if row.name.as_str() == name {
-        row.state = state;
-    }
-}
-
-fn set_there(rows: &mut Vec<FileRow>, name: &str, state: FileState)
-    ensures items { rows.new.items ≡ map (row_in_state name.now state) rows.old.items }
-    ensures count { vec_len rows.new ≡ vec_len rows.old }
-    ensures capacity { vec_capacity rows.new ≡ vec_capacity rows.old }
-{
-    for i in 0..rows.len() {
-        set_one(&mut rows[i], name, state);
-    }
-}
-
-#[tactic(auto, unfolding(crate::specs::Table::has_file))]
-fn has_file(rows: &[FileRow], name: &str) -> bool
-    ensures { result ≡ has_file name.now rows.now }
-{
-    rows.iter().any(|row| row.name.as_str() == name)
-}
-
-/// The file is in the state from now on.
-#[tactic(auto, unfolding(crate::specs::Table::with_file))]
-pub(crate) fn set_file(rows: &mut Vec<FileRow>, name: Name, state: FileState)
-    requires { vec_len rows.old < vec_capacity rows.old }
-    ensures items { rows.new.items ≡ with_file name state rows.old.items }
-    ensures count { vec_len rows.new ≤ vec_len rows.old + 1 }
-    ensures capacity { vec_capacity rows.new ≡ vec_capacity rows.old }
-{
-    if has_file(rows.as_slice(), name.as_str()) {
-        set_there(rows, name.as_str(), state);
-    } else {
-        rows.push_reserved(FileRow { name, state });
-    }
 }

@@ -1,15 +1,14 @@
 //! Rows by name and by number.
 ghost use Rattle.std.specs.Prelude.{◌≡◌, ◌==◌, ◌&&◌, bytes_eq, find};
 ghost use Rattle.std.specs.List.{list_any};
-ghost use Rattle.std.specs.Option.{option_copied, option_map};
+ghost use Rattle.std.specs.Option.{option_copied};
 ghost use Rattle.blk_graph.specs.Edits.{touches};
 ghost use Rattle.qmp_rules.specs.Asks.{is_base, lends, stands_for};
 ghost use Rattle.qmp_rules.specs.Chains.{holds_any, holds_so};
-ghost use Rattle.qmp_rules.specs.Table.{first_into, has_name, is_bitmap};
+ghost use Rattle.qmp_rules.specs.Table.{first_into, is_bitmap};
 
-use crate::rows::{BitmapRow, DeviceRow, FileRow, FileState, JobRecord, NodeRecord};
+use crate::rows::{BitmapRow, DeviceRow, JobRecord, NodeRecord};
 use blk_graph::{Edge, NodeId, Parent};
-use qmp_asks::Name;
 
 pub(crate) fn node_named<'x>(rows: &'x [NodeRecord], name: &str) -> Option<&'x NodeRecord>
     ensures { option_copied result ≡ find (λ row. bytes_eq row.name name.now) rows.now }
@@ -67,22 +66,6 @@ pub(crate) fn bitmap_at<'x>(
     ensures { option_copied result ≡ find (is_bitmap node name.now) rows.now }
 {
     rows.iter().find(|row| is_bitmap(row, node, name))
-}
-
-pub(crate) fn has_name(names: &[Name], name: &str) -> bool
-    ensures { result ≡ has_name name.now names.now }
-{
-    names.iter().any(|other| other.as_str() == name)
-}
-
-pub(crate) fn file_state(rows: &[FileRow], name: &str) -> Option<FileState>
-    ensures { result
-        ≡ option_map (λ row. row.state) (find (λ row. bytes_eq row.name name.now) rows.now) }
-{
-    match rows.iter().find(|row| row.name.as_str() == name) {
-        Some(row) => Some(row.state),
-        None => None,
-    }
 }
 
 /// The first edge into a node.

@@ -8,7 +8,7 @@ ghost use Rattle.qmp_rules.specs.Asks.{first_unmet_ask};
 ghost use Rattle.qmp_rules.specs.Changes.{all_changed};
 ghost use Rattle.qmp_asks.specs.CommandAsks.{asks_of, command_name, is_built, negotiates};
 ghost use Rattle.qmp_rules.specs.Edits.{edits_of, spoiled};
-ghost use Rattle.qmp_rules.specs.Fitting.{AllChangesFit, fits_always};
+ghost use Rattle.qmp_rules.specs.Fitting.{AllChangesFit, fit_at_once, fits_always};
 ghost use Rattle.qmp_rules.specs.Prepared.{IsStoppedFor};
 ghost use Rattle.qmp_rules.specs.Refusals.{or_else};
 ghost use Rattle.qmp_rules.specs.Room.{HasRoomForChanges};
@@ -158,7 +158,7 @@ fn fits_always(edit: &Change) -> bool
     match edit {
         Change::AddDevice { device, .. } => device.number < 80,
         Change::UseNode { slot, .. } => *slot < 16,
-        Change::PutFilter { .. } => false,
+        Change::KeepId(_) | Change::PutFilter { .. } => false,
         _ => true,
     }
 }
@@ -301,8 +301,18 @@ impl Names {
         self.refusal(alloc, &Told::nothing(alloc), command)
     }
 
+    /// Whether the first change fits the table, and the others fit whatever it is.
+    fn fit_at_once(&self, edits: &[Change]) -> bool
+        ensures { result ≡ fit_at_once self.now.table edits.now }
+    {
+        match edits {
+            [] => true,
+            [first, others @ ..] => self.change_fits(first) && fit_always(others),
+        }
+    }
+
     /// Looks whether the changes of a command fit, where one may not.
-    #[tactic(auto, using(crate::proofs::FitLemmas::all_fit_always))]
+    #[tactic(auto, using(crate::proofs::FitLemmas::all_fit_at_once))]
     fn look_at_fit(
         &self,
         alloc: Global,
@@ -315,7 +325,7 @@ impl Names {
             ≡ edits_of self.now.table told.now (seen_command command.now) }
         ensures { OnOk result (AllChangesFit self.now.table edits.now) }
     {
-        if fit_always(edits) {
+        if self.fit_at_once(edits) {
             return Ok(());
         }
         let same = self.edits_of(alloc, told, command)?;

@@ -276,22 +276,9 @@ pub enum FileState {
     Used,
 }
 
-/// A file that commands have made, formatted or used.
+/// A file that commands have made, formatted or used, as contracts see it (`FileStates` has its state by its name).
 #[derive(Drop)]
 pub struct FileRow {
     pub name: Name,
     pub state: FileState,
-}
-
-impl Clone for FileRow {
-    ghost use Rattle.std.specs.Prelude.{◌≡◌};
-
-    ghost is_clone = { λ row copy. copy ≡ row };
-
-    fn clone(&self) -> Result<Self, AllocError> {
-        Ok(FileRow {
-            name: self.name.clone()?,
-            state: self.state,
-        })
-    }
 }

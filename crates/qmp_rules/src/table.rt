@@ -12,7 +12,9 @@ mod changing;
 mod room;
 mod writing;
 
-use crate::rows::{BitmapRow, DeviceRow, FileRow, FileState, JobRecord, NodeRecord};
+use crate::file_states::FileStates;
+use crate::kept_ids::KeptIds;
+use crate::rows::{BitmapRow, DeviceRow, FileState, JobRecord, NodeRecord};
 use crate::{edit, find};
 use blk_base::NoMemory;
 use blk_graph::{Conflict, Edge, EdgeList, MOST_NODES, NodeId, NodeKind, Parent, Role};
@@ -33,9 +35,9 @@ pub struct Names {
     // how many jobs were ever started
     started: u32,
     bitmaps: Vec<BitmapRow>,
-    files: Vec<FileRow>,
+    files: FileStates,
     // ids of jobs of the past that stay taken
-    kept: Vec<Name>,
+    kept: KeptIds,
     negotiated: bool,
 }
 
@@ -54,8 +56,8 @@ impl Model for Names {
         jobs = n.jobs.items;
         started = n.started;
         bitmaps = n.bitmaps.items;
-        files = n.files.items;
-        kept = n.kept.items;
+        files = n.files.rows;
+        kept = n.kept.rows;
         negotiated = n.negotiated;
       };
       spare = record {
@@ -63,8 +65,8 @@ impl Model for Names {
         devices = vec_capacity n.devices - vec_len n.devices;
         jobs = vec_capacity n.jobs - vec_len n.jobs;
         bitmaps = vec_capacity n.bitmaps - vec_len n.bitmaps;
-        files = vec_capacity n.files - vec_len n.files;
-        kept = vec_capacity n.kept - vec_len n.kept;
+        files = n.files.spare;
+        kept = n.kept.spare;
       };
     } };
 }
@@ -82,8 +84,8 @@ impl Names {
             jobs: Vec::new(alloc),
             started: 0,
             bitmaps: Vec::new(alloc),
-            files: Vec::new(alloc),
-            kept: Vec::new(alloc),
+            files: FileStates::new(alloc),
+            kept: KeptIds::new(alloc),
             negotiated: false,
         })
     }
@@ -223,14 +225,14 @@ impl Names {
     pub fn is_kept(&self, id: &str) -> bool
         ensures { result ≡ has_name id.now self.now.table.kept }
     {
-        find::has_name(self.kept.as_slice(), id)
+        self.kept.has(id)
     }
 
     /// What became of a file; none where it is as it was found.
     pub fn file_state(&self, name: &str) -> Option<FileState>
         ensures { result ≡ file_state self.now.table name.now }
     {
-        find::file_state(self.files.as_slice(), name)
+        self.files.state(name)
     }
 
     /// Whether a node stands for a file.

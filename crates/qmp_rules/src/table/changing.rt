@@ -1,10 +1,10 @@
 //! The parts of changes, each made on one list of the table.
-ghost use Rattle.std.specs.Prelude.{◌≡◌, ◌<◌, ◌≤◌, ◌+◌, ◌-◌, ◌^◌, ◌∷◌, ◌++◌, [], IsTrue, Some, map, true};
+ghost use Rattle.std.specs.Prelude.{◌≡◌, ◌<◌, ◌≤◌, ◌+◌, ◌-◌, ◌^◌, ◌∷◌, ◌++◌, [], IsTrue, Some, false, map, true};
 ghost use Rattle.blk_graph.specs.Edges.{HasNumber, may_have};
 ghost use Rattle.blk_graph.specs.Edits.{IsLone, with_edge, with_filter, with_replaced, without_edge, without_filter, without_parent};
 ghost use Rattle.qmp_rules.specs.Changes.{asked_for, bitmaps_but_of, busy_by, given_back, lost_with, ready_for, rewired, with_read_only, with_settled, with_turned, with_unsettled, with_writable, without_bitmap, without_device, without_job, without_name, without_record};
 ghost use Rattle.qmp_rules.specs.Room.{KeepsSpare};
-ghost use Rattle.qmp_rules.specs.Table.{with_file};
+ghost use Rattle.qmp_rules.specs.Table.{has_name, with_file};
 
 use crate::edit;
 use crate::rows::{AskedEnd, BitmapRow, DeviceRow, FileState, JobRecord, NodeRecord, UsedBitmap};
@@ -265,16 +265,18 @@ impl Names {
         ensures spare { self.old.spare.files ≤ self.new.spare.files + 1 }
         ensures others { self.new.spare ≡ record self.old.spare { files = self.new.spare.files } }
     {
-        edit::set_file(&mut self.files, name, state);
+        self.files.set(name, state);
     }
 
     pub(crate) fn keep(&mut self, id: Name)
-        requires { 0 < self.old.spare.kept }
+        requires room { 0 < self.old.spare.kept }
+        requires fresh { has_name id self.old.table.kept ≡ false }
         ensures table { self.new.table
             ≡ record self.old.table { kept = self.old.table.kept ++ id ∷ [] } }
-        ensures spare { self.new.spare ≡ record self.old.spare { kept = self.old.spare.kept - 1 } }
+        ensures spare { self.old.spare.kept ≤ self.new.spare.kept + 1 }
+        ensures others { self.new.spare ≡ record self.old.spare { kept = self.new.spare.kept } }
     {
-        self.kept.push_reserved(id);
+        self.kept.put(id);
     }
 
     pub(crate) fn drop_kept(&mut self, id: &str)
@@ -282,7 +284,7 @@ impl Names {
             ≡ record self.old.table { kept = without_name id.now self.old.table.kept } }
         ensures spare { KeepsSpare self.old self.new }
     {
-        edit::drop_name(&mut self.kept, id);
+        self.kept.remove(id);
     }
 
     pub(crate) fn negotiate(&mut self)

@@ -36,8 +36,8 @@ impl Names {
         reserve(&mut self.devices, changes)?;
         reserve(&mut self.jobs, changes)?;
         reserve(&mut self.bitmaps, changes)?;
-        reserve(&mut self.files, changes)?;
-        reserve(&mut self.kept, changes)
+        self.files.reserve(changes)?;
+        self.kept.reserve(changes)
     }
 
     fn copied_edges(&self, alloc: Global) -> Result<EdgeList, NoMemory>
@@ -60,8 +60,8 @@ impl Names {
             jobs: self.jobs.clone()?,
             started: self.started,
             bitmaps: self.bitmaps.clone()?,
-            files: self.files.clone()?,
-            kept: self.kept.clone()?,
+            files: self.files.copied()?,
+            kept: self.kept.copied()?,
             negotiated: self.negotiated,
         })
     }
