@@ -1,6 +1,7 @@
 //! The world, changed by one event after another.
 ghost use Rattle.std.specs.Prelude.{◌≡◌, ℕ, ◌+◌, ◌≤◌, ◌<◌, List, [], map, length, slice_get, IfOk, IfErr, IsSome, is_some};
 ghost use Rattle.blk_nodes.specs.Nodes.{no_nodes};
+ghost use Rattle.flat_machine.specs.Marks.{none_drained};
 ghost use Rattle.qmp_rules.specs.Table.{opening_table};
 ghost use Rattle.world_parts.specs.Progress.{no_progress};
 
@@ -72,6 +73,7 @@ struct Parts<D: Device> {
     names: Names,
     progress: Progress,
     nodes: Nodes<D>,
+    drained: Drained,
     bitmaps: Bitmaps,
     works: RunningJobs,
     buffer: Buffer,
@@ -83,12 +85,14 @@ fn new_parts<D: Device>(alloc: Global, guests: &Names1, room: Room) -> Result<Pa
     ensures names { IfOk result (λ parts. parts.names.table ≡ opening_table guests.now) }
     ensures progress { IfOk result (λ parts.
         parts.progress ≡ no_progress (length guests.now) room) }
+    ensures drained { IfOk result (λ parts. parts.drained ≡ none_drained) }
     ensures bitmaps { IfOk result (λ parts. parts.bitmaps ≡ []) }
     ensures works { IfOk result (λ parts. parts.works ≡ []) }
 {
     Ok(Parts {
         names: Names::new(alloc, names_of(alloc, guests)?)?,
         progress: Progress::new(alloc, guests.len(), room)?,
+        drained: Drained::none(alloc)?,
         bitmaps: Bitmaps::new(alloc)?,
         works: RunningJobs::new(alloc)?,
         buffer: Buffer::new(alloc)?,
@@ -128,6 +132,7 @@ impl<S: Store> World<S> {
                     names,
                     progress,
                     nodes,
+                    drained,
                     bitmaps,
                     works,
                     buffer,
@@ -138,7 +143,7 @@ impl<S: Store> World<S> {
                 nodes,
                 names,
                 progress,
-                drained: Drained::none(alloc),
+                drained,
                 bitmaps,
                 works,
                 buffer,

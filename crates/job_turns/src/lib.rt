@@ -5,4 +5,4 @@ mod step;
 mod turns;
 
 pub use step::Step;
-pub use turns::step_of;
+pub use turns::{must_drain, step_of};

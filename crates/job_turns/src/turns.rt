@@ -1,6 +1,7 @@
 //! What a job's turn is to do, by its row and its work.
 ghost use Rattle.std.specs.Prelude.{◌≡◌, true};
 ghost use Rattle.flat_machine.specs.Jobs.{can_be_ready, has_no_overlay};
+ghost use Rattle.flat_machine.specs.Marks.{ends_by, must_drain};
 ghost use Rattle.job_progress.specs.Going.{copies_blocks};
 ghost use Rattle.job_turns.specs.Turns.{copied_step, going_step, has_next, ready_end, step_of, stop_asked, stop_of};
 
@@ -38,6 +39,20 @@ fn can_be_ready(row: &JobRecord) -> bool
         JobKind::Commit => row.read.as_slice().is_empty(),
         JobKind::Stream | JobKind::Backup => false,
     }
+}
+
+/// Whether it is asked to end, and not cancelled for good.
+fn ends_by(asked: AskedEnd) -> bool
+    ensures { result ≡ ends_by asked }
+{
+    matches!(&asked, AskedEnd::Complete | AskedEnd::Leave)
+}
+
+/// Whether its source must be drained before it ends.
+pub fn must_drain(row: &JobRecord) -> bool
+    ensures { result ≡ must_drain row.now }
+{
+    can_be_ready(row) && ends_by(row.asked)
 }
 
 fn ready_end(all_done: bool, asked: AskedEnd) -> Step

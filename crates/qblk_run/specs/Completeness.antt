@@ -93,12 +93,13 @@ BlockHasSpace nodes target block =
     → PutsRuns (runs_of (block_of (node_size nodes target) block) sectors)
     (block_of (node_size nodes target) block) nodes now target bytes (NoSpace dev) → ⊥
 
--- No write of an event without an entry would: of a block that is settled its copy.
+-- No write of an event without an entry would: of a block that is settled its copy. A drain writes nothing.
 abbrev pub StepHasSpace : (orders : List Order) (w v : WorldSeen) → IsUneventful orders w v → Type 0
 StepHasSpace orders w v (inl off) = Unit {0}
 StepHasSpace orders w v (inr (inl took)) = Unit {0}
-StepHasSpace orders w v (inr (inr settled)) =
+StepHasSpace orders w v (inr (inr (inl settled))) =
     BlockHasSpace w.nodes settled.target settled.transfer.cluster
+StepHasSpace orders w v (inr (inr (inr drains))) = Unit {0}
 
 -- nor would the copy of a block that is guarded before a piece
 abbrev pub GuardHasSpace : (w v : WorldSeen) (g : ℕ) (f : Flight) → IsGuardedFor w v g f → Type 0

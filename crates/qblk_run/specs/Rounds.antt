@@ -3,10 +3,9 @@ use Rattle.std.specs.Prelude.{◌≡◌, ◌⊎◌, ℕ, ◌+◌, ◌<◌, ◌�
 use Rattle.trace_codec.specs.declared.wish.Wish.{Wish}
 use Rattle.trace_codec.specs.declared.waits.Waits.{Waits}
 use Rattle.trace_codec.specs.Script.{Order}
-use Rattle.qmp_rules.specs.Table.{job_in}
-use Rattle.flat_machine.specs.Blocked.{ScriptWaits, TraceWaits}
+use Rattle.flat_machine.specs.Blocked.{ScriptWaits, SlotWaits, TraceWaits}
 use Rattle.world_parts.specs.Face.{WorldSeen, seen_state}
-use Rattle.qblk_run.specs.Slots.{StandsInRun, parts_left}
+use Rattle.qblk_run.specs.Slots.{SlotHalts, StandsInRun, parts_left}
 use Rattle.qblk_run.specs.Tasks.{Task, Tasks, AreDrainsOf, CanGoOn, Halts, KeepsTo, CanPrintSoFar, Rests, ScriptHalts, ScriptRests, steps_of_tasks}
 use Rattle.qblk_run.specs.Turns.{IsTurn}
 use Rattle.qblk_run.specs.Worlds.{ComesOn, IsUndone}
@@ -60,23 +59,23 @@ abbrev pub GuestsRest : WorldSeen → ℕ → List Task → Type 0
 GuestsRest w n tasks =
     (g : ℕ) (task : Task) → g < n → slice_get tasks g ≡ Some task → Rests w g task
 
--- and so is the script, and no job is there
+-- and so is the script, and no job is there but those that are ready and wait
 pub record AllRest (w : WorldSeen) (tasks : Tasks) : Type 0 where
   pub script : ScriptRests w tasks.script
   pub guests : GuestsRest w (length tasks.guests) tasks.guests
-  pub jobs : w.table.jobs ≡ []
+  pub slots : (slot : ℕ) → slot < 16 → SlotWaits (seen_state w) slot
 
 -- each of the first n guests makes no entry
 abbrev pub GuestsHalt : WorldSeen → ℕ → List Task → Type 0
 GuestsHalt w n tasks =
     (g : ℕ) (task : Task) → g < n → slice_get tasks g ≡ Some task → Halts w g task
 
--- the first n slots have no job
+-- for the first n slots nothing can be done
 abbrev pub SlotsHalt : WorldSeen → ℕ → Type 0
-SlotsHalt w n = (slot : ℕ) → slot < n → job_in w.table slot ≡ None
+SlotsHalt w n = (slot : ℕ) → slot < n → SlotHalts w slot
 
 -- Something was done, and less is left to do; or nothing was by the script and the first n guests, which can make no entry now, nor
--- for the first so many slots, which have no job.
+-- for the first so many slots.
 abbrev pub Goes : WorldSeen → WorldSeen → Tasks → Tasks → ℕ → ℕ → Bool → Type 0
 Goes w v before after n slots true = LeavesLess w v before after
 Goes w v before after n slots false =
@@ -87,10 +86,10 @@ abbrev pub AreGuestTurns : WorldSeen → WorldSeen → Tasks → Tasks → ℕ �
 AreGuestTurns w v before after n true = LeavesLess w v before after
 AreGuestTurns w v before after n false = (v ≡ w) × GuestsHalt v n after.guests
 
--- so it is with the first n slots, which have no job then
+-- so it is with the first n slots, of which some may hold disks
 abbrev pub AreSlotTurns : WorldSeen → WorldSeen → Tasks → ℕ → Bool → Type 0
 AreSlotTurns w v tasks n true = LeavesLess w v tasks tasks
-AreSlotTurns w v tasks n false = (v ≡ w) × SlotsHalt v n
+AreSlotTurns w v tasks n false = (v ≡ record w { drains = v.drains }) × SlotsHalt v n
 
 -- a guest of a list had its turn
 pub record HasTurn (w v : WorldSeen) (before after : List Task) (g : ℕ)

@@ -200,14 +200,13 @@ pub record IsRun (cast : Cast) (work : Work) (had : Bool) (fault : Option FaultA
 
 -- Some actor is unfinished, and each of those is blocked; the first is named. The table in which that is so is one that the
 -- entries make, with what is dirty, and the state is the one that the history comes to, where the store tells its files. What
--- blocked actors look at is fixed by the entries whatever the store tells: which guests have a device, how far each is, and that
--- no job is there.
+-- blocked actors look at is fixed by the entries whatever the store tells: which guests have a device, how far each is, and which
+-- jobs are there.
 pub record EndsStuck (is_told : Bool) (work : Work) (a : Account) (actor : ℕ)
     (what : Waits (List ℕ)) : Type 0 where
   pub state : State
   pub table : IsTableAfter a.opening.guests a.events state.table state.dirty
   pub devices : HaveDevices a.opening.guests a.events state.table
-  pub jobs : state.table.jobs ≡ []
   pub told : is_told ≡ true → state ≡ state_after a.opening a.events
   pub guests : state.guests ≡ guests_after a.opening a.events
   pub ended : state.ended ≡ (course_in work a).ended

@@ -17,6 +17,7 @@ use Rattle.flat_machine.specs.State.{Guest}
 use Rattle.flat_machine.specs.Blocked.{ScriptWaits, TraceWaits}
 use Rattle.flat_machine.specs.Courses.{Course, KeepsOrder, course_of, course_after, past_waits, rest_of}
 use Rattle.flat_machine.specs.Marks.{is_guest_held}
+use Rattle.world_parts.specs.Coherent.{AreDrainsKept}
 use Rattle.world_parts.specs.Face.{WorldSeen, seen_state}
 use Rattle.world_parts.specs.Progress.{Progress, ended_in, answered_in}
 use Rattle.qblk_inputs.specs.Room.{entries_for, bytes_for, HaveNumbers}
@@ -214,7 +215,7 @@ pub record IsPutOffFor (p : Progress) (script : ScriptTask) : Type 0 where
 abbrev pub ScriptHalts : WorldSeen → ScriptTask → Type 0
 ScriptHalts w script = ScriptRests w script ⊎ IsPutOffFor w.progress script
 
--- no drain stands but for the command that the script gives next
+-- no drain stands but for the command that the script gives next, and for jobs that are asked to end
 pub record AreDrainsOf (w : WorldSeen) (script : ScriptTask) : Type 0 where
-  pub jobs : w.drains.jobs ≡ []
+  pub jobs : AreDrainsKept w.table w.drains
   pub command : (w.drains.command ≡ []) ⊎ IsGiving script.orders

@@ -13,6 +13,7 @@ use Rattle.flat_machine.specs.Comes.{guest_step}
 use Rattle.flat_machine.specs.Courses.{past_waits, is_answered}
 use Rattle.flat_machine.specs.Marks.{after_reply}
 use Rattle.flat_machine.specs.declared.opening.Opening.{Opening}
+use Rattle.world_parts.specs.Coherent.{AreDrainsKept}
 use Rattle.world_parts.specs.Comes.{Comes}
 use Rattle.world_parts.specs.Face.{WorldSeen}
 use Rattle.world_parts.specs.Progress.{Progress, answered_in}
@@ -21,13 +22,15 @@ use Rattle.qblk_run.specs.Slots.{NoneFlies}
 use Rattle.qblk_run.specs.Tasks.{Task, ScriptTask, IsTaskOf, entries_of_script, entries_to_come, steps_of, Halts, ScriptRests}
 use Rattle.qblk_run.specs.Worlds.{IsPutOffBy}
 
--- the world of the same run: its store tells as much, and began with the same count and openings, and it comes of what it came of
+-- the world of the same run: its store tells as much, and began with the same count and openings, it comes of what it came of, and its
+-- jobs hold disks as they are to
 pub record StaysIn (w v : WorldSeen) : Type 0 where
   pub told : is_some v.files ≡ is_some w.files
   pub first : v.first_faults ≡ w.first_faults
   pub earlier : v.earlier ≡ w.earlier
   pub room : v.room ≡ w.room
   pub comes : (o : Opening) → Comes o w → Comes o v
+  pub drains : AreDrainsKept v.table v.drains
 
 -- beside entries: drains stay, no job begins, and no copy is in flight where none was
 pub record KeepsBeside (w v : WorldSeen) : Type 0 where

@@ -12,25 +12,26 @@ use Rattle.blk_history.specs.Machine.{Flight}
 use Rattle.blk_history.specs.Small.{IsSmallEnd}
 use Rattle.blk_history.specs.declared.entry.JobEnd.{JobEnd}
 use Rattle.blk_history.specs.declared.event.Event.{Event}
-use Rattle.blk_history.specs.declared.event.Event.TheVariants.{Admit, Refuse, Piece, Retire, Reply, Reached, Start, End, Done}
+use Rattle.blk_history.specs.declared.event.Event.TheVariants.{Admit, Refuse, Piece, Retire, Reply, Reached, Start, Ready, End, Done}
 use Rattle.block_jobs.specs.Work.{block_at}
 use Rattle.trace_codec.specs.declared.op.Op.{Op}
 use Rattle.trace_codec.specs.declared.op.Op.TheVariants.{Write, Zero}
 use Rattle.qmp_codec.specs.Lines.{command_at}
 use Rattle.qmp_rules.specs.Answers.{line_text}
 use Rattle.qmp_rules.specs.Chains.{disk_node}
-use Rattle.qmp_rules.specs.Table.{RunTable}
+use Rattle.qmp_rules.specs.Table.{RunTable, job_at}
 use Rattle.qmp_rules.specs.declared.rows.JobRecord.{JobRecord}
 use Rattle.flat_machine.specs.Courses.{Course, course_after}
 use Rattle.flat_machine.specs.Entries.{all_of}
 use Rattle.flat_machine.specs.Legal.{IsMet, IsNotDone}
+use Rattle.flat_machine.specs.Marks.{after_turn, must_drain}
 use Rattle.flat_machine.specs.State.{drive_of}
 use Rattle.flat_machine.specs.declared.opening.Opening.{Opening}
 use Rattle.world_parts.specs.declared.admission.Admission.TheVariants.{Admitted, Refused as NotAdmitted}
 use Rattle.world_parts.specs.Carrying.{IsReplied, IsPutOff, IsPutBackIn}
 use Rattle.world_parts.specs.Comes.{Comes}
 use Rattle.world_parts.specs.Face.{WorldSeen, seen_state}
-use Rattle.world_parts.specs.Jobs.{BeginsNone, BeginsOne, EndsJob, GuardsBlock, SettlesBlock, TakesBlock}
+use Rattle.world_parts.specs.Jobs.{BeginsNone, BeginsOne, EndsJob, GuardsBlock, ReadiesJob, SettlesBlock, TakesBlock}
 use Rattle.world_pieces.specs.Pieces.{IsPieceMade, HasPieceLicence}
 use Rattle.world_goings.specs.Copied.{WasRead}
 use Rattle.world_jobs.specs.Guarding.{backup_of}
@@ -95,7 +96,7 @@ pub record IsReplyOf (w v : WorldSeen) (line : ℕ) (given text : List ℕ)
   pub says : text ≡ line_text w.table replied.told given
   pub begins : AreStartsBehind w.table between v es
 
--- ---- ends of jobs
+-- ---- readiness and ends of jobs
 
 -- with its cause; the numbers of a fault that it names have 64 bits
 pub record IsEndOf (w v : WorldSeen) (job : ℕ) (why : JobEnd) (offset : ℕ) : Type 0 where
@@ -103,6 +104,12 @@ pub record IsEndOf (w v : WorldSeen) (job : ℕ) (why : JobEnd) (offset : ℕ) :
   pub number : row.number ≡ job
   pub ends : EndsJob w v row why offset
   pub fits : IsSmallEnd why
+
+-- and that it is ready: where the store tells its files, its target reads as its source then
+pub record IsReadyOf (w v : WorldSeen) (job : ℕ) : Type 0 where
+  pub row : JobRecord
+  pub number : row.number ≡ job
+  pub readies : ReadiesJob w v row
 
 -- ---- events with entries
 
@@ -115,6 +122,7 @@ IsLeftAlone w v (Refuse g r op why) =
 IsLeftAlone w v (Piece g r k outcome got) = IsPieceEvent w v g outcome
 IsLeftAlone w v (Retire g r) = v ≡ with_history w (with_retirement g)
 IsLeftAlone w v (Reached line what) = v ≡ after_wait w line what true
+IsLeftAlone w v (Ready job) = IsReadyOf w v job
 IsLeftAlone w v (End job why offset) = IsEndOf w v job why offset
 IsLeftAlone w v (Done actor) = v ≡ after_actor_end w actor
 IsLeftAlone w v e = ⊥
@@ -163,8 +171,16 @@ pub record IsSettleStep (w v : WorldSeen) : Type 0 where
   pub read : (o : Opening) → Comes o w → WasRead o w row transfer bytes
   pub settles : SettlesBlock w v row target transfer bytes answer
 
+-- the source of a job that is asked to end is held from now on
+pub record IsDrainStep (w v : WorldSeen) : Type 0 where
+  pub row : JobRecord
+  pub there : job_at w.table row.number ≡ Some row
+  pub asked : must_drain row ≡ true
+  pub kept : v ≡ record w { drains = after_turn row.number w.drains }
+
 abbrev pub IsUneventful : List Order → WorldSeen → WorldSeen → Type 0
-IsUneventful orders w v = IsPutOffBy orders w v ⊎ IsTakeStep w v ⊎ IsSettleStep w v
+IsUneventful orders w v =
+    IsPutOffBy orders w v ⊎ IsTakeStep w v ⊎ IsSettleStep w v ⊎ IsDrainStep w v
 
 -- ---- one event after another
 

@@ -43,7 +43,8 @@ pub(crate) trait Events {
         ensures stays { StaysIn (face self.old) (face self.new) }
         ensures comes { (o : Opening) → Comes o (face self.old) → Comes o (face self.new) };
 
-    /// Makes the next piece of a guest's request in flight. What a backup still needs of its block is copied before.
+    /// Makes the next piece of a guest's request in flight. What a backup still needs of its block is copied before, and what it wrote
+    /// a mirror has to copy again.
     fn piece(&mut self, guest: u32) -> Outcome
         requires { With (flight_at (face self.old).progress.guests guest) HasNext }
         ensures made { (f : Flight) → flight_at (face self.old).progress.guests guest ≡ Some f
@@ -95,7 +96,7 @@ pub(crate) trait Events {
         ensures stays { StaysIn (face self.old) (face self.new) }
         ensures comes { (o : Opening) → Comes o (face self.old) → Comes o (face self.new) };
 
-    /// Gives the job in a slot its turn: it ends, or says what is to be done for it.
+    /// Gives the job in a slot its turn: it is ready or ends, or says what is to be done for it, or which request it waits for.
     fn job_turn(&mut self, slot: u32) -> Turned
         requires { slot < 16 }
         ensures turned { IsTurned (face self.old) (face self.new) slot result }

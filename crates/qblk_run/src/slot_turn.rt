@@ -1,4 +1,4 @@
-//! A slot's turn: the job in it ends, or a block is copied for it.
+//! A slot's turn: the job in it is ready or ends, or a block is copied for it.
 ghost use Rattle.std.specs.Prelude.{◌≡◌, ◌<◌, length};
 ghost use Rattle.job_turns.specs.declared.step.Step.TheVariants as step;
 ghost use Rattle.qblk_run.specs.Slots.{HasStep, IsSlotTurn, SlotCopies, StandsInRun};
@@ -38,7 +38,6 @@ pub(crate) fn slot_turn<W: Events>(world: &mut W, slot: u32, buffer: &mut [u8]) 
             copy_block(world, slot, buffer);
             true
         }
-        Turned::Empty => false,
-        Turned::Idle => false,
+        Turned::Empty | Turned::Idle | Turned::Later { .. } => false,
     }
 }

@@ -342,6 +342,14 @@ impl Names {
         }
     }
 
+    /// A job is ready from now on. Takes no memory.
+    #[tactic(auto, unfolding(crate::specs::Changes::changed))]
+    pub fn get_ready(&mut self, number: u32)
+        ensures { self.new.table ≡ changed self.old.table (Change.ReadyJob number) }
+    {
+        self.ready_job(number);
+    }
+
     /// Makes changes, one after another.
     pub fn apply(&mut self, mut edits: Edits)
         requires room { HasRoomForChanges (length edits) self.old }

@@ -56,8 +56,10 @@ fn is_built(command: &Command) -> bool
             | Command::DeviceAdd(_)
             | Command::DeviceDel(_)
             | Command::BlockdevSnapshot(_)
+            | Command::BlockdevMirror(_)
             | Command::BlockdevBackup(_)
             | Command::BlockJobCancel(_, _)
+            | Command::BlockJobComplete(_)
             | Command::QueryBlockJobs
             | Command::QueryNamedBlockNodes(_)
             | Command::BitmapAdd(_)

@@ -101,6 +101,16 @@ fn put_uses(names: &Names, out: &mut Words) {
     put_name(names, backing, out);
 }
 
+/// `ready JOB`: the job is ready from now on.
+pub(crate) fn ready(names: &mut Names, row: &Row) -> Result<(), RowStop> {
+    let number = match names.job_named(row.word(0)?) {
+        Some(job) => job.number,
+        None => return Err(RowStop::Word),
+    };
+    names.get_ready(number);
+    Ok(())
+}
+
 /// `end KIND OUTCOME SOURCE TARGET FILTER READ`: how many changes the end of such a job is, and the table behind it. The words are
 /// nodes, or `-` for none; `settled` or `unsettled` behind them says what a bitmap's target was, and `made` that the job had
 /// made the base and its file writable.

@@ -1,6 +1,6 @@
 //! What rows are played on.
 
-use crate::ends::end;
+use crate::ends::{end, ready};
 use crate::files::{Files, LOOKS};
 use crate::judged::{accept_all, is_accepted};
 use crate::table::{Table, copy, kept, table_of};
@@ -28,14 +28,16 @@ enum Act {
     From,
     Length,
     Refused,
+    Ready,
 }
 
-const ACTS: [(&str, Act); 5] = [
+const ACTS: [(&str, Act); 6] = [
     ("new", Act::New),
     ("keep", Act::Keep),
     ("from", Act::From),
     ("files", Act::Length),
     ("refused-at", Act::Refused),
+    ("ready", Act::Ready),
 ];
 
 /// The length of a file where nothing else is said.
@@ -126,6 +128,7 @@ impl Judge {
                 self.files.look = Some(row.named(0, &LOOKS)?);
                 Ok(())
             }
+            Act::Ready => ready(&mut self.names, row),
         }
     }
 }

@@ -26,6 +26,7 @@ is_change (command.BlockdevAdd c) = false
 is_change (command.BlockdevCreate c) = false
 is_change (command.BlockdevDel name) = false
 is_change (command.BlockdevBackup c) = false
+is_change (command.BlockdevMirror c) = false
 is_change (command.QueryNamedBlockNodes flat) = false
 is_change c = true
 

@@ -1,5 +1,5 @@
 //! Laws of what jobs do to a world, each the contract of a function that does nothing.
-ghost use Rattle.std.specs.Prelude.{◌≡◌, ◌≢◌, ◌≤◌, ◌++◌, ◌∷◌, [], ℕ, Bool, true, List, None, Ok, Option, Result, Some};
+ghost use Rattle.std.specs.Prelude.{◌≡◌, ◌≢◌, ◌≤◌, ◌++◌, ◌∷◌, [], ℕ, Bool, true, Contains, List, None, Ok, Option, Result, Some, is_some};
 ghost use Rattle.blk_base.specs.Pieces.{Extent, end_of};
 ghost use Rattle.blk_base.specs.declared.fault.Fault.{Fault};
 ghost use Rattle.blk_copy.specs.declared.transfers.Transfer.{Transfer};
@@ -9,11 +9,8 @@ ghost use Rattle.blk_nodes.specs.Contents.{Unfolds};
 ghost use Rattle.blk_nodes.specs.Joined.{IsJoined};
 ghost use Rattle.blk_nodes.specs.Nodes.{Nodes};
 ghost use Rattle.qmp_codec.specs.Lines.{command_at};
-ghost use Rattle.qmp_codec.specs.declared.command.Command.TheVariants.{BlockdevBackup};
-ghost use Rattle.qmp_codec.specs.declared.jobs.Backup.{Backup};
 ghost use Rattle.qmp_rules.specs.Answers.{command_edits, line_text, refusal_to};
 ghost use Rattle.qmp_rules.specs.Changes.{all_changed};
-ghost use Rattle.qmp_rules.specs.Edits.{backup_job};
 ghost use Rattle.qmp_rules.specs.Queries.{bytes_of_node};
 ghost use Rattle.qmp_rules.specs.Table.{RunTable};
 ghost use Rattle.qmp_rules.specs.declared.told.Told.{Told};
@@ -29,12 +26,15 @@ ghost use Rattle.world_parts.specs.Carrying.{IsReplied};
 ghost use Rattle.world_parts.specs.Coherent.{IsCoherent, IsWholeWorld};
 ghost use Rattle.world_parts.specs.Comes.{Comes};
 ghost use Rattle.world_parts.specs.Face.{WorldSeen, contents_of, seen_state};
-ghost use Rattle.world_parts.specs.Jobs.{BeginsOne, EndsJob, GuardsBlock, PutsFilter, SettlesBlock, TakesBlock};
+ghost use Rattle.world_parts.specs.Jobs.{BeginsOne, EndsJob, GuardsBlock, HasCopiedAll, PutsFilter, ReadiesJob, ReadsAsSource, SettlesBlock, TakesBlock};
 ghost use Rattle.world_parts.specs.Saying.{Given};
+ghost use Rattle.job_commands.specs.Begun.{CopyCmd, cmd_of, copy_job};
 ghost use Rattle.world_goings.specs.Begun.{CanCopyWhole};
 ghost use Rattle.blk_copy.specs.Rows.{is_in_flight};
 ghost use Rattle.block_jobs.specs.Work.{JobWork, next_block, sectors_left};
-ghost use Rattle.job_works.specs.Works.{without_work};
+ghost use Rattle.flat_machine.specs.Marks.{Drained};
+ghost use Rattle.job_works.specs.Works.{marked_again, without_work, work_of};
+ghost use Rattle.qmp_codec.specs.declared.event.JobKind.TheVariants.{Mirror};
 ghost use Rattle.world_goings.specs.Copied.{FailedAreDone, IsDoneOnceFailed, IsInBlock, LeavesFiles, WasRead};
 
 /// A world still comes of its opening where a block is read for a job, where one that was read is written, and where one is
@@ -63,6 +63,8 @@ pub fn nothing_is_done_once_failed()
         → is_in_flight t work.rows ≡ true → work.met ≡ None }
     ensures begun { (works : List JobWork) (work : JobWork) → work.met ≡ None
         → FailedAreDone works → FailedAreDone (works ++ work ∷ []) }
+    ensures marked { (job : ℕ) (span : Extent) (works : List JobWork) → FailedAreDone works
+        → FailedAreDone (marked_again job span works) }
     ensures gone { (job : ℕ) (works : List JobWork) → FailedAreDone works
         → FailedAreDone (without_work job works) }
 {}
@@ -82,38 +84,55 @@ pub fn ends_keep_worlds_coming()
         → EndsJob w v row why offset → IsJoined v.nodes → Comes o v }
 {}
 
-/// The changes of an accepted backup, with its filter over its source, keep the parts of the world together. Its filter reads as its
+/// The changes of an accepted start, with its filter over its source, keep the parts of the world together. Its filter reads as its
 /// source then, all else reads and holds the same, and so the changes were performed.
 pub fn accepted_starts_keep_parts_together()
     ensures coherent { (w : WorldSeen) (u : RunTable) (nodes : Nodes) (told expected : Told)
-        (c : Backup (List ℕ)) → IsWholeWorld w → IsJoined w.nodes
-        → refusal_to w.table told (BlockdevBackup c) ≡ None
-        → u ≡ all_changed w.table (command_edits w.table expected (BlockdevBackup c))
-        → PutsFilter u (backup_job w.table None c) w.nodes nodes → IsJoined nodes
+        (c : CopyCmd) → IsWholeWorld w → IsJoined w.nodes
+        → refusal_to w.table told (cmd_of c) ≡ None
+        → u ≡ all_changed w.table (command_edits w.table expected (cmd_of c))
+        → PutsFilter u (copy_job w.table c) w.nodes nodes → IsJoined nodes
         → IsCoherent u nodes w.opened w.progress }
     ensures shown { (w : WorldSeen) (u : RunTable) (nodes : Nodes) (told expected : Told)
-        (c : Backup (List ℕ)) → IsWholeWorld w → IsJoined w.nodes → Unfolds w.nodes
-        → refusal_to w.table told (BlockdevBackup c) ≡ None
-        → u ≡ all_changed w.table (command_edits w.table expected (BlockdevBackup c))
-        → PutsFilter u (backup_job w.table None c) w.nodes nodes → IsJoined nodes
-        → ShowsFilter (backup_job w.table None c) (contents_of w)
+        (c : CopyCmd) → IsWholeWorld w → IsJoined w.nodes → Unfolds w.nodes
+        → refusal_to w.table told (cmd_of c) ≡ None
+        → u ≡ all_changed w.table (command_edits w.table expected (cmd_of c))
+        → PutsFilter u (copy_job w.table c) w.nodes nodes → IsJoined nodes
+        → ShowsFilter (copy_job w.table c) (contents_of w)
         (contents_of (record w { table = u; nodes = nodes })) }
     ensures performed { (w : WorldSeen) (u : RunTable) (nodes : Nodes) (told expected : Told)
-        (c : Backup (List ℕ)) (s : State) → IsWholeWorld w → IsJoined w.nodes → Unfolds w.nodes
-        → refusal_to w.table told (BlockdevBackup c) ≡ None
-        → u ≡ all_changed w.table (command_edits w.table expected (BlockdevBackup c))
-        → PutsFilter u (backup_job w.table None c) w.nodes nodes → IsJoined nodes
+        (c : CopyCmd) (s : State) → IsWholeWorld w → IsJoined w.nodes → Unfolds w.nodes
+        → refusal_to w.table told (cmd_of c) ≡ None
+        → u ≡ all_changed w.table (command_edits w.table expected (cmd_of c))
+        → PutsFilter u (copy_job w.table c) w.nodes nodes → IsJoined nodes
         → s.table ≡ w.table
-        → AllPerformed s (command_edits w.table expected (BlockdevBackup c)) (contents_of w)
+        → AllPerformed s (command_edits w.table expected (cmd_of c)) (contents_of w)
         (contents_of (record w { table = u; nodes = nodes })) }
 {}
 
-/// So a world still comes of its opening where a backup begins behind the reply to its command.
+/// So a world still comes of its opening where a job begins behind the reply to its command.
 pub fn starts_keep_worlds_coming()
-    ensures { (o : Opening) (w x v : WorldSeen) (line : Given) (c : Backup (List ℕ)) → Comes o w
+    ensures { (o : Opening) (w x v : WorldSeen) (line : Given) (c : CopyCmd) → Comes o w
         → IsWholeWorld w → IsJoined w.nodes → Unfolds w.nodes
-        → CanCopyWhole o w (backup_job w.table None c) → IsNotDone (seen_state w) 0
-        → command_at line.text ≡ Ok (BlockdevBackup c) → (replied : IsReplied w x line)
+        → CanCopyWhole o w (copy_job w.table c) → IsNotDone (seen_state w) 0
+        → command_at line.text ≡ Ok (cmd_of c) → (replied : IsReplied w x line)
         → is_accepted (line_text w.table replied.told line.text) ≡ true → IsJoined x.nodes
         → BeginsOne w.table x v → Comes o v }
+{}
+
+/// A mirror for which no call failed, and of which nothing is left and no copy is in flight, has its target read as its source where
+/// the store tells its files. So it is when it is ready, and a world still comes of its opening then.
+pub fn ready_mirrors_agree()
+    ensures agrees { (o : Opening) (w : WorldSeen) (row : JobRecord) (work : JobWork) → Comes o w
+        → IsWholeWorld w → IsJoined w.nodes → is_some w.files ≡ true
+        → Contains w.table.jobs row → row.kind ≡ Mirror → work_of w.works row.number ≡ Some work
+        → work.met ≡ None → HasCopiedAll work → ReadsAsSource w row }
+    ensures comes { (o : Opening) (w v : WorldSeen) (row : JobRecord) → Comes o w
+        → IsWholeWorld w → IsJoined w.nodes → ReadiesJob w v row → Comes o v }
+{}
+
+/// Drains leave all that comes of an opening.
+pub fn drains_keep_worlds_coming()
+    ensures { (o : Opening) (w : WorldSeen) (drains : Drained) → Comes o w
+        → Comes o (record w { drains = drains }) }
 {}

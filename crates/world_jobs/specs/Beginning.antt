@@ -1,4 +1,4 @@
--- A backup that begins behind the reply to its command.
+-- A backup or a mirror that begins behind the reply to its command.
 use Rattle.std.specs.Prelude.{◌≡◌, ℕ, Bool, List, Option, Some, None, map, option_map, IfSome}
 use Rattle.blk_bitmaps.specs.Calls.{rows_after_call, Freeze, NoteAll}
 use Rattle.blk_bitmaps.specs.Refusals.{find, use_refusal}
@@ -11,7 +11,7 @@ use Rattle.flat_machine.specs.Comes.{job_line_of}
 use Rattle.flat_machine.specs.Jobs.{target_written}
 use Rattle.flat_machine.specs.State.{State}
 use Rattle.job_progress.specs.Beginning.{work_begun}
-use Rattle.qmp_codec.specs.declared.event.JobKind.TheVariants.{Backup}
+use Rattle.qmp_codec.specs.declared.event.JobKind.{JobKind}
 use Rattle.qmp_rules.specs.Table.{RunTable}
 use Rattle.qmp_rules.specs.declared.rows.JobRecord.{JobRecord}
 use Rattle.qmp_rules.specs.declared.rows.UsedBitmap.{UsedBitmap}
@@ -75,10 +75,10 @@ bitmap_by rows source None = None
 bitmap_by rows source (Some name) = find rows source name
 
 -- all of its disk is left, or what the bitmap holds
-abbrev pub work_by : ℕ → ℕ → Option Bitmap → JobWork
-work_by number size None = all_left (begun Backup number size 65536)
-work_by number size (Some bitmap) =
-    granules_left bitmap.granularity bitmap.dirty (begun Backup number size bitmap.granularity)
+abbrev pub work_by : JobKind → ℕ → ℕ → Option Bitmap → JobWork
+work_by kind number size None = all_left (begun kind number size 65536)
+work_by kind number size (Some bitmap) =
+    granules_left bitmap.granularity bitmap.dirty (begun kind number size bitmap.granularity)
 
 -- no job uses the bitmap
 abbrev pub IsUsable : List Bitmap → ℕ → Option (List ℕ) → Type 0

@@ -1,7 +1,9 @@
 pub mod Beginning
 pub mod Filtering
+pub mod Plans
 pub mod Starting
 pub mod Guarding
+pub mod Marking
 pub mod Copying
 pub mod Copies
 pub mod Turning

@@ -17,14 +17,14 @@ use qmp_rules::EventRoom;
 use std::marker::Model;
 use world_parts::Progress;
 
-/// The bitmap that a backup copies by, and an empty set for what is written while it does.
+/// The bitmap that a job copies by, and an empty set for what is written while it does.
 #[derive(Drop)]
 pub(crate) struct Aside {
     pub name: Text,
     pub spare: DirtySet,
 }
 
-/// A backup that was accepted, with all memory that it takes.
+/// A backup or a mirror that was accepted, with all memory that it takes.
 #[derive(Drop)]
 pub struct NewJob {
     pub(crate) work: JobWork,

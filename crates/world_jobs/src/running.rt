@@ -8,6 +8,7 @@ ghost use Rattle.world_goings.specs.Copied.{FailedAreDone, HasSmallFault};
 mod copying;
 mod ending;
 mod guarding;
+mod marking;
 mod turning;
 
 use blk_base::{Fault, NoMemory};

@@ -1,30 +1,33 @@
-//! Commands that start backups.
-ghost use Rattle.std.specs.Prelude.{◌≡◌, ◌++◌, ◌<◌, ◌≤◌, ◌^◌, ℕ, None, Ok, Some, IfOk, IfSome, IsSome, OnErr, OnOk, codes, option_copied, length, map, option_map, string_bytes};
+//! Commands that start backups and mirrors.
+ghost use Rattle.std.specs.Prelude.{◌≡◌, ◌++◌, ◌<◌, ◌≤◌, ◌^◌, ℕ, List, None, Ok, Some, IfOk, IfSome, IsSome, OnErr, OnOk, option_copied, length, option_map, string_bytes};
 ghost use Rattle.blk_bitmaps.specs.Refusals.{find, use_refusal};
 ghost use Rattle.blk_bitmaps.specs.Rows.{IsSpareOf};
-ghost use Rattle.blk_nodes.specs.Joined.{IsJoined};
 ghost use Rattle.flat_machine.specs.Bitmaps.{AreBitmapsOf};
-ghost use Rattle.flat_machine.specs.Marks.{drained_by, ids_of};
+ghost use Rattle.flat_machine.specs.Marks.{ids_of};
 ghost use Rattle.flat_machine.specs.State.{State, drive_of};
 ghost use Rattle.flat_machine.specs.Wiring.{TableAtRest};
+ghost use Rattle.job_commands.specs.Begun.{CopyCmd, cmd_of, copy_job};
 ghost use Rattle.job_tables.specs.Accepted.{JobsGoOn};
+ghost use Rattle.qmp_asks.specs.Seen.{seen_text};
 ghost use Rattle.qmp_codec.specs.Commands.{seen_command};
-ghost use Rattle.qmp_codec.specs.Jobs.{seen_backup};
-ghost use Rattle.qmp_codec.specs.declared.command.Command.TheVariants as commands;
 ghost use Rattle.qmp_rules.specs.Answers.{command_edits, refusal_to, returned, told_none};
 ghost use Rattle.qmp_rules.specs.Changes.{all_changed};
-ghost use Rattle.qmp_rules.specs.Edits.{backup_job};
+ghost use Rattle.blk_nodes.specs.Nodes.{filter_kind};
+ghost use Rattle.qmp_rules.specs.Edits.{filter_name};
 ghost use Rattle.qmp_rules.specs.Fitting.{AllChangesFit};
 ghost use Rattle.qmp_rules.specs.Room.{HasRoomForChanges};
 ghost use Rattle.qmp_rules.specs.Table.{id_named, kinds_of, node_named};
 ghost use Rattle.world_jobs.specs.Beginning.{IsAsideFor, IsNewJob, IsUsable, aside_of, bitmap_by, work_by};
-ghost use Rattle.world_jobs.specs.Starting.{BeginsBehind, CanStart, FilterFits, HasFilter, IsStartOf, StartFits, start_scene};
+ghost use Rattle.world_jobs.specs.Filtering.{filter_of};
+ghost use Rattle.world_jobs.specs.Plans.{drained_node, plan_of, seen_plan};
+ghost use Rattle.world_jobs.specs.Starting.{BeginsBehind, CanStart, FilterFits, HasFilter, IsStartOf, StartFits, name_of, shape_over, start_scene};
 ghost use Rattle.world_parts.specs.Coherent.{AreNodesOf};
 ghost use Rattle.world_parts.specs.Draining.{IsFirstOf, held_if};
 ghost use Rattle.world_parts.specs.Saying.{IsSaid};
 
-use crate::filtering::put_filter;
+use crate::filtering::{FilterShape, filter_of, put_filter};
 use crate::new_job::{Aside, NewJob};
+use crate::plan::CopyPlan;
 use crate::start::Started;
 use blk_base::{Device, NoMemory, PIECE, Text};
 use blk_bitmaps::{Bitmap, BitmapStop, Bitmaps};
@@ -33,7 +36,7 @@ use blk_graph::NodeId;
 use blk_history::JobName;
 use blk_nodes::Nodes;
 use block_jobs::JobWork;
-use qmp_codec::{Backup, Command, JobKind};
+use qmp_codec::{Command, JobKind};
 use qmp_rules::{Edits, EventRoom, Names, NodeRecord, Told};
 use std::alloc::Global;
 use world_parts::{Drained, InTheWay, Progress, accepted_text, first_in_the_way, refused};
@@ -50,23 +53,33 @@ fn listed(alloc: Global, node: Option<NodeId>) -> Result<Vec<NodeId>, NoMemory>
     Ok(disks)
 }
 
-/// The request in flight on a node of this name, if any. The node is held then.
+/// The node that a start drains: a backup its source, and a mirror none.
+fn drained_node(names: &Names, plan: CopyPlan<'_>) -> Option<NodeId>
+    ensures { result ≡ drained_node names.now.table (seen_plan plan) plan.kind }
+{
+    match plan.kind {
+        JobKind::Backup => names.id_named(plan.device),
+        JobKind::Stream | JobKind::Commit | JobKind::Mirror => None,
+    }
+}
+
+/// The request in flight on it, if any. The node is held then.
 fn drain(
     alloc: Global,
     names: &Names,
     progress: &Progress,
     drained: &mut Drained,
-    device: &str,
+    plan: CopyPlan<'_>,
 ) -> Result<Option<InTheWay>, NoMemory>
     requires few { (g : ℕ) → IsSome (drive_of names.now.table g) → g < 80 }
     ensures first { IfOk result
         (λ found. (s : State) → s.table ≡ names.now.table → s.guests ≡ progress.now.guests
-        → IsFirstOf s (ids_of (id_named names.now.table device.now)) found) }
-    ensures held { IfOk result (λ found. drained.new
-        ≡ held_if found (ids_of (id_named names.now.table device.now)) drained.old) }
+        → IsFirstOf s (ids_of (drained_node names.now.table (seen_plan plan) plan.kind)) found) }
+    ensures held { IfOk result (λ found. drained.new ≡ held_if found
+        (ids_of (drained_node names.now.table (seen_plan plan) plan.kind)) drained.old) }
     ensures back { OnErr result (drained.new ≡ drained.old) }
 {
-    let disks = listed(alloc, names.id_named(device))?;
+    let disks = listed(alloc, drained_node(names, plan))?;
     let found = first_in_the_way(names, progress, disks.as_slice());
     if found.is_some() {
         drained.hold(disks);
@@ -90,23 +103,22 @@ fn node_named<'x>(names: &'x Names, name: &str) -> &'x NodeRecord
     }
 }
 
-/// The bitmap that a backup copies by.
-fn bitmap_by<'x>(bitmaps: &'x Bitmaps, source: NodeId, name: &Option<String>) -> Option<&'x Bitmap>
-    ensures { option_copied result
-        ≡ bitmap_by bitmaps.now source (option_map string_bytes name.now) }
+/// The bitmap that is copied by.
+fn bitmap_by<'x>(bitmaps: &'x Bitmaps, source: NodeId, name: Option<&str>) -> Option<&'x Bitmap>
+    ensures { option_copied result ≡ bitmap_by bitmaps.now source (seen_text name) }
 {
     match name {
-        Some(name) => bitmaps.find(source, name.as_str()),
+        Some(name) => bitmaps.find(source, name),
         None => None,
     }
 }
 
 /// All of the disk is to be copied.
-fn work_of_all(alloc: Global, number: u32, size: u64) -> Result<JobWork, NoMemory>
+fn work_of_all(alloc: Global, kind: JobKind, number: u32, size: u64) -> Result<JobWork, NoMemory>
     requires { size ≤ 2 ^ 47 }
-    ensures { IfOk result (λ work. work ≡ work_by number size None) }
+    ensures { IfOk result (λ work. work ≡ work_by kind number size None) }
 {
-    let mut work = JobWork::new(alloc, JobKind::Backup, number, size, PIECE)?;
+    let mut work = JobWork::new(alloc, kind, number, size, PIECE)?;
     work.add_all();
     Ok(work)
 }
@@ -114,31 +126,34 @@ fn work_of_all(alloc: Global, number: u32, size: u64) -> Result<JobWork, NoMemor
 /// What the bitmap holds is to be copied.
 fn work_of_dirty(
     alloc: Global,
+    kind: JobKind,
     number: u32,
     size: u64,
     bitmap: &Bitmap,
 ) -> Result<JobWork, NoMemory>
     requires { size ≤ 2 ^ 47 }
-    ensures { IfOk result (λ work. work ≡ work_by number size (Some bitmap.now)) }
+    ensures { IfOk result (λ work. work ≡ work_by kind number size (Some bitmap.now)) }
 {
     let granularity = bitmap.granularity.bytes();
-    let mut work = JobWork::new(alloc, JobKind::Backup, number, size, granularity)?;
+    let mut work = JobWork::new(alloc, kind, number, size, granularity)?;
     work.add_granules(&bitmap.dirty, granularity);
     Ok(work)
 }
 
 fn new_work(
     alloc: Global,
+    kind: JobKind,
     number: u32,
     size: u64,
     bitmap: Option<&Bitmap>,
 ) -> Result<JobWork, NoMemory>
     requires { size ≤ 2 ^ 47 }
-    ensures { IfOk result (λ work. work ≡ work_by number size (option_copied bitmap.entry)) }
+    ensures { IfOk result
+        (λ work. work ≡ work_by kind number size (option_copied bitmap.entry)) }
 {
     match bitmap {
-        Some(bitmap) => work_of_dirty(alloc, number, size, bitmap),
-        None => work_of_all(alloc, number, size),
+        Some(bitmap) => work_of_dirty(alloc, kind, number, size, bitmap),
+        None => work_of_all(alloc, kind, number, size),
     }
 }
 
@@ -166,16 +181,16 @@ fn new_aside(
     alloc: Global,
     bitmaps: &Bitmaps,
     source: NodeId,
-    name: &Option<String>,
+    name: Option<&str>,
 ) -> Result<Option<Aside>, NoMemory>
-    requires { IsUsable bitmaps.now source (option_map string_bytes name.now) }
-    ensures { IfOk result (λ aside. IsAsideFor bitmaps.now source
-        (option_map string_bytes name.now) (option_map aside_of aside)) }
+    requires { IsUsable bitmaps.now source (seen_text name) }
+    ensures { IfOk result (λ aside. IsAsideFor bitmaps.now source (seen_text name)
+        (option_map aside_of aside)) }
 {
     match name {
         Some(name) => {
-            let spare = spare_set(bitmaps, source, name.as_str())?;
-            let name = Text::copied(alloc, name.as_str())?;
+            let spare = spare_set(bitmaps, source, name)?;
+            let name = Text::copied(alloc, name)?;
             Ok(Some(Aside { name, spare }))
         }
         None => Ok(None),
@@ -183,44 +198,59 @@ fn new_aside(
 }
 
 /// The job that an accepted command starts.
-fn new_job(alloc: Global, names: &Names, bitmaps: &Bitmaps, c: &Backup) -> Result<NewJob, NoMemory>
-    requires { CanStart names.now.table bitmaps.now (seen_backup c.now) }
-    ensures { IfOk result (IsNewJob names.now.table bitmaps.now
-        (backup_job names.now.table None (seen_backup c.now))) }
+fn new_job(
+    alloc: Global,
+    names: &Names,
+    bitmaps: &Bitmaps,
+    plan: CopyPlan<'_>,
+) -> Result<NewJob, NoMemory>
+    requires { CanStart names.now.table bitmaps.now (seen_plan plan) }
+    ensures { IfOk result (λ new. (c : CopyCmd) → seen_plan plan ≡ plan_of c
+        → IsNewJob names.now.table bitmaps.now (copy_job names.now.table c) new) }
 {
-    let source = node_named(names, c.device.as_str());
+    let source = node_named(names, plan.device);
     if MOST_BYTES < source.size {
         return Err(NoMemory);
     }
-    let target = node_named(names, c.target.as_str()).id;
-    let bitmap = bitmap_by(bitmaps, source.id, &c.bitmap);
-    let id = Text::copied(alloc, c.job_id.as_str())?;
+    let target = node_named(names, plan.target).id;
+    let bitmap = bitmap_by(bitmaps, source.id, plan.bitmap);
+    let id = Text::copied(alloc, plan.job_id)?;
     Ok(NewJob {
-        work: new_work(alloc, names.started(), source.size, bitmap)?,
-        name: JobName::new(id, JobKind::Backup, source.size),
+        work: new_work(alloc, plan.kind, names.started(), source.size, bitmap)?,
+        name: JobName::new(id, plan.kind, source.size),
         source: source.id,
         target,
-        aside: new_aside(alloc, bitmaps, source.id, &c.bitmap)?,
+        aside: new_aside(alloc, bitmaps, source.id, plan.bitmap)?,
         room: EventRoom::new(alloc)?,
     })
 }
 
-/// The name of the job's filter.
-fn filter_name(alloc: Global, id: &str) -> Result<Text, NoMemory>
-    ensures { IfOk result (λ name. name.bytes ≡ codes "#cbw:" ++ id.now) }
+/// What the name of a filter begins with.
+fn prefix_of(kind: JobKind) -> &'static str
+    ensures { (id : List ℕ) → result.now ++ id ≡ filter_name (filter_kind (filter_of kind)) id }
 {
-    let mut name = String::from_str(alloc, "#cbw:")?;
+    match kind {
+        JobKind::Backup => "#cbw:",
+        JobKind::Stream | JobKind::Commit | JobKind::Mirror => "#mirror:",
+    }
+}
+
+/// The name of the job's filter.
+fn filter_name(alloc: Global, kind: JobKind, id: &str) -> Result<Text, NoMemory>
+    ensures { IfOk result
+        (λ name. name.bytes ≡ filter_name (filter_kind (filter_of kind)) id.now) }
+{
+    let mut name = String::from_str(alloc, prefix_of(kind))?;
     name.push_str(id)?;
     Ok(Text::from_string(name))
 }
 
 /// The same, which no node has: filters have the ids of their jobs, and no other name has a colon.
-fn fresh_name(alloc: Global, names: &Names, id: &str) -> Result<Text, NoMemory>
-    ensures name { IfOk result (λ name. name.bytes ≡ codes "#cbw:" ++ id.now) }
-    ensures fresh { OnOk result
-        (node_named names.now.table (codes "#cbw:" ++ id.now) ≡ None) }
+fn fresh_name(alloc: Global, names: &Names, plan: CopyPlan<'_>) -> Result<Text, NoMemory>
+    ensures name { IfOk result (λ name. name.bytes ≡ name_of (seen_plan plan)) }
+    ensures fresh { OnOk result (node_named names.now.table (name_of (seen_plan plan)) ≡ None) }
 {
-    let name = filter_name(alloc, id)?;
+    let name = filter_name(alloc, plan.kind, plan.job_id)?;
     if names.node_named(name.as_str()).is_some() {
         return Err(NoMemory);
     }
@@ -229,21 +259,15 @@ fn fresh_name(alloc: Global, names: &Names, id: &str) -> Result<Text, NoMemory>
 
 // ---- its start
 
-/// What the filter of a job is, beside its name.
-#[derive(Clone, Copy)]
-struct FilterShape {
-    size: u64,
-    read_only: bool,
-}
-
-/// That of a filter over a node.
-fn filter_shape(names: &Names, source: &str) -> FilterShape
+/// What the filter of a job is that is put over a node.
+fn filter_shape(names: &Names, kind: JobKind, source: &str) -> FilterShape
     requires { IsSome (node_named names.now.table source.now) }
     ensures { IfSome (node_named names.now.table source.now)
-        (λ row. (result.size ≡ row.size) × (result.read_only ≡ row.read_only)) }
+        (λ row. result ≡ shape_over kind row) }
 {
     let row = node_named(names, source);
     FilterShape {
+        kind: filter_of(kind),
         size: row.size,
         read_only: row.read_only,
     }
@@ -259,14 +283,12 @@ fn make_start<D: Device>(
 )
     requires room { HasRoomForChanges (length edits) names.old }
     requires fit { AllChangesFit names.old.table edits }
-    requires filter { FilterFits nodes.old (all_changed names.old.table edits) filter.bytes
-        shape.size shape.read_only }
+    requires filter { FilterFits nodes.old (all_changed names.old.table edits) filter.bytes shape }
     ensures table { names.new.table ≡ all_changed names.old.table edits }
-    ensures nodes { HasFilter nodes.old nodes.new names.new.table filter.bytes shape.size
-        shape.read_only }
+    ensures nodes { HasFilter nodes.old nodes.new names.new.table filter.bytes shape }
 {
     names.apply(edits);
-    put_filter(nodes, names, filter, shape.size, shape.read_only);
+    put_filter(nodes, names, filter, shape);
 }
 
 /// All the memory that an accepted start takes.
@@ -299,24 +321,23 @@ fn start_memory(
     bitmaps: &Bitmaps,
     given: &str,
     command: &Command,
-    c: &Backup,
+    plan: CopyPlan<'_>,
 ) -> Result<StartMemory, NoMemory>
-    requires { CanStart names.now.table bitmaps.now (seen_backup c.now) }
+    requires { CanStart names.now.table bitmaps.now (seen_plan plan) }
     ensures text { IfOk result (λ m. IsSaid given.now
         (Ok (returned names.now.table told_none (seen_command command.now)))
         (string_bytes m.text)) }
-    ensures new { IfOk result (λ m. IsNewJob names.now.table bitmaps.now
-        (backup_job names.now.table None (seen_backup c.now)) m.new) }
-    ensures filter { IfOk result (λ m. m.filter.bytes ≡ codes "#cbw:" ++ (seen_backup c.now).job_id) }
-    ensures fresh { OnOk result
-        (node_named names.now.table (codes "#cbw:" ++ (seen_backup c.now).job_id) ≡ None) }
-    ensures shape { IfOk result (λ m. IfSome (node_named names.now.table (seen_backup c.now).device)
-        (λ row. (m.shape.size ≡ row.size) × (m.shape.read_only ≡ row.read_only))) }
+    ensures new { IfOk result (λ m. (c : CopyCmd) → seen_plan plan ≡ plan_of c
+        → IsNewJob names.now.table bitmaps.now (copy_job names.now.table c) m.new) }
+    ensures filter { IfOk result (λ m. m.filter.bytes ≡ name_of (seen_plan plan)) }
+    ensures fresh { OnOk result (node_named names.now.table (name_of (seen_plan plan)) ≡ None) }
+    ensures shape { IfOk result (λ m. IfSome (node_named names.now.table (seen_plan plan).device)
+        (λ row. m.shape ≡ shape_over plan.kind row)) }
 {
-    let shape = filter_shape(names, c.device.as_str());
-    let filter = fresh_name(alloc, names, c.job_id.as_str())?;
+    let shape = filter_shape(names, plan.kind, plan.device);
+    let filter = fresh_name(alloc, names, plan)?;
     let text = start_text(alloc, names, given, command)?;
-    let new = new_job(alloc, names, bitmaps, c)?;
+    let new = new_job(alloc, names, bitmaps, plan)?;
     Ok(StartMemory {
         text,
         new,
@@ -335,11 +356,11 @@ fn started<D: Device>(
     requires room { HasRoomForChanges (length edits) names.old }
     requires fit { AllChangesFit names.old.table edits }
     requires filter { FilterFits nodes.old (all_changed names.old.table edits)
-        memory.filter.bytes memory.shape.size memory.shape.read_only }
+        memory.filter.bytes memory.shape }
     ensures answer { result ≡ Started.Begun memory.text memory.new }
     ensures table { names.new.table ≡ all_changed names.old.table edits }
     ensures nodes { HasFilter nodes.old nodes.new names.new.table memory.filter.bytes
-        memory.shape.size memory.shape.read_only }
+        memory.shape }
 {
     let StartMemory {
         text,
@@ -351,7 +372,7 @@ fn started<D: Device>(
     Started::Begun { text, new }
 }
 
-/// Starts a backup that nothing refuses, and that waits for no request. All memory is taken before the first change.
+/// Starts a job that nothing refuses, and that waits for no request. All memory is taken before the first change.
 fn accept<D: Device>(
     alloc: Global,
     nodes: &mut Nodes<D>,
@@ -359,27 +380,26 @@ fn accept<D: Device>(
     bitmaps: &Bitmaps,
     given: &str,
     command: &Command,
-    c: &Backup,
+    plan: CopyPlan<'_>,
     edits: Edits,
 ) -> Result<Started, NoMemory>
-    requires command { seen_command command.now ≡ commands.BlockdevBackup (seen_backup c.now) }
-    requires can { CanStart names.old.table bitmaps.now (seen_backup c.now) }
-    requires fits { StartFits names.old.table nodes.old (seen_backup c.now) }
-    requires edits { edits
-        ≡ command_edits names.old.table told_none (commands.BlockdevBackup (seen_backup c.now)) }
+    requires can { CanStart names.old.table bitmaps.now (seen_plan plan) }
+    requires fits { (c : CopyCmd) → seen_plan plan ≡ plan_of c
+        → StartFits names.old.table nodes.old c (seen_plan plan) }
+    requires edits { edits ≡ command_edits names.old.table told_none (seen_command command.now) }
     requires room { HasRoomForChanges (length edits) names.old }
     requires fit { AllChangesFit names.old.table edits }
-    ensures ok { IfOk result
-        (BeginsBehind given.now (seen_backup c.now) bitmaps.now names.old.table nodes.old
-        names.new.table nodes.new) }
+    ensures ok { IfOk result (λ started. (c : CopyCmd) → seen_command command.now ≡ cmd_of c
+        → seen_plan plan ≡ plan_of c → BeginsBehind given.now c bitmaps.now names.old.table
+        nodes.old names.new.table nodes.new started) }
     ensures table_kept { OnErr result (names.new.table ≡ names.old.table) }
     ensures nodes_kept { OnErr result (nodes.new ≡ nodes.old) }
 {
-    let memory = start_memory(alloc, names, bitmaps, given, command, c)?;
+    let memory = start_memory(alloc, names, bitmaps, given, command, plan)?;
     Ok(started(nodes, names, edits, memory))
 }
 
-/// Starts a backup that nothing refuses, or says which request it has to wait for. Its source is held then.
+/// Starts a job that nothing refuses, or says which request it has to wait for. Its source is held then.
 fn start_or_wait<D: Device>(
     alloc: Global,
     nodes: &mut Nodes<D>,
@@ -389,38 +409,37 @@ fn start_or_wait<D: Device>(
     drained: &mut Drained,
     given: &str,
     command: &Command,
-    c: &Backup,
+    plan: CopyPlan<'_>,
     edits: Edits,
 ) -> Result<Started, NoMemory>
-    requires command { seen_command command.now ≡ commands.BlockdevBackup (seen_backup c.now) }
     requires few { (g : ℕ) → IsSome (drive_of names.old.table g) → g < 80 }
-    requires accepted { refusal_to names.old.table told_none
-        (commands.BlockdevBackup (seen_backup c.now)) ≡ None }
-    requires can { CanStart names.old.table bitmaps.now (seen_backup c.now) }
-    requires fits { StartFits names.old.table nodes.old (seen_backup c.now) }
-    requires edits { edits
-        ≡ command_edits names.old.table told_none (commands.BlockdevBackup (seen_backup c.now)) }
+    requires accepted { refusal_to names.old.table told_none (seen_command command.now) ≡ None }
+    requires can { CanStart names.old.table bitmaps.now (seen_plan plan) }
+    requires fits { (c : CopyCmd) → seen_plan plan ≡ plan_of c
+        → StartFits names.old.table nodes.old c (seen_plan plan) }
+    requires edits { edits ≡ command_edits names.old.table told_none (seen_command command.now) }
     requires room { HasRoomForChanges (length edits) names.old }
     requires fit { AllChangesFit names.old.table edits }
     ensures ok { IfOk result
-        (λ started. (s : State) → s.table ≡ names.old.table → s.guests ≡ progress.now.guests
-        → IsStartOf s given.now (seen_backup c.now) bitmaps.now
+        (λ started. (s : State) (c : CopyCmd) → s.table ≡ names.old.table
+        → s.guests ≡ progress.now.guests → seen_command command.now ≡ cmd_of c
+        → seen_plan plan ≡ plan_of c → IsStartOf s given.now c bitmaps.now
         (start_scene names.old.table nodes.old drained.old)
         (start_scene names.new.table nodes.new drained.new) started) }
     ensures back { OnErr result (start_scene names.new.table nodes.new drained.new
         ≡ start_scene names.old.table nodes.old drained.old) }
 {
-    match drain(alloc, names, progress, drained, c.device.as_str())? {
+    match drain(alloc, names, progress, drained, plan)? {
         Some(way) => Ok(Started::Later {
             guest: way.guest,
             request: way.request,
         }),
-        None => accept(alloc, nodes, names, bitmaps, given, command, c, edits),
+        None => accept(alloc, nodes, names, bitmaps, given, command, plan, edits),
     }
 }
 
-/// Starts a backup, or refuses it, or says which request it has to wait for. The job begins behind the reply, by `NewJob::begin`. For
-/// want of memory all is as before.
+/// Starts a backup or a mirror, or refuses it, or says which request it has to wait for. The job begins behind the reply, by
+/// `NewJob::begin`. For want of memory all is as before.
 pub fn carry_start<D: Device>(
     alloc: Global,
     nodes: &mut Nodes<D>,
@@ -430,17 +449,19 @@ pub fn carry_start<D: Device>(
     drained: &mut Drained,
     given: &str,
     command: &Command,
-    c: &Backup,
+    plan: CopyPlan<'_>,
 ) -> Result<Started, NoMemory>
-    requires command { seen_command command.now ≡ commands.BlockdevBackup (seen_backup c.now) }
+    requires command { (c : CopyCmd) × (seen_command command.now ≡ cmd_of c)
+        × (seen_plan plan ≡ plan_of c) }
     requires alike { AreNodesOf names.old.table nodes.old }
     requires rests { TableAtRest names.old.table }
     requires jobs { JobsGoOn names.old.table }
     requires few { (g : ℕ) → IsSome (drive_of names.old.table g) → g < 80 }
     requires bitmaps { AreBitmapsOf names.old.table.bitmaps bitmaps.now }
     ensures ok { IfOk result
-        (λ started. (s : State) → s.table ≡ names.old.table → s.guests ≡ progress.now.guests
-        → IsStartOf s given.now (seen_backup c.now) bitmaps.now
+        (λ started. (s : State) (c : CopyCmd) → s.table ≡ names.old.table
+        → s.guests ≡ progress.now.guests → seen_command command.now ≡ cmd_of c
+        → seen_plan plan ≡ plan_of c → IsStartOf s given.now c bitmaps.now
         (start_scene names.old.table nodes.old drained.old)
         (start_scene names.new.table nodes.new drained.new) started) }
     ensures back { OnErr result (start_scene names.new.table nodes.new drained.new
@@ -450,7 +471,7 @@ pub fn carry_start<D: Device>(
     let told = Told::nothing(alloc);
     match names.prepare(alloc, command, &told) {
         Ok(edits) => start_or_wait(
-            alloc, nodes, names, bitmaps, progress, drained, given, command, c, edits,
+            alloc, nodes, names, bitmaps, progress, drained, given, command, plan, edits,
         ),
         Err(stop) => {
             let text = refused(alloc, given, stop)?;

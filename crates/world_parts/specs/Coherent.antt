@@ -1,5 +1,5 @@
 -- How the parts of the world belong together between events.
-use Rattle.std.specs.Prelude.{◌≡◌, ◌≢◌, ℕ, ◌+◌, ◌<◌, ◌≤◌, true, false, if◌then◌else◌, List, [], ◌∷◌, length, slice_get, AllPairs, map, Contains, Option, Some, None, IsSome, is_some}
+use Rattle.std.specs.Prelude.{◌≡◌, ◌≢◌, ℕ, ◌+◌, ◌<◌, ◌≤◌, true, false, if◌then◌else◌, List, [], ◌∷◌, length, slice_get, All, AllPairs, map, Contains, Option, Some, None, IsSome, is_some}
 use Rattle.blk_base.specs.Pieces.{end_of}
 use Rattle.blk_base.specs.declared.file.File.{File}
 use Rattle.blk_base.specs.declared.file.Opened.{Opened}
@@ -12,26 +12,28 @@ use Rattle.blk_graph.specs.declared.edge.Parent.TheVariants.{Guest as GuestOf}
 use Rattle.blk_graph.specs.declared.kind.Kind.{Kind}
 use Rattle.blk_graph.specs.declared.kind.Kind.TheVariants.{Protocol}
 use Rattle.block_jobs.specs.Work.{JobWork}
-use Rattle.qmp_codec.specs.declared.event.JobKind.TheVariants.{Backup}
 use Rattle.blk_nodes.specs.Nodes.{Nodes, DeviceSeen, AreTold, row_at, driver_kind}
 use Rattle.blk_nodes.specs.declared.row.Driver.{Driver}
 use Rattle.blk_nodes.specs.declared.row.Driver.TheVariants.{Raw}
 use Rattle.blk_nodes.specs.declared.row.Row.{Row}
 use Rattle.qmp_rules.specs.declared.rows.DeviceRow.{DeviceRow}
+use Rattle.qmp_rules.specs.declared.rows.AskedEnd.TheVariants as asked
 use Rattle.qmp_rules.specs.declared.rows.JobRecord.{JobRecord}
 use Rattle.qmp_rules.specs.declared.rows.NodeRecord.{NodeRecord}
-use Rattle.qmp_rules.specs.Table.{RunTable, node_by_id, device_by_number}
+use Rattle.qmp_rules.specs.Table.{RunTable, node_by_id, device_by_number, job_at}
 use Rattle.qmp_rules.specs.Chains.{disk_node}
 use Rattle.qmp_rules.specs.Queries.{bytes_of_node}
 use Rattle.qmp_asks.specs.Values.{most_length}
 use Rattle.flat_machine.specs.Agreement.{HasDisk}
 use Rattle.flat_machine.specs.Bitmaps.{AreBitmapsOf}
 use Rattle.flat_machine.specs.Legal.{IsForbidden}
+use Rattle.flat_machine.specs.Marks.{Drained}
 use Rattle.flat_machine.specs.Wiring.{TableAtRest}
 use Rattle.flat_machine.specs.State.{Guest, drive_of, disk_of_guest, filename_of}
 use Rattle.job_commands.specs.Bitmaps.{UsesStand}
 use Rattle.job_ends.specs.Rows.{AreCopyRows}
 use Rattle.job_progress.specs.Belonging.{AreWorksOf}
+use Rattle.job_progress.specs.Going.{copies_blocks}
 use Rattle.job_tables.specs.Copiers.{CopiesGo}
 use Rattle.job_tables.specs.Jobs.{JobsStand}
 use Rattle.job_tables.specs.Running.{JobsRun}
@@ -167,9 +169,9 @@ abbrev pub entries_owed_by : List JobRecord → ℕ
 entries_owed_by [] = 0
 entries_owed_by (row ∷ rows) = entries_owed row + entries_owed_by rows
 
--- so far backups alone are started, one by one
-pub record IsLoneBackup (row : JobRecord) : Type 0 where
-  pub kind : row.kind ≡ Backup
+-- so far backups and mirrors alone are started, one by one
+pub record IsLoneCopy (row : JobRecord) : Type 0 where
+  pub kind : copies_blocks row.kind ≡ true
   pub group : row.group ≡ None
 
 -- Jobs stand and run, with rows as their starts put them, of which no two have one number. Each has its work and uses the bitmap
@@ -183,7 +185,20 @@ pub record AreJobsKept (t : RunTable) (works : List JobWork) (aside : ℕ) : Typ
   pub uses : UsesStand t
   pub belong : AreWorksOf t works
   pub room : aside ≡ entries_owed_by t.jobs
-  pub lone : (row : JobRecord) → Contains t.jobs row → IsLoneBackup row
+  pub lone : (row : JobRecord) → Contains t.jobs row → IsLoneCopy row
+
+-- ---- drains of jobs
+
+-- a job of the table that is asked to end
+pub record IsAskedJob (t : RunTable) (job : ℕ) : Type 0 where
+  pub row : JobRecord
+  pub there : job_at t job ≡ Some row
+  pub ends : row.asked ≢ asked.Nothing
+
+-- Those that hold a disk are such jobs, each once.
+pub record AreDrainsKept (t : RunTable) (drains : Drained) : Type 0 where
+  pub each : All (IsAskedJob t) drains.jobs
+  pub once : AllPairs (λ a b. a ≢ b) drains.jobs
 
 -- ---- all of it
 
@@ -193,3 +208,4 @@ pub record IsWholeWorld (w : WorldSeen) : Type 0 where
   pub counted : w.first_faults ≤ w.faults
   pub bitmaps : AreBitmapsOf w.table.bitmaps w.bitmaps
   pub jobs : AreJobsKept w.table w.works w.progress.aside
+  pub drains : AreDrainsKept w.table w.drains

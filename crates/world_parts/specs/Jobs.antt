@@ -1,5 +1,5 @@
 -- What jobs do to a world: they begin, copy and end.
-use Rattle.std.specs.Prelude.{◌≡◌, ◌⊎◌, ◌≤◌, ℕ, ◌+◌, Bool, true, false, List, [], ◌∷◌, ◌++◌, length, Option, Some, None, IfSome, option_map, Result}
+use Rattle.std.specs.Prelude.{◌≡◌, ◌⊎◌, ◌≤◌, ℕ, ◌+◌, Bool, true, false, List, [], ◌∷◌, ◌++◌, length, Option, Some, None, IfSome, is_some, option_map, Result}
 use Rattle.std.specs.List.{list_any}
 use Rattle.blk_base.specs.Pieces.{Extent}
 use Rattle.blk_base.specs.declared.fault.Fault.{Fault}
@@ -10,7 +10,7 @@ use Rattle.blk_copy.specs.declared.transfers.Transfer.{Transfer}
 use Rattle.trace_codec.specs.declared.op.Op.{Op}
 use Rattle.blk_history.specs.Fold.{With}
 use Rattle.blk_history.specs.declared.entry.JobEnd.{JobEnd}
-use Rattle.blk_history.specs.declared.event.Event.TheVariants.{End}
+use Rattle.blk_history.specs.declared.event.Event.TheVariants.{End, Ready}
 use Rattle.blk_nodes.specs.Adding.{with_node_row, filtering_row}
 use Rattle.blk_nodes.specs.Contents.{disk_of}
 use Rattle.blk_nodes.specs.Joined.{IsJoined}
@@ -22,19 +22,22 @@ use Rattle.node_copies.specs.Putting.{PutsRuns}
 use Rattle.node_copies.specs.Sectors.{runs_of}
 use Rattle.block_jobs.specs.Work.{JobWork}
 use Rattle.qmp_rules.specs.Changes.{all_changed}
-use Rattle.qmp_rules.specs.Ends.{end_edits, drops_aside}
+use Rattle.qmp_rules.specs.Ends.{end_edits, drops_aside, ready_edits}
 use Rattle.qmp_rules.specs.Table.{RunTable, job_at, kinds_of, node_by_id}
 use Rattle.qmp_rules.specs.declared.rows.JobRecord.{JobRecord}
 use Rattle.qmp_rules.specs.declared.rows.NodeRecord.{NodeRecord}
 use Rattle.qmp_rules.specs.declared.rows.UsedBitmap.{UsedBitmap}
 use Rattle.flat_machine.specs.Comes.{job_line_of}
 use Rattle.flat_machine.specs.EventLicence.{Deed, PieceOn, Take, Settle, EndsAsMet, MayMeet}
-use Rattle.flat_machine.specs.Jobs.{is_success, outcome_of, target_written}
+use Rattle.flat_machine.specs.Jobs.{can_be_ready, is_success, outcome_of, target_written}
 use Rattle.flat_machine.specs.Legal.{MayEnd, offset_at_end}
+use Rattle.flat_machine.specs.Marks.{AreCalm, after_end, end_marks}
+use Rattle.flat_machine.specs.declared.opening.Opening.{Opening}
 use Rattle.job_progress.specs.Beginning.{work_begun}
 use Rattle.job_works.specs.Steps.{Guarded, Settled, Taken}
 use Rattle.job_works.specs.Works.{ChangesWork, without_work, work_of}
 use Rattle.world_parts.specs.Coherent.{AreNodesOf, entries_owed}
+use Rattle.world_parts.specs.Comes.{Comes}
 use Rattle.world_parts.specs.Counting.{RunsOn, HidesNoFault, counts_within, seen_sources}
 use Rattle.world_parts.specs.Face.{WorldSeen, counts_now, seen_state}
 use Rattle.world_parts.specs.Keeping.{rise_of}
@@ -173,14 +176,33 @@ pub record SettlesBlock (w v : WorldSeen) (row : JobRecord) (target : ℕ) (t : 
   pub settles : ChangesWork row.number (Settled row.kind w.nodes v.nodes target t bytes answer)
       w.works v.works
 
--- ---- ends
+-- ---- readiness and ends
 
 -- nothing is left to copy, and no copy is in flight
 pub record HasCopiedAll (work : JobWork) : Type 0 where
   pub left : list_any (λ part. part) work.left ≡ false
   pub rows : work.rows ≡ []
 
--- A job ends as its turn says, once nothing is left where it ends without error.
+-- the target reads as the source
+abbrev pub ReadsAsSource : WorldSeen → JobRecord → Type 0
+ReadsAsSource w row =
+    (target : ℕ) → row.target ≡ Some target
+    → disk_of w.nodes target ≡ disk_of w.nodes row.source
+
+-- A job is ready once nothing is left: where the store tells its files, its target reads as its source then.
+pub record ReadiesJob (w v : WorldSeen) (row : JobRecord) : Type 0 where
+  pub there : job_at w.table row.number ≡ Some row
+  pub can : can_be_ready row row.kind ≡ true
+  pub yet : row.is_ready ≡ false
+  pub made : With (work_of w.works row.number) HasCopiedAll
+  pub alike : (o : Opening) → Comes o w → is_some w.files ≡ true → ReadsAsSource v row
+  pub kept : v ≡ record w {
+    table = all_changed w.table (ready_edits row);
+    progress = with_job_entry 1 (Ready row.number) w.progress;
+  }
+
+-- A job ends as its turn says, once nothing is left where it ends without error. No request is in flight on a disk that its end
+-- marks, and it holds none from then on.
 pub record EndsJob (w v : WorldSeen) (row : JobRecord) (why : JobEnd) (offset : ℕ) : Type 0
   where
     pub there : job_at w.table row.number ≡ Some row
@@ -188,11 +210,13 @@ pub record EndsJob (w v : WorldSeen) (row : JobRecord) (why : JobEnd) (offset : 
     pub met : EndsAsMet (seen_sources w) row.number why
     pub made : is_success why ≡ true → With (work_of w.works row.number) HasCopiedAll
     pub progress : offset ≡ offset_at_end (seen_state w) row why
+    pub calm : AreCalm w.table w.progress.guests (end_marks row row.kind why)
     pub pulls : PullsFilter v.table row w.nodes v.nodes
     pub kept : v ≡ record w {
       nodes = v.nodes;
       table = all_changed w.table (end_edits w.table row (outcome_of why));
       bitmaps = bitmaps_ended row why w.bitmaps;
       works = without_work row.number w.works;
+      drains = after_end row.number w.drains;
       progress = with_job_entry (entries_owed row) (End row.number why offset) w.progress;
     }

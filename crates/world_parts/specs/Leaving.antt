@@ -12,7 +12,7 @@ use Rattle.qmp_rules.specs.declared.told.Told.{Told}
 use Rattle.world_parts.specs.Adding.{Adding, Taken}
 use Rattle.world_parts.specs.Deleting.{Ground, IsDeleted, ground_in}
 use Rattle.world_parts.specs.Handling.{IsRewired, bitmaps_deleted}
-use Rattle.qmp_rules.specs.Edits.{backup_job}
+use Rattle.qmp_rules.specs.Edits.{backup_job, mirror_job}
 use Rattle.world_parts.specs.Jobs.{PutsFilter}
 use Rattle.world_parts.specs.Joining.{HasAdded}
 use Rattle.world_parts.specs.Looking.{HasLooked, Site, site}
@@ -56,6 +56,8 @@ LeavesDone t (command.BlockdevSnapshot c) u old new =
     (new.store ≡ old.store) × IsRewired u old.nodes new.nodes
 LeavesDone t (command.BlockdevBackup c) u old new =
     (new.store ≡ old.store) × PutsFilter u (backup_job t None c) old.nodes new.nodes
+LeavesDone t (command.BlockdevMirror c) u old new =
+    (new.store ≡ old.store) × PutsFilter u (mirror_job t c) old.nodes new.nodes
 LeavesDone t c u old new = new ≡ old
 
 -- Told this, it is refused or not. A refusal leaves all as it was, but for the looks of an addition, and for what a call of a

@@ -1,38 +1,59 @@
-//! The disks that a command which has to come again must drain.
-ghost use Rattle.std.specs.Prelude.{◌≡◌, Some};
-ghost use Rattle.flat_machine.specs.Marks.{after_later, after_reply, holds_disk, none_drained};
+//! The disks of which no guest's request is admitted: of the command that has to come again, and of jobs that are asked to end.
+ghost use Rattle.std.specs.Prelude.{◌≡◌, ◌<◌, ◌⊎◌, ◌∷◌, [], true, IfOk, Some, length};
+ghost use Rattle.std.specs.List.{list_any};
+ghost use Rattle.flat_machine.specs.Marks.{after_end, after_later, after_reply, after_turn, holds_disk, is_on, job_disks, none_drained};
 ghost use Rattle.flat_machine.specs.State.{disk_of_guest};
+ghost use Rattle.qmp_rules.specs.Chains.{is_listed};
 
 use crate::in_the_way::is_on_one;
+use blk_base::NoMemory;
 use blk_graph::NodeId;
 use qmp_rules::Names;
 use std::alloc::Global;
 use std::marker::Model;
 
-/// The disks of which no guest's request is admitted, until the command that must drain them is answered. No job holds any
-/// yet.
+/// How many jobs there are at once.
+const MOST_JOBS: usize = 16;
+
+/// The disks of which no guest's request is admitted: those that a command must drain, until it is answered, and the sources of
+/// jobs, from a turn on in which they are asked to end until their ends. Of jobs there are 16 at most.
 #[derive(Drop)]
 pub struct Drained {
     disks: Vec<NodeId>,
+    jobs: Vec<u32>,
 }
 
 impl Model for Drained {
-    ghost use Rattle.std.specs.Prelude.{[]};
+    ghost use Rattle.std.specs.Prelude.{◌≤◌, vec_capacity};
     ghost use Rattle.flat_machine.specs.Marks.{Drained as Seen};
 
     ghost Value = { Seen };
 
-    ghost view = { λ d. record { command = d.disks.items; jobs = [] } };
+    ghost view = { λ d. record { command = d.disks.items; jobs = d.jobs.items } };
+
+    ghost invariant = { λ d. 16 ≤ vec_capacity d.jobs };
+}
+
+/// Whether a job's source is a node that a drive reads as.
+fn is_source(names: &Names, node: NodeId, job: u32) -> bool
+    ensures { result ≡ list_any (is_on names.now.table node) (job_disks names.now.table (job ∷ [])) }
+{
+    match names.job_at(job) {
+        Some(row) => names.disk_node(row.source) == node,
+        None => false,
+    }
 }
 
 impl Drained {
     /// No disk is held.
-    pub fn none(alloc: Global) -> Self
-        ensures { result ≡ none_drained }
+    pub fn none(alloc: Global) -> Result<Self, NoMemory>
+        ensures { IfOk result (λ drained. drained ≡ none_drained) }
     {
-        Drained {
+        let jobs = Vec::with_capacity(alloc, MOST_JOBS)?;
+        Ok(Drained {
             disks: Vec::new(alloc),
-        }
+            jobs,
+        })
     }
 
     /// Holds the disks of a command that has to come again, in place of those of the last one.
@@ -42,11 +63,28 @@ impl Drained {
         self.disks = disks;
     }
 
-    /// Holds no disk any more, once a line is answered.
+    /// Holds no disk of a command any more, once a line is answered.
     pub fn lift(&mut self)
         ensures { self.new ≡ after_reply self.old }
     {
         self.disks.clear();
+    }
+
+    /// Holds the source of a job that is asked to end. Takes no memory.
+    pub fn hold_for(&mut self, job: u32)
+        requires { (is_listed job self.old.jobs ≡ true) ⊎ (length self.old.jobs < 16) }
+        ensures { self.new ≡ after_turn job self.old }
+    {
+        if !self.jobs.iter().any(|other| *other == job) {
+            self.jobs.push_reserved(job);
+        }
+    }
+
+    /// Holds nothing for a job any more, once it is over.
+    pub fn end_job(&mut self, job: u32)
+        ensures { self.new ≡ after_end job self.old }
+    {
+        self.jobs.retain(|other| *other != job);
     }
 
     /// Whether the guests of a disk are held.
@@ -54,6 +92,7 @@ impl Drained {
         ensures { result ≡ holds_disk names.now.table self.now (Some node) }
     {
         is_on_one(names, node, self.disks.as_slice())
+            || self.jobs.iter().any(|job| is_source(names, node, *job))
     }
 }
 

@@ -11,7 +11,7 @@ use Rattle.blk_history.specs.Fold.{With}
 use Rattle.blk_history.specs.Machine.{Flight}
 use Rattle.blk_history.specs.declared.event.Event.{Event}
 use Rattle.blk_history.specs.declared.event.Event.TheVariants.{Piece}
-use Rattle.job_progress.specs.Piecing.{IsGuarded}
+use Rattle.job_progress.specs.Piecing.{IsGuarded, marked_by}
 use Rattle.blk_nodes.specs.Copying.{LowestLacks, images_met}
 use Rattle.blk_nodes.specs.Nodes.{Nodes, device_in, row_at}
 use Rattle.blk_nodes.specs.Writing.{own_file, own_start}
@@ -78,6 +78,10 @@ abbrev pub noted_after : Outcome → Option Extent → ℕ → RunTable → List
 noted_after outcome written drive t rows =
     if is_noted outcome then noted_where written drive t rows else rows
 
+-- what of it was written, where something was
+abbrev pub noted_part : Outcome → Option Extent → Option Extent
+noted_part outcome written = if is_noted outcome then written else None
+
 -- ---- what it needs of jobs
 
 -- what it writes, no backup owes
@@ -89,7 +93,7 @@ IsGuardedPiece w g = IfSome (flight_at w.progress.guests g) (λ f. IfSome (drive
 -- ---- what it leaves of the world
 
 -- So it was in the world, on the guest's drive where it is read, else on the node that the drive reads as; what was written is
--- noted in the bitmaps of each node from the drive down to that one.
+-- noted in the bitmaps of each node from the drive down to that one, and a mirror of that one has to copy it again.
 pub record IsPieceMade (w v : WorldSeen) (g : ℕ) (f : Flight) (outcome : Outcome) : Type 0 where
   pub drive : ℕ
   pub buffer : List ℕ
@@ -103,6 +107,7 @@ pub record IsPieceMade (w v : WorldSeen) (g : ℕ) (f : Flight) (outcome : Outco
     table = table_after f.op (disk_node w.table drive) w.table;
     progress = with_piece_entry g f.next outcome (shown_in_flight f outcome buffer) w.progress;
     bitmaps = noted_after outcome (written_in f.op (part_of f)) drive v.table w.bitmaps;
+    works = marked_by f.op outcome w.table (disk_node w.table drive) (part_of f) w.works;
   }
 
 -- its entry

@@ -6,4 +6,4 @@ mod recording;
 mod transfer;
 
 pub use buffer::Buffer;
-pub use recording::{next_written, note_written};
+pub use recording::{next_written, note_written, noted_part};

@@ -7,7 +7,7 @@ ghost use Rattle.flat_machine.specs.Bitmaps.{noted_rows};
 ghost use Rattle.flat_machine.specs.Machine.{is_noted, path};
 ghost use Rattle.world_parts.specs.Piecing.{part_of};
 ghost use Rattle.world_parts.specs.Progress.{HasNext, flight_at};
-ghost use Rattle.world_pieces.specs.Pieces.{noted_after, noted_where, written_in};
+ghost use Rattle.world_pieces.specs.Pieces.{noted_after, noted_part, noted_where, written_in};
 
 use blk_base::{Outcome, Span};
 use blk_bitmaps::Bitmaps;
@@ -43,6 +43,13 @@ fn is_noted(outcome: Outcome) -> bool
     ensures { result ≡ is_noted outcome }
 {
     matches!(&outcome, Outcome::Good | Outcome::Torn { .. })
+}
+
+/// What of a piece was written, where something was.
+pub fn noted_part(outcome: Outcome, written: Option<Span>) -> Option<Span>
+    ensures { result ≡ noted_part outcome written }
+{
+    if is_noted(outcome) { written } else { None }
 }
 
 /// The role of the edge by which a filter reads.

@@ -11,7 +11,7 @@ ghost use Rattle.world_parts.specs.Progress.{with_bare_entry};
 ghost use Rattle.world_parts.specs.Saying.{given_line};
 ghost use Rattle.world_parts.specs.Steps.{lifted, with_history};
 ghost use Rattle.world_changes.specs.Changing.{is_change};
-ghost use Rattle.world_jobs.specs.Starting.{is_start};
+ghost use Rattle.world_jobs.specs.Plans.{is_start};
 ghost use Rattle.world_parts.specs.Carrying.{IsCarriedAs, IsCarriedOut, IsExecuted, IsPutBack, IsPutBackBy, IsPutBackIn};
 
 use crate::world::World;
@@ -135,7 +135,9 @@ impl<S: Store> World<S> {
     {
         let copy = copied(alloc, given)?;
         match &command {
-            Command::BlockdevBackup(_) => self.put_start(alloc, line, given, copy, command),
+            Command::BlockdevBackup(_) | Command::BlockdevMirror(_) => {
+                self.put_start(alloc, line, given, copy, command)
+            }
             _ => self.put_carried(alloc, line, given, copy, command),
         }
     }

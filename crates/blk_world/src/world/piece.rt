@@ -15,7 +15,8 @@ ghost use Rattle.world_jobs.specs.Guarding.{CanGuard, backup_of};
 ghost use Rattle.world_parts.specs.Coherent.{IsWholeWorld};
 ghost use Rattle.world_parts.specs.Comes.{Comes};
 ghost use Rattle.blk_world.specs.Pieces.{GuardsNext, GuardsWritten, IsPieceBehind};
-ghost use Rattle.world_pieces.specs.Pieces.{IsGuardedPiece, IsPieceMade};
+ghost use Rattle.world_jobs.specs.Marking.{marked_in};
+ghost use Rattle.world_pieces.specs.Pieces.{IsGuardedPiece, IsPieceMade, noted_part};
 ghost use Rattle.world_parts.specs.Piecing.{table_after};
 ghost use Rattle.world_parts.specs.Progress.{HasNext, flight_at};
 
@@ -26,7 +27,7 @@ use blk_nodes::Nodes;
 use qmp_rules::Names;
 use trace_codec::Op;
 use world_jobs::RunningJobs;
-use world_pieces::{next_written, note_written};
+use world_pieces::{next_written, note_written, noted_part};
 
 /// A request that changes a node's disk: every other node that reads it as a backing node has no flat disk any more.
 fn note_write(names: &mut Names, node: NodeId, op: &Op)
@@ -59,6 +60,21 @@ fn guard_written<D: Device>(
         return;
     };
     works.guard(nodes, names, node, part.start / PIECE);
+}
+
+/// What a piece wrote on a node, where it wrote something, the mirror of the node has to copy again.
+fn note_again(
+    works: &mut RunningJobs,
+    names: &Names,
+    node: NodeId,
+    outcome: Outcome,
+    written: &Option<Span>,
+)
+    ensures { works.new
+        ≡ marked_in (noted_part outcome written.now) names.now.table node works.old }
+{
+    let noted = noted_part(outcome, *written);
+    works.mark(names, node, noted);
 }
 
 impl<S: Store> World<S> {
@@ -101,6 +117,7 @@ impl<S: Store> World<S> {
         let outcome = self
             .buffer
             .make_next(&mut self.nodes, &mut self.progress, drive, node, guest);
+        note_again(&mut self.works, &self.names, node, outcome, &written);
         note_written(&mut self.bitmaps, &self.names, drive, outcome, written);
         let _ = self.nodes.edges();
         outcome
@@ -109,7 +126,7 @@ impl<S: Store> World<S> {
     /// Makes the next piece of a guest's request in flight, on its drive where it is read, else on the node that the drive reads as,
     /// and notes it. What is read through a copy-on-read is kept in the image below it. A fault that is named is one of a device
     /// which the drive leads to, and was reached in this call. Before it is written what is left of its block is copied for the backup
-    /// of the disk, where there is one. Takes no memory.
+    /// of the disk, where there is one; what was written a mirror of the disk has to copy again. Takes no memory.
     pub fn piece(&mut self, guest: u32) -> Outcome
         requires { With (flight_at self.old.progress.guests guest) HasNext }
         ensures made { (f : Flight) → flight_at self.old.progress.guests guest ≡ Some f

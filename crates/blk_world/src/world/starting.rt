@@ -4,7 +4,7 @@ ghost use Rattle.flat_machine.specs.Legal.{IsNotDone};
 ghost use Rattle.flat_machine.specs.declared.opening.Opening.{Opening};
 ghost use Rattle.qmp_codec.specs.Commands.{seen_command};
 ghost use Rattle.qmp_codec.specs.Lines.{command_at};
-ghost use Rattle.world_jobs.specs.Starting.{is_start};
+ghost use Rattle.world_jobs.specs.Plans.{is_start};
 ghost use Rattle.world_parts.specs.Carrying.{IsExecuted, IsPutBackBy};
 ghost use Rattle.world_parts.specs.Comes.{Comes};
 ghost use Rattle.world_parts.specs.Face.{seen_state};
@@ -14,11 +14,11 @@ use crate::world::World;
 use blk_base::{NoMemory, Store};
 use qmp_codec::Command;
 use std::alloc::Global;
-use world_jobs::{Started, carry_start};
+use world_jobs::{Started, carry_start, plan_of};
 use world_parts::Executed;
 
 impl<S: Store> World<S> {
-    /// Answers a line that starts a backup, which begins behind the reply.
+    /// Answers a line that starts a backup or a mirror, which begins behind the reply.
     pub(crate) fn put_start(
         &mut self,
         alloc: Global,
@@ -38,7 +38,7 @@ impl<S: Store> World<S> {
         ensures comes { (o : Opening) → Comes o self.old → Comes o self.new }
     {
         let _ = self.nodes.edges();
-        let Command::BlockdevBackup(c) = &command else {
+        let Some(plan) = plan_of(&command) else {
             unreachable!()
         };
         let started = carry_start(
@@ -50,7 +50,7 @@ impl<S: Store> World<S> {
             &mut self.drained,
             given,
             &command,
-            c,
+            plan,
         )?;
         let _ = self.nodes.edges();
         match started {

@@ -17,13 +17,13 @@ ghost use Rattle.world_parts.specs.Coherent.{entries_owed};
 ghost use Rattle.world_parts.specs.Jobs.{bitmaps_ended};
 ghost use Rattle.world_parts.specs.Progress.{with_job_entry};
 
-use crate::filtering::pull_filter;
+use crate::filtering::{filter_of, pull_filter};
 use crate::running::RunningJobs;
 use blk_base::Device;
 use blk_bitmaps::Bitmaps;
 use blk_graph::NodeId;
 use blk_history::JobEnd;
-use blk_nodes::Nodes;
+use blk_nodes::{FilterKind, Nodes};
 use qmp_codec::BitmapMode;
 use qmp_rules::{Edits, EventRoom, JobOutcome, JobRecord, Names, UsedBitmap};
 use world_parts::Progress;
@@ -83,6 +83,7 @@ fn offset_at_end(names: &Names, row: &JobRecord, why: JobEnd) -> u64
 #[derive(Drop)]
 struct PlannedEnd {
     edits: Edits,
+    kind: FilterKind,
     filter: Option<NodeId>,
     drops: bool,
     owed: u32,
@@ -94,6 +95,7 @@ fn planned(names: &Names, row: &JobRecord, room: EventRoom, why: JobEnd) -> Plan
 {
     PlannedEnd {
         edits: room.end_edits(names, row, outcome_of(why)),
+        kind: filter_of(row.kind),
         filter: row.filter,
         drops: drops_aside(why, &row.bitmap),
         owed: entries_owed(row),
@@ -115,7 +117,7 @@ fn planned_at(names: &Names, room: EventRoom, job: u32, why: JobEnd) -> PlannedE
 
 impl RunningJobs {
     /// Ends a job: its row, its edges and its filter go, what was put aside of its bitmap is dropped or is dirty again, its work is no
-    /// more, and the end is noted. Takes no memory.
+    /// more, and the end is noted. By a pivot all that is over its source goes over to its target. Takes no memory.
     pub fn end<D: Device>(
         &mut self,
         nodes: &mut Nodes<D>,
@@ -143,7 +145,7 @@ impl RunningJobs {
         let end = planned_at(names, room, job, why);
         names.apply_event(end.edits);
         match end.filter {
-            Some(filter) => pull_filter(nodes, names, filter),
+            Some(filter) => pull_filter(nodes, names, end.kind, filter),
             None => unreachable!(),
         }
         bitmaps.release(job, end.drops);

@@ -1,9 +1,9 @@
-//! What the turn of a backup is to do.
-ghost use Rattle.std.specs.Prelude.{◌≡◌, None, IsSome};
+//! What the turn of a backup or a mirror is to do.
+ghost use Rattle.std.specs.Prelude.{◌≡◌, true, IsSome};
 ghost use Rattle.blk_history.specs.Fold.{With};
+ghost use Rattle.job_progress.specs.Going.{copies_blocks};
 ghost use Rattle.job_works.specs.Works.{work_of};
-ghost use Rattle.qmp_codec.specs.declared.event.JobKind.TheVariants.{Backup};
-ghost use Rattle.world_jobs.specs.Turning.{IsBackupStep, IsStepFor, IsTurnOf};
+ghost use Rattle.world_jobs.specs.Turning.{IsCopyStep, IsStepFor, IsTurnOf};
 
 use crate::running::RunningJobs;
 use crate::turned::Turn;
@@ -12,19 +12,21 @@ use job_turns::{Step, step_of};
 use qmp_rules::JobRecord;
 
 fn turn_by(step: Step) -> Turn
-    requires { IsBackupStep step }
+    requires { IsCopyStep step }
     ensures { IsStepFor step result }
 {
     match step {
-        Step::End(why) | Step::Finish(why) => Turn::End(why),
+        Step::End(why) => Turn::End(why),
+        Step::Finish(why) => Turn::Finish(why),
+        Step::GetReady => Turn::GetReady,
         Step::Copy => Turn::Copy,
         Step::Wait => Turn::Wait,
-        Step::Go | Step::GetReady => unreachable!(),
+        Step::Go => unreachable!(),
     }
 }
 
 fn turn_of(all_done: bool, row: &JobRecord, work: &JobWork) -> Turn
-    requires { row.now.kind ≡ Backup }
+    requires { copies_blocks row.now.kind ≡ true }
     ensures { IsTurnOf all_done row.now work.now result }
 {
     work.law();
@@ -32,10 +34,10 @@ fn turn_of(all_done: bool, row: &JobRecord, work: &JobWork) -> Turn
 }
 
 impl RunningJobs {
-    /// What the turn of a backup is to do.
+    /// What the turn of a backup or a mirror is to do.
     pub fn turn(&self, all_done: bool, row: &JobRecord) -> Turn
         requires there { IsSome (work_of self.now row.now.number) }
-        requires kind { row.now.kind ≡ Backup }
+        requires kind { copies_blocks row.now.kind ≡ true }
         ensures { With (work_of self.now row.now.number)
             (λ work. IsTurnOf all_done row.now work result) }
     {
