@@ -308,6 +308,7 @@ guards_block w v drive op row target block whole step done_for target_is writes 
     let did = step.changes.done.guards in
     let files = guard_files w v row Does step whole drive op done_for target block target_is writes did in (
       record {
+        kind = done_for.0;
         copies =
             copies_by w v row Does step whole (PieceOn drive op) (CopyPasses w.nodes target) files.devices
             (guard_meets w v row Does step whole drive op done_for target block target_is writes did);

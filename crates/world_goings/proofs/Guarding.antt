@@ -85,7 +85,7 @@ module _ (w v : WorldSeen) (drive : ℕ) (op : Op) (row : JobRecord) (target blo
         ap (λ (x : JobWork). x.met) (sym is) ∙ none,
         λ ahead.
             subst (IsJobAhead (start o) h s (disk_of v.nodes) row) (sym is)
-            (copied_goes (start o) s h (disk_of w.nodes) (disk_of v.nodes) row was block (whole.jobs.lone row here).kind
+            (copied_goes (start o) s h (disk_of w.nodes) (disk_of v.nodes) row was block did.kind
             (sound_was w v _ _ row did.copies Does did.guards whole.jobs.belong)
             (λ other due goal at far.
             let both : Some target ≡ Some other = sym did.target_is ∙ at in

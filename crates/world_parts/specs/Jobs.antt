@@ -21,6 +21,7 @@ use Rattle.blk_nodes.specs.declared.row.FilterKind.{FilterKind}
 use Rattle.node_copies.specs.Putting.{PutsRuns}
 use Rattle.node_copies.specs.Sectors.{runs_of}
 use Rattle.block_jobs.specs.Work.{JobWork}
+use Rattle.qmp_codec.specs.declared.event.JobKind.TheVariants.{Backup}
 use Rattle.qmp_rules.specs.Changes.{all_changed}
 use Rattle.qmp_rules.specs.Ends.{end_edits, drops_aside, ready_edits}
 use Rattle.qmp_rules.specs.Table.{RunTable, job_at, kinds_of, node_by_id}
@@ -148,9 +149,10 @@ pub record WritesTarget (nodes now : Nodes) (target : ℕ) : Type 0 where
   pub leaves : LeavesNodes nodes now target
   pub may : MayWriteThrough nodes target
 
--- What is left of a block is copied before a guest's write on its drive.
+-- What is left of a backup's block is copied before a guest's write on its drive.
 pub record GuardsBlock (w v : WorldSeen) (drive : ℕ) (op : Op) (row : JobRecord)
     (target block : ℕ) : Type 0 where
+  pub kind : row.kind ≡ Backup
   pub copies : CopiesFor w v (PieceOn drive op) (CopyPasses w.nodes target) row
   pub writes : WritesTarget w.nodes v.nodes target
   pub target_is : row.target ≡ Some target
