@@ -1,32 +1,27 @@
 -- Jobs are as far as they were behind a step of one of them.
-use Rattle.std.proofs.Common.{◌≡◌, ◌≢◌, ℕ, true, List, refl, sym, ◌∙◌, ap, subst, Some, None}
+use Rattle.std.proofs.Common.{◌≡◌, ◌≢◌, ℕ, List, refl, sym, ◌∙◌, ap, subst, Some, None}
 use Rattle.std.specs.Prelude.{Contains, unwrap_or, ◌==◌}
 use Rattle.blk_base.specs.declared.fault.Fault.{Fault}
 use Rattle.blk_graph.proofs.Members.{find-Some}
 use Rattle.blk_history.specs.declared.event.Event.{Event}
 use Rattle.block_jobs.specs.Work.{JobWork, failed_by}
 use Rattle.blk_nodes.specs.Contents.{disk_of}
-use Rattle.qmp_codec.specs.declared.event.JobKind.TheVariants.{Backup}
 use Rattle.qmp_rules.specs.Table.{RunTable, job_at}
 use Rattle.qmp_rules.specs.declared.rows.JobRecord.{JobRecord}
 use Rattle.flat_machine.specs.EventLicence.{Deed}
 use Rattle.flat_machine.specs.State.{State}
 use Rattle.job_tables.specs.Jobs.{JobsStand}
 use Rattle.job_works.specs.Works.{ChangesWork}
-use Rattle.job_progress.specs.Going.{AreJobsAhead, IsJobAhead, copies_blocks}
+use Rattle.job_progress.specs.Going.{AreJobsAhead, IsJobAhead}
 use Rattle.job_progress.proofs.Goes.{alike_itself, goes}
 use Rattle.job_progress.proofs.Others.{others_go}
 use Rattle.world_parts.specs.Coherent.{AreJobsKept}
 use Rattle.world_parts.specs.Face.{WorldSeen}
 use Rattle.world_parts.specs.Jobs.{CopiesFor}
 
--- a job of the table, which so far is a backup
+-- a job of the table
 pub job_there : (t : RunTable) (row : JobRecord) → job_at t row.number ≡ Some row → Contains t.jobs row
 job_there t row at = (find-Some (λ (r : JobRecord). r.number == row.number) t.jobs row at).0
-
-pub job_copies : (t : RunTable) (works : List JobWork) (aside : ℕ) (row : JobRecord) → AreJobsKept t works aside → Contains t.jobs row
-    → (row.kind ≡ Backup) × (copies_blocks row.kind ≡ true)
-job_copies t works aside row jobs there = let kind = (jobs.lone row there).kind in (kind, ap copies_blocks kind)
 
 -- a job that met a fault isn't one that met none
 pub failed_not : {A : Type 0} (work : JobWork) (fault : Fault) (now : JobWork) → now ≡ failed_by fault work → now.met ≡ None → A

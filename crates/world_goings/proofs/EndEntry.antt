@@ -1,8 +1,7 @@
--- The entry of a backup's end: that it fits the state before it, and what the flat machine comes to by it.
-use Rattle.std.proofs.Common.{◌≡◌, ℕ, Bool, true, false, cond, List, ◌∷◌, Option, Some, None, refl, sym, ◌∙◌, ap, subst}
+-- The entry of the end of a backup or mirror: that it fits the state before it, and what the flat machine comes to by it.
+use Rattle.std.proofs.Common.{◌≡◌, ℕ, true, false, cond, List, [], ◌∷◌, Option, Some, None, refl, sym, ◌∙◌, ap, subst}
 use Rattle.std.specs.Prelude.{◌||◌, Contains}
 use Rattle.std.proofs.lemmas.Bool.{false≢true}
-use Rattle.std.proofs.lemmas.List.Elements.{All-nil}
 use Rattle.blk_history.specs.Fold.{With}
 use Rattle.blk_history.specs.declared.entry.Cause.TheVariants.{Command, Group, RunEnd}
 use Rattle.blk_history.specs.declared.entry.JobEnd.{JobEnd}
@@ -10,23 +9,20 @@ use Rattle.blk_history.specs.declared.entry.JobEnd.TheVariants.{Cancelled, Compl
 use Rattle.blk_history.specs.declared.event.Event.{Event}
 use Rattle.blk_history.specs.declared.event.Event.TheVariants.{End}
 use Rattle.block_jobs.specs.Work.{JobWork}
-use Rattle.qmp_codec.specs.declared.event.JobKind.{JobKind}
-use Rattle.qmp_codec.specs.declared.event.JobKind.TheVariants.{Backup}
-use Rattle.qmp_rules.specs.Ends.{end_edits, is_done, settle_if}
+use Rattle.qmp_rules.specs.Ends.{is_done}
 use Rattle.qmp_rules.specs.Queries.{bytes_of_node}
 use Rattle.qmp_rules.specs.Table.{RunTable, job_at}
 use Rattle.qmp_rules.specs.declared.change.Change.{Change}
-use Rattle.qmp_rules.specs.declared.change.Change.TheVariants.{EndJob, PullFilter}
-use Rattle.qmp_rules.specs.declared.change.NewDisk.{NewDisk}
+use Rattle.qmp_rules.specs.declared.change.Change.TheVariants as change
 use Rattle.qmp_rules.specs.declared.rows.JobRecord.{JobRecord}
 use Rattle.flat_machine.specs.Agreement.{Agrees, Contents}
-use Rattle.flat_machine.specs.Changed.{all_stepped}
+use Rattle.flat_machine.specs.Changed.{all_stepped, stepped}
 use Rattle.flat_machine.specs.EventLicence.{EndsAsMet, Sources}
 use Rattle.flat_machine.specs.Imaging.{ShowsImages}
 use Rattle.flat_machine.specs.Jobs.{changes_at_end, ended, ending_after, is_success, noted_end, outcome_of}
 use Rattle.flat_machine.specs.Legal.{AllStarted, CanEnd, EndsBeside, Fits, IsInGroup, MayEnd, offset_at_end}
 use Rattle.flat_machine.specs.Machine.{after}
-use Rattle.flat_machine.specs.Marks.{AreCalm, IsCalm, end_marks, marks_of, of_job}
+use Rattle.flat_machine.specs.Marks.{AreCalm, end_marks, marks_of, of_job}
 use Rattle.flat_machine.specs.Performing.{AllPerformed}
 use Rattle.flat_machine.specs.Standing.{StandsAtRest}
 use Rattle.flat_machine.specs.State.{Ending, Guest, State}
@@ -36,15 +32,15 @@ use Rattle.flat_machine.proofs.Resting.{beside_rests}
 use Rattle.flat_machine.proofs.Wired.{with_at}
 use Rattle.job_ends.specs.Ended.{LosesFilter, MayEndSo}
 use Rattle.job_ends.specs.Rows.{AreCopyRows}
-use Rattle.job_ends.proofs.Ends.{copy_suits, end_done}
+use Rattle.job_ends.proofs.Ends.{copy_rests, copy_suits, end_done}
+use Rattle.job_ends.proofs.Rows.{AreOfEnd, IsOfEnd, end_head, end_parts, end_tail, tail_of_end}
 use Rattle.job_entries.proofs.Ending.{end_can, end_steps}
-use Rattle.job_entries.proofs.Headers.{rests_by}
 use Rattle.job_entries.proofs.Inline.{steps_rest}
 use Rattle.job_entries.proofs.Steps.{steps_keep}
 use Rattle.job_entries.specs.Ends.{RestsToEnd}
 use Rattle.job_progress.specs.Going.{IsJobAhead, copies_blocks}
 use Rattle.job_tables.specs.Copiers.{CopiesGo}
-use Rattle.job_tables.specs.Ends.{EndSuits, rebased_by}
+use Rattle.job_tables.specs.Ends.{EndSuits}
 use Rattle.job_tables.specs.Jobs.{EdgesAreDrawn, JobsStand}
 use Rattle.job_tables.specs.Running.{JobsRun}
 use Rattle.job_tables.specs.TargetFiles.{TargetFilesStand}
@@ -97,37 +93,52 @@ pub record StaysBeside (s now : State) : Type 0 where
   pub ended : now.ended ≡ s.ended
   pub starts : now.starts ≡ s.starts
 
-beside_made : (s : State) (number slot : ℕ) (drops : Bool) (filter : ℕ) (so : Bool) (to : Option ℕ) (disk : NewDisk)
-    → StaysBeside s (all_stepped s (EndJob number slot drops ∷ PullFilter filter ∷ settle_if so to disk))
-beside_made s number slot drops filter true (Some target) disk = record { room = refl; guests = refl; ended = refl; starts = refl }
-beside_made s number slot drops filter true None disk = record { room = refl; guests = refl; ended = refl; starts = refl }
-beside_made s number slot drops filter false to disk = record { room = refl; guests = refl; ended = refl; starts = refl }
+of_end_beside : (s : State) (c : Change) → IsOfEnd c → StaysBeside s (stepped s c)
+of_end_beside s (change.PullFilter filter) is = record { room = refl; guests = refl; ended = refl; starts = refl }
+of_end_beside s (change.Move from to but) is = record { room = refl; guests = refl; ended = refl; starts = refl }
+of_end_beside s (change.Rebase node backing) is = record { room = refl; guests = refl; ended = refl; starts = refl }
+of_end_beside s (change.Settle node disk) is = record { room = refl; guests = refl; ended = refl; starts = refl }
+of_end_beside s (change.Unsettle node) is = record { room = refl; guests = refl; ended = refl; starts = refl }
+of_end_beside s (change.MakeReadOnly node) is = record { room = refl; guests = refl; ended = refl; starts = refl }
+of_end_beside s c is = absurd is
 
-module _ (s : State) (row : JobRecord) (why : JobEnd) (offset : ℕ) (at : job_at s.table row.number ≡ Some row) (kind : row.kind ≡ Backup) (group : row.group ≡ None) where
+all_beside : (changes : List Change) (s : State) → AreOfEnd changes → StaysBeside s (all_stepped s changes)
+all_beside [] s are = record { room = refl; guests = refl; ended = refl; starts = refl }
+all_beside (c ∷ changes) s are =
+    let first = of_end_beside s c are.0 in
+    let rest = all_beside changes (stepped s c) are.1 in
+    record {
+      room = rest.room ∙ first.room;
+      guests = rest.guests ∙ first.guests;
+      ended = rest.ended ∙ first.ended;
+      starts = rest.starts ∙ first.starts;
+    }
+
+module _ (s : State) (row : JobRecord) (why : JobEnd) (offset : ℕ) (at : job_at s.table row.number ≡ Some row) (group : row.group ≡ None) where
   abbrev e : Event
   e = End row.number why offset
 
   pub after_end : after s e ≡ noted_end s row why
   after_end = ap (λ found. ended s found why) at
 
-  pub end_beside : (number slot : ℕ) (drops : Bool) (filter : ℕ) (so : Bool) (to : Option ℕ) (disk : NewDisk)
-      → end_edits s.table row (outcome_of why) ≡ EndJob number slot drops ∷ PullFilter filter ∷ settle_if so to disk → StaysBeside s (noted_end s row why)
-  end_beside number slot drops filter so to disk is =
-      let made = beside_made s number slot drops filter so to disk in
-      let same : (changes : List Change) → changes ≡ EndJob number slot drops ∷ PullFilter filter ∷ settle_if so to disk → StaysBeside s (all_stepped s changes) =
-      λ changes equal. subst (λ (cs : List Change). StaysBeside s (all_stepped s cs)) (sym equal) made in
-      let left = same (changes_at_end s row why) is in
+  pub end_beside : StaysBeside s (noted_end s row why)
+  end_beside =
+      let o = outcome_of why in
+      let left : StaysBeside s (all_stepped s (changes_at_end s row why)) =
+      subst (λ (changes : List Change). StaysBeside s (all_stepped s changes)) (sym (end_parts row s.table o)) by_parts in
       record { room = left.room; guests = left.guests; ended = left.ended; starts = left.starts }
+    where
+      by_parts : StaysBeside s (all_stepped s (end_head row (outcome_of why) ∷ end_tail row s.table (outcome_of why)))
+      by_parts =
+          let rest = all_beside (end_tail row s.table (outcome_of why)) (stepped s (end_head row (outcome_of why))) (tail_of_end row s.table (outcome_of why)) in
+          record { room = rest.room; guests = rest.guests; ended = rest.ended; starts = rest.starts }
 
   pub end_alone : (noted_end s row why).ending ≡ None
   end_alone = ap (ending_after s row.number why) group
 
-  -- it marks no disk
-  pub end_calm : (t : RunTable) (guests : List Guest) → AreCalm t guests (marks_of s e)
-  end_calm t guests =
-      subst (AreCalm t guests)
-      (sym (ap (λ found. of_job found (λ (r : JobRecord). end_marks r r.kind why)) at ∙ ap (λ (k : JobKind). end_marks row k why) kind))
-      (All-nil (IsCalm t guests))
+  -- it marks what its kind does
+  pub end_calm : (t : RunTable) (guests : List Guest) → AreCalm t guests (end_marks row row.kind why) → AreCalm t guests (marks_of s e)
+  end_calm t guests calm = subst (AreCalm t guests) (sym (ap (λ found. of_job found (λ (r : JobRecord). end_marks r r.kind why)) at)) calm
 
   pub end_fits : (w : WorldSeen) → s.table ≡ w.table → s.guests ≡ w.progress.guests → s.ended ≡ (seen_state w).ended → AllStarted s → s.ending ≡ None
       → MayEnd (seen_state w) row why → offset ≡ offset_at_end (seen_state w) row why → Fits s e
@@ -142,16 +153,10 @@ module _ (s : State) (row : JobRecord) (why : JobEnd) (offset : ℕ) (at : job_a
 
 -- ---- what it leaves of nodes and files
 
-rebased_none : (row : JobRecord) (k : JobKind) → k ≡ Backup → rebased_by row k ≡ None
-rebased_none row k is = ap (rebased_by row) is
-
 module _ (opening : List ℕ → Option (List ℕ)) (first s : State) (h : List Event) (row : JobRecord) (work : JobWork) (why : JobEnd) (old new : Contents)
     (rests : StandsAtRest s) (j : JobsStand s.table) (run : JobsRun s.table) (go : CopiesGo s.table) (rows : AreCopyRows s.table.jobs) (drawn : EdgesAreDrawn s.table)
-    (files : TargetFilesStand s) (started : AllStarted s) (here : Contains s.table.jobs row) (kind : row.kind ≡ Backup) (agrees : Agrees opening s old)
+    (files : TargetFilesStand s) (started : AllStarted s) (here : Contains s.table.jobs row) (copies : copies_blocks row.kind ≡ true) (agrees : Agrees opening s old)
     (may : MayEndSo first h s old.reads row work why) (loses : LosesFilter row old new) where
-  copies : copies_blocks row.kind ≡ true
-  copies = ap copies_blocks kind
-
   suits : EndSuits s row
   suits = copy_suits s row rests.stands run here copies rows go files started
 
@@ -159,9 +164,7 @@ module _ (opening : List ℕ → Option (List ℕ)) (first s : State) (h : List 
   end_performed = end_done s row j run here copies rows first h work why old new agrees.disks may loses
 
   to_end : RestsToEnd s row
-  to_end =
-      rests_by s row rests.stands j run here
-      (λ node is. absurd (let bad : None ≡ Some node = sym (rebased_none row row.kind kind) ∙ is in let no : ⊥ = cc bad in no))
+  to_end = copy_rests s row rests.stands j run here copies
 
   pub end_agrees : Agrees opening (noted_end s row why) new
   end_agrees =

@@ -1,5 +1,5 @@
--- What is kept of jobs and bitmaps behind the end of a backup.
-use Rattle.std.proofs.Common.{◌≡◌, ◌≢◌, ℕ, ◌+◌, ◌-◌, ◌==◌, Bool, true, false, cond, not, List, [], ◌∷◌, map, Option, Some, None, refl, sym, ◌∙◌, ap, subst, arith, inl, inr}
+-- What is kept of jobs and bitmaps behind the end of a job.
+use Rattle.std.proofs.Common.{◌≡◌, ◌≢◌, ℕ, ◌+◌, ◌-◌, ◌==◌, Bool, true, false, cond, not, List, [], ◌∷◌, map, refl, sym, ◌∙◌, ap, subst, arith, inl, inr}
 use Rattle.std.specs.Prelude.{AllPairs, Contains}
 use Rattle.std.proofs.lemmas.Bool.{eq-eqb, ne_eqb}
 use Rattle.std.proofs.lemmas.List.Kept.{AllPairs-filter}
@@ -8,33 +8,28 @@ use Rattle.blk_bitmaps.specs.declared.row.Bitmap.{Bitmap}
 use Rattle.blk_graph.proofs.Members.{Contains-cases, Contains-filter, Contains-nil, filter-all}
 use Rattle.blk_graph.proofs.RoleLemmas.{head_pairs, tail_pairs}
 use Rattle.block_jobs.specs.Work.{JobWork}
-use Rattle.qmp_rules.specs.Changes.{all_changed, changed, given_back, without_job}
-use Rattle.qmp_rules.specs.Ends.{drops_aside, end_edits, settle_if}
+use Rattle.qmp_rules.specs.Changes.{all_changed, changed, without_job}
+use Rattle.qmp_rules.specs.Ends.{drops_aside, end_edits}
 use Rattle.qmp_rules.specs.Table.{RunTable}
 use Rattle.qmp_rules.specs.declared.change.Change.{Change}
-use Rattle.qmp_rules.specs.declared.change.Change.TheVariants.{EndJob, PullFilter}
+use Rattle.qmp_rules.specs.declared.change.Change.TheVariants as change
 use Rattle.qmp_rules.specs.declared.change.JobOutcome.{JobOutcome}
-use Rattle.qmp_rules.specs.declared.change.NewDisk.{NewDisk}
-use Rattle.qmp_rules.specs.declared.change.NewDisk.TheVariants.{OfStart}
 use Rattle.qmp_rules.specs.declared.rows.JobRecord.{JobRecord}
 use Rattle.flat_machine.specs.Bitmaps.{AreBitmapsOf, dirty_in}
-use Rattle.flat_machine.specs.InUse.{AreInUse}
-use Rattle.flat_machine.specs.Recording.{dirty_after}
+use Rattle.flat_machine.specs.Recording.{dirty_after, dirty_beside}
 use Rattle.flat_machine.specs.State.{Dirty}
 use Rattle.flat_machine.specs.Wiring.{TableStands}
 use Rattle.flat_machine.proofs.BitmapUses.{ends_sound}
 use Rattle.flat_machine.proofs.InUse.{use_ends}
 use Rattle.job_commands.proofs.BitmapCommands.{end_uses}
 use Rattle.job_ends.proofs.Others.{works_left}
-use Rattle.job_ends.proofs.Rows.{end_rows}
-use Rattle.job_progress.specs.Going.{copies_blocks}
+use Rattle.job_ends.proofs.Rows.{AreOfEnd, IsOfEnd, end_head, end_jobs, end_parts, end_rows, end_tail, tail_of_end}
 use Rattle.job_tables.specs.Jobs.{EdgesAreDrawn}
 use Rattle.job_tables.proofs.Copiers.{ends_keep_copies}
 use Rattle.job_tables.proofs.Left.{ends_leave_jobs}
 use Rattle.job_tables.proofs.Runs.{ends_keep_run}
 use Rattle.job_works.specs.Works.{without_work}
 use Rattle.world_parts.specs.Coherent.{AreJobsKept, entries_owed, entries_owed_by}
-use Rattle.world_goings.proofs.EndRests.{edits_are, settles_at_end}
 
 -- ---- entries that are owed
 
@@ -59,89 +54,89 @@ owed_without (x ∷ jobs) row once there = elim (Contains-cases x jobs row there
       omega (arith, all, rest)
 ]
 
--- ---- the table
+-- ---- the changes behind the first
 
-module _ (t : RunTable) (number slot : ℕ) (drops : Bool) (filter : ℕ) (so : Bool) (to : Option ℕ) (disk : NewDisk) where
-  abbrev changes : List Change
-  changes = EndJob number slot drops ∷ PullFilter filter ∷ settle_if so to disk
+of_end_started : (t : RunTable) (c : Change) → IsOfEnd c → (changed t c).started ≡ t.started
+unfolding changed
+of_end_started t (change.PullFilter filter) is = refl
+of_end_started t (change.Move from to but) is = refl
+of_end_started t (change.Rebase node backing) is = refl
+of_end_started t (change.Settle node disk) is = refl
+of_end_started t (change.Unsettle node) is = refl
+of_end_started t (change.MakeReadOnly node) is = refl
+of_end_started t c is = absurd is
 
-  jobs_left : (all_changed t changes).jobs ≡ without_job number t.jobs
-  unfolding changed
-  jobs_left = by_settle so to
-    where
-      by_settle : (b : Bool) (x : Option ℕ) → (all_changed t (EndJob number slot drops ∷ PullFilter filter ∷ settle_if b x disk)).jobs ≡ without_job number t.jobs
-      by_settle true (Some target) = refl
-      by_settle true None = refl
-      by_settle false x = refl
+of_end_bitmaps : (t : RunTable) (c : Change) → IsOfEnd c → (changed t c).bitmaps ≡ t.bitmaps
+unfolding changed
+of_end_bitmaps t (change.PullFilter filter) is = refl
+of_end_bitmaps t (change.Move from to but) is = refl
+of_end_bitmaps t (change.Rebase node backing) is = refl
+of_end_bitmaps t (change.Settle node disk) is = refl
+of_end_bitmaps t (change.Unsettle node) is = refl
+of_end_bitmaps t (change.MakeReadOnly node) is = refl
+of_end_bitmaps t c is = absurd is
 
-  bitmaps_left : (all_changed t changes).bitmaps ≡ map (given_back number) t.bitmaps
-  unfolding changed
-  bitmaps_left = by_settle so to
-    where
-      by_settle : (b : Bool) (x : Option ℕ) → (all_changed t (EndJob number slot drops ∷ PullFilter filter ∷ settle_if b x disk)).bitmaps ≡ map (given_back number) t.bitmaps
-      by_settle true (Some target) = refl
-      by_settle true None = refl
-      by_settle false x = refl
+of_end_dirty : (t : RunTable) (ds : List Dirty) (c : Change) → IsOfEnd c → dirty_beside t ds c ≡ ds
+of_end_dirty t ds (change.PullFilter filter) is = refl
+of_end_dirty t ds (change.Move from to but) is = refl
+of_end_dirty t ds (change.Rebase node backing) is = refl
+of_end_dirty t ds (change.Settle node disk) is = refl
+of_end_dirty t ds (change.Unsettle node) is = refl
+of_end_dirty t ds (change.MakeReadOnly node) is = refl
+of_end_dirty t ds c is = absurd is
 
-  started_left : (all_changed t changes).started ≡ t.started
-  unfolding changed
-  started_left = by_settle so to
-    where
-      by_settle : (b : Bool) (x : Option ℕ) → (all_changed t (EndJob number slot drops ∷ PullFilter filter ∷ settle_if b x disk)).started ≡ t.started
-      by_settle true (Some target) = refl
-      by_settle true None = refl
-      by_settle false x = refl
+started_left : (changes : List Change) (t : RunTable) → AreOfEnd changes → (all_changed t changes).started ≡ t.started
+started_left [] t are = refl
+started_left (c ∷ changes) t are = started_left changes (changed t c) are.1 ∙ of_end_started t c are.0
 
-  dirty_left : (rows : List Bitmap) → AreInUse t → AreBitmapsOf t.bitmaps rows
-      → map dirty_in (rows_after_call rows (Release number drops)) ≡ dirty_after t (map dirty_in rows) changes
-  dirty_left rows uses was = (use_ends t number drops rows uses (record { listed = was.listed; single = was.single })).holds ∙ by_settle so to
-    where
-      ds : List Dirty
-      ds = dirty_after t (map dirty_in rows) (EndJob number slot drops ∷ [])
+bitmaps_left : (changes : List Change) (t : RunTable) → AreOfEnd changes → (all_changed t changes).bitmaps ≡ t.bitmaps
+bitmaps_left [] t are = refl
+bitmaps_left (c ∷ changes) t are = bitmaps_left changes (changed t c) are.1 ∙ of_end_bitmaps t c are.0
 
-      by_settle : (b : Bool) (x : Option ℕ) → ds ≡ dirty_after t (map dirty_in rows) (EndJob number slot drops ∷ PullFilter filter ∷ settle_if b x disk)
-      by_settle true (Some target) = refl
-      by_settle true None = refl
-      by_settle false x = refl
+dirty_left : (changes : List Change) (t : RunTable) (ds : List Dirty) → AreOfEnd changes → dirty_after t ds changes ≡ ds
+dirty_left [] t ds are = refl
+dirty_left (c ∷ changes) t ds are = ap (λ (left : List Dirty). dirty_after (changed t c) left changes) (of_end_dirty t ds c are.0) ∙ dirty_left changes (changed t c) ds are.1
 
 -- ---- all of it
 
 module _ (t : RunTable) (works : List JobWork) (aside : ℕ) (jobs : AreJobsKept t works aside) (stands : TableStands t) (drawn : EdgesAreDrawn t)
-    (row : JobRecord) (here : Contains t.jobs row) (filter : ℕ) (is : row.filter ≡ Some filter) (outcome : JobOutcome) where
+    (row : JobRecord) (here : Contains t.jobs row) (outcome : JobOutcome) where
   abbrev now : RunTable
   now = all_changed t (end_edits t row outcome)
 
-  abbrev made : List Change
-  made = EndJob row.number row.slot (drops_aside outcome row.bitmap) ∷ PullFilter filter ∷ settle_if (settles_at_end outcome row) row.target (OfStart row.number)
+  abbrev first : RunTable
+  first = changed t (end_head row outcome)
 
-  pub made_is : end_edits t row outcome ≡ made
-  made_is =
-      let kind = (jobs.lone row here).kind in
-      edits_are t row outcome filter kind is (jobs.rows row here (ap copies_blocks kind))
+  abbrev drops : Bool
+  drops = drops_aside outcome row.bitmap
+
+  of_end : AreOfEnd (end_tail row t outcome)
+  of_end = tail_of_end row t outcome
+
+  now_is : now ≡ all_changed first (end_tail row t outcome)
+  now_is = ap (all_changed t) (end_parts row t outcome)
 
   now_jobs : now.jobs ≡ without_job row.number t.jobs
-  now_jobs =
-      ap (λ changes. (all_changed t changes).jobs) made_is
-      ∙ jobs_left t row.number row.slot (drops_aside outcome row.bitmap) filter (settles_at_end outcome row) row.target (OfStart row.number)
+  unfolding changed
+  now_jobs = ap (λ (x : RunTable). x.jobs) now_is ∙ end_jobs (end_tail row t outcome) first of_end
 
   pub now_started : now.started ≡ t.started
-  now_started =
-      ap (λ changes. (all_changed t changes).started) made_is
-      ∙ started_left t row.number row.slot (drops_aside outcome row.bitmap) filter (settles_at_end outcome row) row.target (OfStart row.number)
+  unfolding changed
+  now_started = ap (λ (x : RunTable). x.started) now_is ∙ started_left (end_tail row t outcome) first of_end
 
   pub now_dirty : (rows : List Bitmap) → AreBitmapsOf t.bitmaps rows
-      → map dirty_in (rows_after_call rows (Release row.number (drops_aside outcome row.bitmap))) ≡ dirty_after t (map dirty_in rows) (end_edits t row outcome)
+      → map dirty_in (rows_after_call rows (Release row.number drops)) ≡ dirty_after t (map dirty_in rows) (end_edits t row outcome)
   now_dirty rows was =
-      dirty_left t row.number row.slot (drops_aside outcome row.bitmap) filter (settles_at_end outcome row) row.target (OfStart row.number) rows jobs.uses.busy was
-      ∙ ap (dirty_after t (map dirty_in rows)) (sym made_is)
+      (use_ends t row.number drops rows jobs.uses.busy (record { listed = was.listed; single = was.single })).holds
+      ∙ sym (ap (dirty_after t (map dirty_in rows)) (end_parts row t outcome)
+      ∙ dirty_left (end_tail row t outcome) first (dirty_beside t (map dirty_in rows) (end_head row outcome)) of_end)
 
-  pub now_bitmaps : (rows : List Bitmap) → AreBitmapsOf t.bitmaps rows
-      → AreBitmapsOf now.bitmaps (rows_after_call rows (Release row.number (drops_aside outcome row.bitmap)))
+  pub now_bitmaps : (rows : List Bitmap) → AreBitmapsOf t.bitmaps rows → AreBitmapsOf now.bitmaps (rows_after_call rows (Release row.number drops))
+  unfolding changed
   now_bitmaps rows was =
-      subst (λ (listed : List _). AreBitmapsOf listed (rows_after_call rows (Release row.number (drops_aside outcome row.bitmap))))
-      (sym (ap (λ changes. (all_changed t changes).bitmaps) made_is
-      ∙ bitmaps_left t row.number row.slot (drops_aside outcome row.bitmap) filter (settles_at_end outcome row) row.target (OfStart row.number)))
-      (ends_sound t row.number (drops_aside outcome row.bitmap) rows jobs.uses.busy was)
+      subst (λ (listed : List _). AreBitmapsOf listed (rows_after_call rows (Release row.number drops)))
+      (sym (ap (λ (x : RunTable). x.bitmaps) now_is ∙ bitmaps_left (end_tail row t outcome) first of_end))
+      (ends_sound t row.number drops rows jobs.uses.busy was)
 
   pub now_kept : AreJobsKept now (without_work row.number works) (aside - entries_owed row)
   now_kept = record {

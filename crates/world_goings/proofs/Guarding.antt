@@ -17,15 +17,14 @@ use Rattle.job_tables.proofs.RowEdges.{holds_source, in_left}
 use Rattle.job_works.specs.Steps.{Guarded}
 use Rattle.job_works.specs.Works.{work_of}
 use Rattle.qmp_codec.specs.declared.event.JobKind.TheVariants.{Backup}
-use Rattle.qmp_rules.specs.Chains.{disk_node}
 use Rattle.qmp_rules.specs.Queries.{bytes_of_node}
-use Rattle.qmp_rules.specs.Table.{RunTable, node_by_id}
+use Rattle.qmp_rules.specs.Table.{RunTable}
 use Rattle.qmp_rules.specs.declared.rows.JobRecord.{JobRecord}
 use Rattle.trace_codec.specs.declared.op.Op.{Op}
 use Rattle.flat_machine.specs.EventLicence.{PieceOn}
 use Rattle.flat_machine.specs.Machine.{replay}
 use Rattle.flat_machine.specs.Opening.{start}
-use Rattle.flat_machine.specs.State.{State, bytes_at_node, bytes_in}
+use Rattle.flat_machine.specs.State.{State, bytes_at_node}
 use Rattle.flat_machine.specs.declared.opening.Opening.{Opening}
 use Rattle.world_parts.specs.Coherent.{IsWholeWorld}
 use Rattle.world_parts.specs.Comes.{Comes, ShowsState}
@@ -33,7 +32,8 @@ use Rattle.world_parts.specs.Face.{WorldSeen}
 use Rattle.world_parts.specs.Jobs.{CopyPasses, GuardsBlock}
 use Rattle.world_goings.specs.Copied.{IsInBlock, LeavesFiles}
 use Rattle.world_goings.proofs.Ahead.{failed_not, job_there, reads_on}
-use Rattle.world_goings.proofs.JobNodes.{source_apart, source_disk, source_itself, source_plain}
+use Rattle.world_goings.proofs.Alike.{source_reads}
+use Rattle.world_goings.proofs.JobNodes.{source_apart}
 use Rattle.world_goings.proofs.Stepped.{found_now, sound_was}
 use Rattle.world_goings.proofs.WorkSteps.{guarded_still}
 use Rattle.world_goings.proofs.Writes.{writes_comes}
@@ -61,15 +61,7 @@ module _ (w v : WorldSeen) (drive : ℕ) (op : Op) (row : JobRecord) (target blo
     abbrev s : State
     s = replay (start o) h
 
-    -- its source reads as its flat disk, then as before
-    source_reads : ShowsState o s w → disk_of w.nodes row.source ≡ bytes_at_node s row.source
-    source_reads shows =
-        let p = source_plain t w.works w.progress.aside whole.jobs whole.coherent.table.stands row here in
-        shows.contents.disks row.source p.row (ap (λ (u : RunTable). node_by_id u row.source) shows.table.table_is ∙ p.there)
-        (source_disk t w.works w.progress.aside whole.jobs whole.coherent.table.stands row here)
-        ∙ ap (bytes_in s.disks)
-        (sym (ap (λ (u : RunTable). disk_node u row.source) shows.table.table_is ∙ source_itself t w.works w.progress.aside whole.jobs whole.coherent.table.stands row here))
-
+    -- its source reads as before
     source_still : disk_of v.nodes row.source ≡ disk_of w.nodes row.source
     source_still =
         did.writes.others row.source
@@ -90,7 +82,7 @@ module _ (w v : WorldSeen) (drive : ℕ) (op : Op) (row : JobRecord) (target blo
             (λ other due goal at far.
             let both : Some target ≡ Some other = sym did.target_is ∙ at in
             let same : target ≡ other = cc both in
-            let source = source_reads shows in
+            let source = source_reads o w whole row here shows in
             subst (λ n. IsAhead due (is_owed Backup (after_copy block was)) (bytes_at_node s row.source) goal (disk_of v.nodes n)) same
             (subst (λ xs. IsAhead due (is_owed Backup (after_copy block was)) xs goal (disk_of v.nodes target)) (source_still ∙ source)
             (subst (λ (x : JobWork). IsAhead due (is_owed Backup x) (disk_of v.nodes row.source) goal (disk_of v.nodes target)) is

@@ -1,25 +1,29 @@
--- A running backup's target and source: nothing else leads to the target, and no other job's target is it or under it.
-use Rattle.std.proofs.Common.{◌≡◌, ◌≢◌, ℕ, List, Option, Some, None, refl, sym, ◌∙◌, ap, subst}
+-- The target and source of a running backup or mirror: nothing else leads to the target, and no other job's target is it or under it.
+use Rattle.std.proofs.Common.{◌≡◌, ◌≢◌, ℕ, true, List, Option, Some, None, refl, sym, ◌∙◌, ap, subst}
 use Rattle.std.specs.Prelude.{Contains, IsSome, ◌==◌}
-use Rattle.std.proofs.lemmas.Bool.{eqb-true}
+use Rattle.std.proofs.lemmas.Bool.{eqb-true, false≢true}
 use Rattle.blk_graph.specs.declared.edge.Parent.TheVariants.{Node}
-use Rattle.blk_graph.specs.declared.edge.Role.TheVariants.{File}
+use Rattle.blk_graph.specs.declared.edge.Role.TheVariants.{File, Filtered}
+use Rattle.blk_graph.specs.declared.kind.Kind.{Kind}
 use Rattle.blk_graph.specs.declared.kind.Kind.TheVariants as kinds
 use Rattle.blk_graph.proofs.Members.{find-Some}
 use Rattle.block_jobs.specs.Work.{JobWork}
 use Rattle.blk_nodes.specs.Nodes.{Nodes}
 use Rattle.blk_nodes.specs.Writing.{IsApartFrom}
+use Rattle.qmp_codec.specs.declared.event.JobKind.{JobKind}
+use Rattle.qmp_codec.specs.declared.event.JobKind.TheVariants.{Backup, Commit, Mirror, Stream}
 use Rattle.qmp_rules.specs.Chains.{disk_node, filter_role}
 use Rattle.qmp_rules.specs.Table.{RunTable, child}
 use Rattle.qmp_rules.specs.declared.rows.JobRecord.{JobRecord}
 use Rattle.qmp_rules.specs.declared.rows.NodeRecord.{NodeRecord}
 use Rattle.flat_machine.specs.Agreement.{HasDisk}
 use Rattle.flat_machine.specs.Changed.{written_file}
-use Rattle.flat_machine.specs.Jobs.{copied_to}
 use Rattle.flat_machine.specs.Suiting.{IsPlainNode}
 use Rattle.flat_machine.specs.Wiring.{LeadsToFile, TableStands}
 use Rattle.flat_machine.proofs.Kept.{own_disk}
 use Rattle.flat_machine.proofs.WritingKept.{role_edge}
+use Rattle.job_ends.proofs.Ends.{copied_is}
+use Rattle.job_progress.specs.Going.{copies_blocks}
 use Rattle.job_tables.specs.Copiers.{CopyGoes}
 use Rattle.job_tables.specs.Jobs.{CopyStands, StandsByKind}
 use Rattle.job_tables.proofs.RowEdges.{copy_holds, holds_source, in_left}
@@ -29,16 +33,27 @@ use Rattle.world_goings.specs.Copied.{IsElsewhere}
 use Rattle.world_goings.proofs.TargetApart.{elsewhere, target_apart}
 
 module _ (t : RunTable) (works : List JobWork) (aside : ℕ) (jobs : AreJobsKept t works aside) (stands : TableStands t) where
-  -- each job is a backup
-  pub copy_stands : (row : JobRecord) → Contains t.jobs row → CopyStands t row kinds.BeforeWrite
-  copy_stands row here = subst (StandsByKind t row) (jobs.lone row here).kind (jobs.stand.each row here).shape
+  -- each job is a backup or mirror, with a filter of its kind
+  pub record HasCopy (row : JobRecord) : Type 0 where
+    pub kind : Kind
+    pub role : filter_role kind ≡ Some Filtered
+    pub copy : CopyStands t row kind
+
+  pub copy_stands : (row : JobRecord) → Contains t.jobs row → HasCopy row
+  copy_stands row here = by_kind row.kind (jobs.lone row here).kind (jobs.stand.each row here).shape
+    where
+      by_kind : (k : JobKind) → copies_blocks k ≡ true → StandsByKind t row k → HasCopy row
+      by_kind Backup copies stands = record { kind = kinds.BeforeWrite; role = refl; copy = stands }
+      by_kind Mirror copies stands = record { kind = kinds.Mirror; role = refl; copy = stands }
+      by_kind Stream copies stands = absurd (false≢true copies)
+      by_kind Commit copies stands = absurd (false≢true copies)
 
   pub target_held : (row : JobRecord) (target : ℕ) → Contains t.jobs row → row.target ≡ Some target → Contains row.held target
   target_held row target here is =
-      let c = copy_stands row here in
-      let both : Some c.target ≡ Some target = sym c.is_target ∙ is in
-      let same : c.target ≡ target = cc both in
-      subst (Contains row.held) same (copy_holds t row kinds.BeforeWrite c)
+      let h = copy_stands row here in
+      let both : Some h.copy.target ≡ Some target = sym h.copy.is_target ∙ is in
+      let same : h.copy.target ≡ target = cc both in
+      subst (Contains row.held) same (copy_holds t row h.kind h.copy)
 
   pub target_plain : (row : JobRecord) (target : ℕ) → Contains t.jobs row → row.target ≡ Some target → IsPlainNode t target
   target_plain row target here is = (jobs.stand.each row here).plain target (in_left row.held row.read target (target_held row target here is))
@@ -58,7 +73,7 @@ module _ (t : RunTable) (works : List JobWork) (aside : ℕ) (jobs : AreJobsKept
 
   module _ (row : JobRecord) (target : ℕ) (here : Contains t.jobs row) (is : row.target ≡ Some target) where
     goes : CopyGoes t row target
-    goes = jobs.copies row target here (ap (copied_to row) (jobs.lone row here).kind ∙ is)
+    goes = jobs.copies row target here (copied_is row (jobs.lone row here).kind ∙ is)
 
     -- no plain node is the file under the target
     not_below : (n : ℕ) → IsPlainNode t n → child t target File ≡ Some n → ⊥
@@ -92,7 +107,7 @@ module _ (t : RunTable) (works : List JobWork) (aside : ℕ) (jobs : AreJobsKept
 
       pub source_apart : IsApartFrom nodes row.source target
       source_apart =
-          let c = copy_stands row here in
+          let c = (copy_stands row here).copy in
           let both : Some c.target ≡ Some target = sym c.is_target ∙ is in
           let own : c.target ≡ target = cc both in
           apart_from row.source (λ same. c.other (own ∙ sym same)) (not_below row.source (source_plain row here))

@@ -14,9 +14,13 @@ pub mod TargetApart
 pub mod JobNodes
 pub mod Writes
 pub mod Settles
+pub mod Alike
 pub mod Guarding
 pub mod EndTables
+pub mod EndDisks
 pub mod EndGuests
+pub mod EndEdits
+pub mod EndStands
 pub mod EndRests
 pub mod EndReads
 pub mod EndFaults

@@ -30,7 +30,7 @@ use Rattle.world_parts.specs.Comes.{Comes}
 use Rattle.world_parts.specs.Face.{WorldSeen}
 use Rattle.world_parts.specs.Jobs.{CopyPasses, SettlesBlock}
 use Rattle.world_goings.specs.Copied.{LeavesFiles, WasRead}
-use Rattle.world_goings.proofs.Ahead.{failed_not, job_copies, job_there, reads_on}
+use Rattle.world_goings.proofs.Ahead.{failed_not, job_there, reads_on}
 use Rattle.world_goings.proofs.RunsPut.{files_put, files_same}
 use Rattle.world_goings.proofs.Stepped.{sound_was}
 use Rattle.world_goings.proofs.WorkSteps.{settled_still}
@@ -95,7 +95,7 @@ module _ (o : Opening) (w v : WorldSeen) (row : JobRecord) (target : ℕ) (t : T
           (did.settles.done.ahead (whole.tell told) none due source goal
           (holds_read row.kind was t.cluster due goal (taken_bytes (start o) h row t) bytes (read told was did.settles.there flies) holds)
           (subst (λ n. IsAhead due (is_owed row.kind was) source goal (disk_of w.nodes n)) (sym same) far))))
-          (job_copies w.table w.works w.progress.aside row whole.jobs (job_there w.table row did.copies.there)).1),
+          (whole.jobs.lone row (job_there w.table row did.copies.there)).kind),
     )
 
     step : (a : Bool) → Settles row.kind w.nodes v.nodes was now target t bytes a → now.met ≡ None

@@ -28,7 +28,7 @@ use Rattle.world_parts.specs.Jobs.{TakesBlock}
 use Rattle.world_parts.specs.Keeping.{AreRises, ShowsJobs, all_faults}
 use Rattle.world_parts.proofs.CountLemmas.{same-risen}
 use Rattle.world_parts.proofs.NodesAfter.{AreNodesAfter, after_devices, device_content_in}
-use Rattle.world_goings.proofs.Ahead.{ahead_then, failed_not, job_copies, job_there, reads_on}
+use Rattle.world_goings.proofs.Ahead.{ahead_then, failed_not, job_there, reads_on}
 use Rattle.world_goings.proofs.Going.{GoesOn, LeavesShown, goes_on}
 use Rattle.world_goings.proofs.Quieted.{quiet_agrees, quiet_images}
 use Rattle.world_goings.proofs.Stepped.{faults_then, sound_was, works_then}
@@ -108,7 +108,7 @@ module _ (o : Opening) (w v : WorldSeen) (row : JobRecord) (buffer : List ℕ) (
         (taken_goes (start o) h (disk_of v.nodes) row was t (sound_was w v _ _ row did.copies Does did.takes whole.jobs.belong)
         (ap (λ (x : Transfer). x.job) takes.is) takes.next (ap (λ (x : Transfer). x.position) takes.is)
         (reads_on (start o) s h (disk_of w.nodes) (disk_of v.nodes) row was (λ target is. did.disks target) ahead)
-        (job_copies w.table w.works w.progress.aside row whole.jobs (job_there w.table row did.copies.there)).1),
+        (whole.jobs.lone row (job_there w.table row did.copies.there)).kind),
   )
     where
       met_same : (k : JobKind) → was.met ≡ (after_take k t was).met
