@@ -220,57 +220,56 @@ module _ (t : RunTable) (works : List JobWork) (aside : ℕ) (jobs : AreJobsKept
     size_at : (n : ℕ) (r : NodeRecord) → node_by_id t n ≡ Some r → bytes_of_node t n ≡ r.size
     size_at n r found = ap (λ (x : Option NodeRecord). unwrap_or (option_map (λ (y : NodeRecord). y.size) x) 0) found
 
-    stay_led : (so : Bool) (disk : NewDisk) → IsLedOn t (all_changed pulled (settle_if so (Some target) disk)) filter row.source target false
-    stay_led so disk = record {
-      to = row.source;
-      ended = now;
-      disks = disks_settled t pulled u filter row.source row.source settles disks;
-      onto = record { apart = apart; size = refl; disk = disk_kept u row.source now; writable = λ is. is };
-      stands = all_keep (settle_if so (Some target) disk) pulled (settle_suits pulled (keeps.plain target onto_plain) so disk) pulled_stands;
-      place = inl refl;
-    }
-      where
-        abbrev u : RunTable
-        u = all_changed pulled (settle_if so (Some target) disk)
+    module _ (so : Bool) (disk : NewDisk) where
+      abbrev stayed : RunTable
+      stayed = all_changed pulled (settle_if so (Some target) disk)
 
-        settles : IsSettledTable pulled u
-        settles = settled_table pulled so (Some target) disk
+      stay_settles : IsSettledTable pulled stayed
+      stay_settles = settled_table pulled so (Some target) disk
 
-        now : IsEndedTable t u filter row.source row.source
-        now = settled_then t pulled u filter row.source row.source ended settles
+      stay_ended : IsEndedTable t stayed filter row.source row.source
+      stay_ended = settled_then t pulled stayed filter row.source row.source ended stay_settles
 
-    pivot_led : row.kind ≡ Mirror → (disk : NewDisk)
-        → IsLedOn t (all_changed pulled (Move row.source target filter ∷ settle_if true (Some target) disk)) filter row.source target true
-    pivot_led mirror disk = record {
-      to = target;
-      ended = settled_then t (moved mirror) u filter row.source target over_there settles;
-      disks = disks_settled t (moved mirror) u filter row.source target settles (disks_moved t pulled filter row.source target (move_suits mirror) pulled_stands disks);
-      onto = record {
-        apart = plain_apart t filter row.source over_source target onto_plain;
-        size = size_at target sizes.other sizes.other_found ∙ sym sizes.same ∙ sym (size_at row.source sizes.row sizes.found);
-        disk = target_disk;
-        writable = λ is. with_at (λ (r : NodeRecord). r.read_only ≡ false) (node_by_id t target) onto_plain.row onto_plain.there (target_open onto_plain.row onto_plain.there);
-      };
-      stands = all_keep (settle_if true (Some target) disk) (moved mirror) (settle_suits (moved mirror) (moved_onto mirror) true disk) (moved_stands mirror);
-      place = inr (refl, refl);
-    }
-      where
-        abbrev u : RunTable
-        u = all_changed (moved mirror) (settle_if true (Some target) disk)
+      stay_led : IsLedOn t stayed filter row.source target false
+      stay_led = record {
+        to = row.source;
+        ended = stay_ended;
+        disks = disks_settled t pulled stayed filter row.source row.source stay_settles disks;
+        onto = record { apart = apart; size = refl; disk = disk_kept stayed row.source stay_ended; writable = λ is. is };
+        stands = all_keep (settle_if so (Some target) disk) pulled (settle_suits pulled (keeps.plain target onto_plain) so disk) pulled_stands;
+        place = inl refl;
+      }
 
-        settles : IsSettledTable (moved mirror) u
-        settles = settled_table (moved mirror) true (Some target) disk
+    module _ (mirror : row.kind ≡ Mirror) (disk : NewDisk) where
+      abbrev pivoted : RunTable
+      pivoted = all_changed (moved mirror) (settle_if true (Some target) disk)
 
-        over_there : IsEndedTable t (moved mirror) filter row.source target
-        over_there = moved_table t pulled filter row.source target ended
+      pivot_settles : IsSettledTable (moved mirror) pivoted
+      pivot_settles = settled_table (moved mirror) true (Some target) disk
 
-        target_disk : With (node_by_id u target) HasDisk
-        target_disk =
-            let p = moved_onto mirror in
-            let id : p.row.id ≡ target = eqb-true p.row.id target (find-Some (λ (r : NodeRecord). r.id == target) (moved mirror).nodes p.row p.there).1 in
-            with_at HasDisk (node_by_id u target) (node_changed target settled p.row)
-            (settled_found (moved mirror) u settles target ∙ ap (option_map (node_changed target settled)) p.there)
-            (subst HasDisk (sym (changed_at target settled p.row id)) (record { settled = refl; own = p.own }))
+      target_disk : With (node_by_id pivoted target) HasDisk
+      target_disk =
+          let p = moved_onto mirror in
+          let id : p.row.id ≡ target = eqb-true p.row.id target (find-Some (λ (r : NodeRecord). r.id == target) (moved mirror).nodes p.row p.there).1 in
+          with_at HasDisk (node_by_id pivoted target) (node_changed target settled p.row)
+          (settled_found (moved mirror) pivoted pivot_settles target ∙ ap (option_map (node_changed target settled)) p.there)
+          (subst HasDisk (sym (changed_at target settled p.row id)) (record { settled = refl; own = p.own }))
+
+      pivot_led : IsLedOn t pivoted filter row.source target true
+      pivot_led = record {
+        to = target;
+        ended = settled_then t (moved mirror) pivoted filter row.source target (moved_table t pulled filter row.source target ended) pivot_settles;
+        disks = disks_settled t (moved mirror) pivoted filter row.source target pivot_settles
+            (disks_moved t pulled filter row.source target (move_suits mirror) pulled_stands disks);
+        onto = record {
+          apart = plain_apart t filter row.source over_source target onto_plain;
+          size = size_at target sizes.other sizes.other_found ∙ sym sizes.same ∙ sym (size_at row.source sizes.row sizes.found);
+          disk = target_disk;
+          writable = λ is. with_at (λ (r : NodeRecord). r.read_only ≡ false) (node_by_id t target) onto_plain.row onto_plain.there (target_open onto_plain.row onto_plain.there);
+        };
+        stands = all_keep (settle_if true (Some target) disk) (moved mirror) (settle_suits (moved mirror) (moved_onto mirror) true disk) (moved_stands mirror);
+        place = inr (refl, refl);
+      }
 
   -- ---- all of it
 
