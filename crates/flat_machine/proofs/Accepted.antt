@@ -11,6 +11,7 @@ use Rattle.blk_graph.proofs.Members.{find-Some, Contains-nil, Contains-cases}
 use Rattle.qmp_codec.specs.Commands.{Cmd, SeenSources}
 use Rattle.qmp_codec.specs.declared.command.Command.TheVariants as command
 use Rattle.qmp_codec.specs.declared.jobs.Backup.{Backup}
+use Rattle.qmp_codec.specs.declared.jobs.Mirror.{Mirror as MirrorCommand}
 use Rattle.qmp_codec.specs.declared.nodes.FileRef.{FileRef}
 use Rattle.qmp_codec.specs.declared.nodes.FileRef.TheVariants as file_ref
 use Rattle.qmp_codec.specs.declared.nodes.InlineFile.{InlineFile}
@@ -33,6 +34,7 @@ use Rattle.qmp_rules.specs.declared.rows.JobRecord.{JobRecord}
 use Rattle.qmp_rules.specs.declared.rows.NodeRecord.{NodeRecord}
 use Rattle.qmp_rules.specs.declared.rows.DeviceRow.{DeviceRow}
 use Rattle.qmp_rules.specs.declared.rows.AskedEnd.{AskedEnd}
+use Rattle.qmp_rules.specs.declared.rows.AskedEnd.TheVariants as asked
 use Rattle.qmp_rules.specs.declared.rows.FileState.{FileState}
 use Rattle.qmp_rules.specs.declared.rows.FileState.TheVariants.{Made, Formatted, Used}
 use Rattle.qmp_asks.specs.declared.look.Look.{Look}
@@ -42,10 +44,10 @@ use Rattle.qmp_rules.specs.declared.told.Told.{Told}
 use Rattle.qmp_rules.specs.Table.{RunTable, device_named, job_named, node_by_id, node_named, id_named, file_state, first_into}
 use Rattle.qmp_rules.specs.Chains.{filter_role, is_settled, disk_node}
 use Rattle.qmp_rules.specs.Changes.{changed}
-use Rattle.qmp_rules.specs.Edits.{snapshot_edits, node_ids, free_id, next_free_id, file_row, inline_row, raw_edits, qcow2_edits, added_edits, add_edits, length_told, edits_of, file_uses, with_inline, goes_with_node, of_row, row_gone, file_under, created_change, create_edits, del_edits, device_uses, new_device, device_add_edits, device_del_edits, merges, merge_edits, start_edits, backup_job, asked_by_cancel, cancel_edits}
+use Rattle.qmp_rules.specs.Edits.{snapshot_edits, node_ids, free_id, next_free_id, file_row, inline_row, raw_edits, qcow2_edits, added_edits, add_edits, length_told, edits_of, file_uses, with_inline, goes_with_node, of_row, row_gone, file_under, created_change, create_edits, del_edits, device_uses, new_device, device_add_edits, device_del_edits, merges, merge_edits, start_edits, backup_job, asked_by_cancel, cancel_edits, complete_edits, mirror_job}
 use Rattle.qmp_asks.specs.Values.{flag_or_false}
 use Rattle.qmp_asks.specs.Naming.{is_file_name}
-use Rattle.qmp_asks.specs.JobAsks.{backup_values, backup_names, backup_rest}
+use Rattle.qmp_asks.specs.JobAsks.{backup_values, backup_names, backup_rest, mirror_values, mirror_names, mirror_rest}
 use Rattle.qmp_asks.specs.NodeAsks.{snapshot_values, snapshot_names, snapshot_rest, add_asks, option_values, added_values, added_names, file_names, is_read_only, added_rest, raw_rest, qcow2_rest, copy_on_read_rest, is_added, backing_name}
 use Rattle.qmp_rules.specs.Looks.{absent_file, add_told, is_unopened}
 use Rattle.qmp_asks.specs.Asking.{Asking}
@@ -614,13 +616,20 @@ free_asked : (ask : JobRecord → AskedEnd) (found : Option JobRecord)
 free_asked ask None = tt
 free_asked ask (Some job) = (λ s. tt, tt)
 
--- the filter of a backup gets a number that no node has
+-- the filter of a copy gets a number that no node has
 backup_can : (s : State) (told : Told) (c : Backup (List ℕ)) → NoneHolds s.table told (backup_values c ++ backup_names c ++ backup_rest c)
     → AllCan s (start_edits s.table (backup_job s.table None c))
 unfolding start_edits
 backup_can s told c asks =
     let rest = none-behind s.table told (backup_values c ++ backup_names c) (backup_rest c) asks in
     copy_can s (backup_job s.table None c) BeforeWrite refl (free_fresh s.table (room-left s.table told 1 rest.1.1.1.1.0))
+
+mirror_can : (s : State) (told : Told) (c : MirrorCommand (List ℕ)) → NoneHolds s.table told (mirror_values c ++ mirror_names c ++ mirror_rest c)
+    → AllCan s (start_edits s.table (mirror_job s.table c))
+unfolding start_edits
+mirror_can s told c asks =
+    let rest = none-behind s.table told (mirror_values c ++ mirror_names c) (mirror_rest c) asks in
+    copy_can s (mirror_job s.table c) Mirror refl (free_fresh s.table (room-left s.table told 1 rest.1.1.1.0))
 
 -- Where nothing refuses a command that is carried out, each of its changes can be made, whatever sizes are told of files.
 pub accepted_can : (s : State) (told exp : Told) (c : Cmd) → Stands s → MayStop s c (told_for s c).stopped told.stopped
@@ -647,8 +656,11 @@ accepted_can s told exp c stands may h =
     by_command (command.DeviceDel id) stands may is asks =
         free_can (device_del_edits s.table id) (free_gone (device_named s.table id)) s
     by_command (command.BlockdevBackup c) stands may is asks = backup_can s told c asks
+    by_command (command.BlockdevMirror c) stands may is asks = mirror_can s told c asks
     by_command (command.BlockJobCancel job force) stands may is asks =
         free_can (cancel_edits s.table job force) (free_asked (asked_by_cancel (flag_or_false force)) (job_named s.table job)) s
+    by_command (command.BlockJobComplete job) stands may is asks =
+        free_can (complete_edits s.table job) (free_asked (λ row. asked.Complete) (job_named s.table job)) s
     by_command command.QueryBlockJobs stands may is asks = tt
     by_command (command.QueryNamedBlockNodes flat) stands may is asks = tt
     by_command (command.BitmapAdd c) stands may is asks = (tt, tt)

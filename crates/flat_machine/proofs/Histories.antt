@@ -24,6 +24,7 @@ use Rattle.qmp_rules.specs.declared.change.Change.TheVariants as change
 use Rattle.qmp_rules.specs.declared.refusal.Refusal.{Refusal}
 use Rattle.qmp_rules.specs.declared.rows.NodeRecord.{NodeRecord}
 use Rattle.qmp_rules.specs.declared.rows.AskedEnd.{AskedEnd}
+use Rattle.qmp_rules.specs.declared.rows.AskedEnd.TheVariants as asked
 use Rattle.qmp_rules.specs.declared.rows.DeviceRow.{DeviceRow}
 use Rattle.qmp_rules.specs.declared.rows.JobRecord.{JobRecord}
 use Rattle.qmp_rules.specs.declared.told.Told.{Told}
@@ -196,6 +197,7 @@ plain_command t exp (command.DeviceAdd c) begins is = plain_device t c (node_nam
 plain_command t exp (command.BlockdevSnapshot c) begins is = (tt, (tt, tt))
 plain_command t exp (command.DeviceDel id) begins is = plain_gone (device_named t id)
 plain_command t exp (command.BlockJobCancel job force) begins is = plain_asked (asked_by_cancel (flag_or_false force)) (job_named t job)
+plain_command t exp (command.BlockJobComplete job) begins is = plain_asked (λ row. asked.Complete) (job_named t job)
 plain_command t exp command.QueryBlockJobs begins is = tt
 plain_command t exp (command.QueryNamedBlockNodes flat) begins is = tt
 plain_command t exp (command.BitmapAdd c) begins is = (tt, tt)

@@ -35,6 +35,7 @@ use Rattle.qmp_rules.specs.declared.rows.JobRecord.{JobRecord}
 use Rattle.qmp_rules.specs.declared.rows.NodeRecord.{NodeRecord}
 use Rattle.qmp_rules.specs.declared.rows.DeviceRow.{DeviceRow}
 use Rattle.qmp_rules.specs.declared.rows.AskedEnd.{AskedEnd}
+use Rattle.qmp_rules.specs.declared.rows.AskedEnd.TheVariants as asked
 use Rattle.qmp_rules.specs.declared.rows.FileState.{FileState}
 use Rattle.qmp_rules.specs.declared.rows.FileState.TheVariants.{Used}
 use Rattle.qmp_rules.specs.declared.told.Told.{Told}
@@ -705,6 +706,7 @@ accepted_suits s told exp c begins rests may h =
     by_command (command.BlockdevSnapshot c) begins may is asks = snapshot_suits s told c rests.stands asks
     by_command (command.DeviceDel id) begins may is asks = device_gone_suits s (device_named s.table id)
     by_command (command.BlockJobCancel job force) begins may is asks = asked_suits s (asked_by_cancel (flag_or_false force)) (job_named s.table job)
+    by_command (command.BlockJobComplete job) begins may is asks = asked_suits s (λ row. asked.Complete) (job_named s.table job)
     by_command command.QueryBlockJobs begins may is asks = tt
     by_command (command.QueryNamedBlockNodes flat) begins may is asks = tt
     by_command (command.BitmapAdd c) begins may is asks = (tt, tt)

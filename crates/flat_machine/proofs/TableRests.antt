@@ -28,6 +28,7 @@ use Rattle.qmp_rules.specs.declared.change.Change.{Change}
 use Rattle.qmp_rules.specs.declared.change.Change.TheVariants as change
 use Rattle.qmp_rules.specs.declared.rows.NodeRecord.{NodeRecord}
 use Rattle.qmp_rules.specs.declared.rows.AskedEnd.{AskedEnd}
+use Rattle.qmp_rules.specs.declared.rows.AskedEnd.TheVariants as asked
 use Rattle.qmp_rules.specs.declared.rows.DeviceRow.{DeviceRow}
 use Rattle.qmp_rules.specs.declared.rows.JobRecord.{JobRecord}
 use Rattle.qmp_rules.specs.declared.told.Told.{Told}
@@ -609,6 +610,7 @@ command_rests t told exp c begins rests h =
     by_command (command.BlockdevSnapshot c) begins h is asks = snapshot_rests t told c asks h
     by_command (command.DeviceDel id) begins h is asks = device_gone_rests t (device_named t id) h
     by_command (command.BlockJobCancel job force) begins h is asks = asked_rests t (asked_by_cancel (flag_or_false force)) (job_named t job) h
+    by_command (command.BlockJobComplete job) begins h is asks = asked_rests t (λ row. asked.Complete) (job_named t job) h
     by_command command.QueryBlockJobs begins h is asks = (tt, h)
     by_command (command.QueryNamedBlockNodes flat) begins h is asks = (tt, h)
     by_command (command.BitmapAdd c) begins h is asks = both_rest t (bitmap_add_edits t c) (tt, tt) (tt, tt) h

@@ -12,7 +12,7 @@ use Rattle.qmp_rules.specs.declared.rows.JobRecord.{JobRecord}
 use Rattle.qmp_rules.specs.declared.told.Told.{Told}
 use Rattle.qmp_rules.specs.Answers.{unbuilt, refusal_to, command_edits}
 use Rattle.qmp_rules.specs.Changes.{all_changed}
-use Rattle.qmp_rules.specs.Edits.{backup_job, start_edits, edits_of}
+use Rattle.qmp_rules.specs.Edits.{backup_job, mirror_job, start_edits, edits_of}
 use Rattle.qmp_rules.specs.Table.{RunTable}
 use Rattle.flat_machine.specs.State.{State}
 use Rattle.flat_machine.specs.Changed.{stepped, all_stepped}
@@ -24,10 +24,10 @@ use Rattle.flat_machine.specs.Wiring.{InlineAreUnder, TableStands, TableAtRest}
 use Rattle.flat_machine.proofs.Resting.{stepped_table, accepted_rests, read_rests_by, answer_rests}
 use Rattle.flat_machine.proofs.Suited.{accepted_suits}
 use Rattle.flat_machine.proofs.TableRests.{all_keep, command_rests}
-use Rattle.job_tables.specs.Accepted.{IsMet, JobsGoOn, JobsAreDrawn}
+use Rattle.job_tables.specs.Accepted.{IsMet, JobsAreDrawn}
 use Rattle.job_tables.specs.Jobs.{JobsStand, EdgesAreDrawn}
 use Rattle.job_tables.specs.Starts.{JobBegins}
-use Rattle.job_tables.proofs.StartCommands.{accepted_met, met_backup}
+use Rattle.job_tables.proofs.StartCommands.{accepted_met, met_backup, met_mirror}
 use Rattle.job_entries.specs.Starts.{LendsAsRead}
 use Rattle.job_entries.proofs.Inline.{inline_carried, steps_carry, steps_rest}
 use Rattle.job_entries.proofs.StartSuits.{start_suits}
@@ -110,14 +110,16 @@ record BeginsSo (t : RunTable) (changes : List Change) : Type 0 where
   begins : JobBegins t row
   lends : LendsAsRead t row row.kind
 
-begins_by_command : (t : RunTable) (told exp : Told) (c : Cmd) → TableStands t → JobsGoOn t → begins_job c ≡ true → refusal_to t told c ≡ None
+begins_by_command : (t : RunTable) (told exp : Told) (c : Cmd) → TableStands t → JobsAreDrawn t → begins_job c ≡ true → refusal_to t told c ≡ None
     → BeginsSo t (command_edits t exp c)
 unfolding edits_of
-begins_by_command t told exp c h g begins quiet = let met = accepted_met t told c quiet in by_command c begins met.0 met.1
+begins_by_command t told exp c h d begins quiet = let met = accepted_met t told c quiet in by_command c begins met.0 met.1
   where
     by_command : (c : Cmd) → begins_job c ≡ true → unbuilt c ≡ None → IsMet t told c → BeginsSo t (command_edits t exp c)
     by_command (command.BlockdevBackup c) begins is met =
-        record { row = backup_job t None c; is = refl; begins = (met_backup t told c h g.stand g.run met).job; lends = tt }
+        record { row = backup_job t None c; is = refl; begins = (met_backup t told c h d.jobs.stand d.jobs.run met).job; lends = tt }
+    by_command (command.BlockdevMirror c) begins is met =
+        record { row = mirror_job t c; is = refl; begins = (met_mirror t told c h d.jobs.stand d.jobs.run d.edges met).job; lends = tt }
     by_command _ begins is met = absurd cc
 
 -- ---- every command
@@ -128,13 +130,13 @@ accepted_at_rest t told exp c h d quiet = by_start (begins_job c) refl
   where
     by_start : (b : Bool) → begins_job c ≡ b → TableAtRest (all_changed t (command_edits t exp c))
     by_start true begins =
-        let x = begins_by_command t told exp c h.stands d.jobs begins quiet in
+        let x = begins_by_command t told exp c h.stands d begins quiet in
         subst (λ (changes : List Change). TableAtRest (all_changed t changes)) (sym x.is) (start_at_rest t x.row h d.jobs.stand d.edges x.begins x.lends)
     by_start false begins = (command_rests t told exp c begins h quiet).1
 
 module _ (s : State) (told exp : Told) (c : Cmd) (rests : StandsAtRest s) (d : JobsAreDrawn s.table) (quiet : refusal_to s.table told c ≡ None) where
   begun : begins_job c ≡ true → BeginsSo s.table (command_edits s.table exp c)
-  begun begins = begins_by_command s.table told exp c rests.stands.table d.jobs begins quiet
+  begun begins = begins_by_command s.table told exp c rests.stands.table d begins quiet
 
   start_suit : (x : BeginsSo s.table (command_edits s.table exp c)) → AllSuit s (start_edits s.table x.row)
   start_suit x = start_suits s rests.stands.table d.jobs.stand d.edges x.row x.begins x.lends

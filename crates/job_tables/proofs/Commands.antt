@@ -23,6 +23,7 @@ use Rattle.qmp_rules.specs.declared.change.Change.{Change}
 use Rattle.qmp_rules.specs.declared.change.Change.TheVariants as change
 use Rattle.qmp_rules.specs.declared.rows.NodeRecord.{NodeRecord}
 use Rattle.qmp_rules.specs.declared.rows.AskedEnd.{AskedEnd}
+use Rattle.qmp_rules.specs.declared.rows.AskedEnd.TheVariants as asked
 use Rattle.qmp_rules.specs.declared.rows.DeviceRow.{DeviceRow}
 use Rattle.qmp_rules.specs.declared.rows.JobRecord.{JobRecord}
 use Rattle.qmp_rules.specs.declared.told.Told.{Told}
@@ -43,7 +44,7 @@ use Rattle.flat_machine.proofs.Snapshots.{AreSnapshot, snapshot_nodes, edits_are
 use Rattle.flat_machine.proofs.TableRests.{made-goes_with, inline-file, inline-format, command_rests}
 use Rattle.flat_machine.proofs.TableSuited.{named-row, NamedFile, named-file}
 use Rattle.job_tables.specs.Accepted.{JobsGoOn}
-use Rattle.job_tables.specs.Jobs.{JobsStand}
+use Rattle.job_tables.specs.Jobs.{JobsStand, EdgesAreDrawn}
 use Rattle.job_tables.specs.Changes.{IsNoJobs, AllLeaveJobs, LeavesBySnapshot}
 use Rattle.job_tables.specs.Running.{AllLeaveDisks}
 use Rattle.job_tables.proofs.Changes.{changes_leave_jobs}
@@ -252,6 +253,7 @@ accepted_leave t told exp c begins rests j h =
     by_command (command.DeviceDel id) begins suits is asks = inl (suits, device_gone_leave t (device_named t id))
     by_command (command.BlockJobCancel job force) begins suits is asks =
         inl (suits, asked_leave t (asked_by_cancel (flag_or_false force)) (job_named t job))
+    by_command (command.BlockJobComplete job) begins suits is asks = inl (suits, asked_leave t (λ row. asked.Complete) (job_named t job))
     by_command command.QueryBlockJobs begins suits is asks = inl (suits, (tt, tt))
     by_command (command.QueryNamedBlockNodes flat) begins suits is asks = inl (suits, (tt, tt))
     by_command (command.BitmapAdd c) begins suits is asks = inl (suits, ((tt, tt), (tt, tt)))
@@ -262,25 +264,28 @@ accepted_leave t told exp c begins rests j h =
     by_command (command.BitmapMerge c) begins suits is asks = inl (suits, merges_leave t c.node c.target c.bitmaps t)
     by_command _ begins suits is asks = absurd cc
 
-pub accepted_keep_jobs : (t : RunTable) (told exp : Told) (c : Cmd) → TableAtRest t → JobsGoOn t → refusal_to t told c ≡ None
-    → JobsGoOn (all_changed t (command_edits t exp c))
-accepted_keep_jobs t told exp c rests g h = by_start (begins_job c) refl
-  where
-    by_start : (b : Bool) → begins_job c ≡ b → JobsGoOn (all_changed t (command_edits t exp c))
-    by_start true begins =
-        let s = accepted_start t told exp c rests.stands g begins h in
-        subst (λ (changes : List Change). JobsGoOn (all_changed t changes)) (sym s.is) (record {
-          stand = starts_stand t s.row rests.stands g.stand s.begins.job;
-          run = starts_run t s.row rests.stands g.stand g.run s.begins.job s.begins.run;
+module _ (t : RunTable) (told exp : Told) (c : Cmd) (rests : TableAtRest t) (g : JobsGoOn t) (h : refusal_to t told c ≡ None) where
+  pub others_keep_jobs : begins_job c ≡ false → JobsGoOn (all_changed t (command_edits t exp c))
+  others_keep_jobs begins = elim (accepted_leave t told exp c begins rests g.stand h) [
+    | inl l ↦ record {
+      stand = changes_leave_jobs (command_edits t exp c) t rests.stands g.stand l.0 l.1.0;
+      run = changes_leave_run (command_edits t exp c) t rests.stands g.stand l.0 l.1.0 l.1.1 g.run;
+    }
+    | inr of ↦
+        subst (λ (changes : List Change). JobsGoOn (all_changed t changes)) (sym of.is) (record {
+          stand = snapshots_leave_jobs t g.stand of.node of.overlay of.leaves;
+          run = snapshots_leave_run t of.node of.overlay g.run;
         })
-    by_start false begins = elim (accepted_leave t told exp c begins rests g.stand h) [
-      | inl l ↦ record {
-        stand = changes_leave_jobs (command_edits t exp c) t rests.stands g.stand l.0 l.1.0;
-        run = changes_leave_run (command_edits t exp c) t rests.stands g.stand l.0 l.1.0 l.1.1 g.run;
-      }
-      | inr of ↦
-          subst (λ (changes : List Change). JobsGoOn (all_changed t changes)) (sym of.is) (record {
-            stand = snapshots_leave_jobs t g.stand of.node of.overlay of.leaves;
-            run = snapshots_leave_run t of.node of.overlay g.run;
+  ]
+
+  pub accepted_keep_jobs : EdgesAreDrawn t → JobsGoOn (all_changed t (command_edits t exp c))
+  accepted_keep_jobs d = by_start (begins_job c) refl
+    where
+      by_start : (b : Bool) → begins_job c ≡ b → JobsGoOn (all_changed t (command_edits t exp c))
+      by_start true begins =
+          let s = accepted_start t told exp c rests.stands g d begins h in
+          subst (λ (changes : List Change). JobsGoOn (all_changed t changes)) (sym s.is) (record {
+            stand = starts_stand t s.row rests.stands g.stand s.begins.job;
+            run = starts_run t s.row rests.stands g.stand g.run s.begins.job s.begins.run;
           })
-    ]
+      by_start false begins = others_keep_jobs begins

@@ -62,7 +62,7 @@ use Rattle.job_tables.specs.Jobs.{JobsStand, EdgesAreDrawn}
 use Rattle.job_tables.specs.Running.{JobsRun}
 use Rattle.job_tables.specs.Copiers.{CopiesGo, IsNoCopyTarget, LeavesTargets, AllLeaveTargets}
 use Rattle.job_tables.proofs.NodeKinds.{kind_found}
-use Rattle.job_tables.proofs.Commands.{accepted_leave, accepted_keep_jobs}
+use Rattle.job_tables.proofs.Commands.{accepted_leave, others_keep_jobs}
 use Rattle.job_tables.proofs.Copiers.{copied_written, copied_has, copied_edge, changes_leave_copies, snapshots_leave_copies}
 use Rattle.job_tables.proofs.DrawnChanges.{TakesEdges, AllTakeEdges}
 use Rattle.job_tables.proofs.DrawnCommands.{free_below, quiet_first, ruled_by, del_take, device_gone_take, created_take, merges_take}
@@ -251,7 +251,7 @@ module _ (t : RunTable) (told exp : Told) (rests : TableAtRest t) (j : JobsStand
       (added_targets t told exp j r c.node_name (is_read_only c.options) c.driver
       (none-behind t told (add_values c ++ add_names c) (added_rest c.node_name (is_read_only c.options) c.driver) asks) m.behind
       (command_rests t told exp (command.BlockdevAdd c) refl rests h).1.stands
-      (accepted_keep_jobs t told exp (command.BlockdevAdd c) rests (record { stand = j; run = r }) h).stand)
+      (others_keep_jobs t told exp (command.BlockdevAdd c) rests (record { stand = j; run = r }) h refl).stand)
   accepted_goes (command.BlockdevDel name) h = by_edges (command.BlockdevDel name) refl h (del_take t (node_named t name))
   accepted_goes (command.DeviceAdd c) h =
       let asks = none-holds t told (asks_of (command.DeviceAdd c)) (met (command.DeviceAdd c) h).asks in

@@ -33,6 +33,7 @@ use Rattle.qmp_rules.specs.declared.change.Change.{Change}
 use Rattle.qmp_rules.specs.declared.change.Change.TheVariants as change
 use Rattle.qmp_rules.specs.declared.rows.NodeRecord.{NodeRecord}
 use Rattle.qmp_rules.specs.declared.rows.AskedEnd.{AskedEnd}
+use Rattle.qmp_rules.specs.declared.rows.AskedEnd.TheVariants as asked
 use Rattle.qmp_rules.specs.declared.rows.DeviceRow.{DeviceRow}
 use Rattle.qmp_rules.specs.declared.rows.JobRecord.{JobRecord}
 use Rattle.qmp_rules.specs.declared.told.Told.{Told}
@@ -48,7 +49,7 @@ use Rattle.flat_machine.proofs.Asked.{none-both, not-refused, NoneHolds, none-ho
 use Rattle.flat_machine.proofs.RowKinds.{kinds-mapped}
 use Rattle.flat_machine.proofs.TableRests.{command_rests, table_keeps}
 use Rattle.job_tables.specs.Accepted.{JobsAreDrawn}
-use Rattle.job_tables.proofs.Commands.{accepted_leave, accepted_keep_jobs}
+use Rattle.job_tables.proofs.Commands.{accepted_leave, others_keep_jobs}
 use Rattle.job_tables.proofs.DrawnChanges.{IsDerived, derived_of, drawn_of, AllHaveSmallNumbers, AllTakeEdges, attach_derived, move_derived, changes_derived, changes_ruled}
 use Rattle.job_tables.proofs.Slots.{lowest_below}
 use Rattle.job_tables.proofs.StartCommands.{accepted_start_drawn}
@@ -436,6 +437,10 @@ module _ (t : RunTable) (told exp : Told) (rests : TableAtRest t) (g : JobsAreDr
         asked_small (asked_by_cancel (flag_or_false force)) (job_named t job),
         inl (asked_take (asked_by_cancel (flag_or_false force)) (job_named t job)),
       )
+      by_command (command.BlockJobComplete job) begins is asks quiet = (
+        asked_small (λ row. asked.Complete) (job_named t job),
+        inl (asked_take (λ row. asked.Complete) (job_named t job)),
+      )
       by_command command.QueryBlockJobs begins is asks quiet = (tt, inl tt)
       by_command (command.QueryNamedBlockNodes flat) begins is asks quiet = (tt, inl tt)
       by_command (command.BitmapAdd c) begins is asks quiet = ((tt, tt), inl (tt, tt))
@@ -454,7 +459,7 @@ module _ (t : RunTable) (told exp : Told) (rests : TableAtRest t) (g : JobsAreDr
       let changes : List Change = command_edits t exp c in
       let both = command_rests t told exp c begins rests h in
       let how = commands_drawn c begins h in
-      let goes = accepted_keep_jobs t told exp c rests g.jobs h in
+      let goes = others_keep_jobs t told exp c rests g.jobs h begins in
       elim (accepted_leave t told exp c begins rests g.jobs.stand h) [
         | inl l ↦
             let d = changes_derived changes t rests.stands derived l.0 l.1.0 how.0 in

@@ -200,14 +200,16 @@ pub record IsStart (t : RunTable) (changes : List Change) : Type 0 where
   pub is : changes ≡ start_edits t row
   pub begins : Begins t row
 
-pub accepted_start : (t : RunTable) (told exp : Told) (c : Cmd) → TableStands t → JobsGoOn t → begins_job c ≡ true → refusal_to t told c ≡ None
-    → IsStart t (command_edits t exp c)
+pub accepted_start : (t : RunTable) (told exp : Told) (c : Cmd) → TableStands t → JobsGoOn t → EdgesAreDrawn t → begins_job c ≡ true
+    → refusal_to t told c ≡ None → IsStart t (command_edits t exp c)
 unfolding edits_of
-accepted_start t told exp c h g begins quiet = let met = accepted_met t told c quiet in by_command c begins met.0 met.1
+accepted_start t told exp c h g d begins quiet = let met = accepted_met t told c quiet in by_command c begins met.0 met.1
   where
     by_command : (c : Cmd) → begins_job c ≡ true → unbuilt c ≡ None → IsMet t told c → IsStart t (command_edits t exp c)
     by_command (command.BlockdevBackup c) begins is met =
         record { row = backup_job t None c; is = refl; begins = met_backup t told c h g.stand g.run met }
+    by_command (command.BlockdevMirror c) begins is met =
+        record { row = mirror_job t c; is = refl; begins = met_mirror t told c h g.stand g.run d met }
     by_command _ begins is met = absurd cc
 
 pub accepted_start_drawn : (t : RunTable) (told exp : Told) (c : Cmd) → TableStands t → JobsAreDrawn t → begins_job c ≡ true → refusal_to t told c ≡ None
@@ -217,4 +219,5 @@ accepted_start_drawn t told exp c h g begins quiet = let met = accepted_met t to
   where
     by_command : (c : Cmd) → begins_job c ≡ true → unbuilt c ≡ None → IsMet t told c → JobsAreDrawn (all_changed t (command_edits t exp c))
     by_command (command.BlockdevBackup c) begins is met = kept_backup t told c h g met
+    by_command (command.BlockdevMirror c) begins is met = kept_mirror t told c h g met
     by_command _ begins is met = absurd cc

@@ -40,7 +40,7 @@ use Rattle.flat_machine.proofs.Finds.{bytes_eq-same, content_in-with}
 use Rattle.flat_machine.proofs.Fresh.{no-found}
 use Rattle.flat_machine.proofs.Resting.{stepped_table}
 use Rattle.flat_machine.proofs.Tables.{pushed-cases}
-use Rattle.job_tables.specs.Jobs.{JobsStand}
+use Rattle.job_tables.specs.Jobs.{JobsStand, EdgesAreDrawn}
 use Rattle.job_tables.specs.Running.{JobsRun, RunBegins}
 use Rattle.job_tables.specs.Starts.{JobBegins}
 use Rattle.job_tables.specs.TargetFiles.{WritesFile, IsCopier, TargetFilesStand}
@@ -309,13 +309,13 @@ ended_files s number why h j f = by_found (job_at s.table number) refl
 
 -- ---- accepted commands
 
-pub accepted_files : (s : State) (told exp : Told) (c : Cmd) → TableAtRest s.table → JobsStand s.table → JobsRun s.table → s.starts ≡ s.table.started
-    → refusal_to s.table told c ≡ None → TargetFilesStand s → TargetFilesStand (all_stepped s (command_edits s.table exp c))
-accepted_files s told exp c rests j r started quiet f = by_start (begins_job c) refl
+pub accepted_files : (s : State) (told exp : Told) (c : Cmd) → TableAtRest s.table → JobsStand s.table → JobsRun s.table → EdgesAreDrawn s.table
+    → s.starts ≡ s.table.started → refusal_to s.table told c ≡ None → TargetFilesStand s → TargetFilesStand (all_stepped s (command_edits s.table exp c))
+accepted_files s told exp c rests j r d started quiet f = by_start (begins_job c) refl
   where
     by_start : (b : Bool) → begins_job c ≡ b → TargetFilesStand (all_stepped s (command_edits s.table exp c))
     by_start true begins =
-        let x = accepted_start s.table told exp c rests.stands (record { stand = j; run = r }) begins quiet in
+        let x = accepted_start s.table told exp c rests.stands (record { stand = j; run = r }) d begins quiet in
         subst (λ (changes : List Change). TargetFilesStand (all_stepped s changes)) (sym x.is)
         (starts_keep_files s x.row rests.stands j r x.begins.job x.begins.run started f)
     by_start false begins = elim (accepted_leave s.table told exp c begins rests j quiet) [

@@ -153,10 +153,10 @@ pub fn starts_and_ends_keep_running()
 /// Behind the changes of an accepted command, whatever was told of files, jobs stand and run as before, and edges may be drawn.
 pub fn accepted_commands_keep_jobs()
     ensures stand { (t : RunTable) (told : Told) (c : Cmd) → TableAtRest t → JobsStand t
-        → JobsRun t → refusal_to t told c ≡ None
+        → JobsRun t → EdgesAreDrawn t → refusal_to t told c ≡ None
         → JobsStand (all_changed t (command_edits t told c)) }
     ensures run { (t : RunTable) (told : Told) (c : Cmd) → TableAtRest t → JobsStand t
-        → JobsRun t → refusal_to t told c ≡ None
+        → JobsRun t → EdgesAreDrawn t → refusal_to t told c ≡ None
         → JobsRun (all_changed t (command_edits t told c)) }
     ensures drawn { (t : RunTable) (told : Told) (c : Cmd) → TableAtRest t → JobsAreDrawn t
         → length t.guests ≤ 16 → refusal_to t told c ≡ None
@@ -228,8 +228,8 @@ pub fn target_files_stand()
         → AllLeaveDisks s.table changes → TargetFilesStand s
         → TargetFilesStand (all_stepped s changes) }
     ensures commands { (s : State) (told : Told) (c : Cmd) → TableAtRest s.table
-        → JobsStand s.table → JobsRun s.table → s.starts ≡ s.table.started
-        → refusal_to s.table told c ≡ None → TargetFilesStand s
+        → JobsStand s.table → JobsRun s.table → EdgesAreDrawn s.table
+        → s.starts ≡ s.table.started → refusal_to s.table told c ≡ None → TargetFilesStand s
         → TargetFilesStand (all_stepped s (command_edits s.table told c)) }
     ensures pieces { (s : State) (drive : ℕ) (op : Op) (outcome : Outcome) (part : Extent)
         → TargetFilesStand s → TargetFilesStand (with_part drive op outcome part s) }

@@ -1,8 +1,8 @@
 -- The actors can go on after each turn, and after several.
 use Rattle.std.proofs.Common.{◌≡◌, ◌≢◌, ◌⊎◌, ℕ, ◌+◌, ◌*◌, ◌^◌, ◌<◌, true, false, Bool, List, [], ◌∷◌, length, set, refl, sym, ◌∙◌, ap, subst, arith, Option, Some, None, inl, inr, Result, Ok, Err, IfOk, OnOk}
-use Rattle.std.specs.Prelude.{Contains, find, slice_get, IsSome, ◌==◌, ◌||◌}
+use Rattle.std.specs.Prelude.{slice_get, IsSome, ◌||◌}
 use Rattle.std.proofs.Math.ListN.{length-set}
-use Rattle.std.proofs.lemmas.Bool.{false≢true, eq-eqb}
+use Rattle.std.proofs.lemmas.Bool.{false≢true}
 use Rattle.trace_codec.specs.declared.wish.Wish.{Wish}
 use Rattle.trace_codec.specs.declared.order.Order.TheVariants.{Give, Watch}
 use Rattle.trace_codec.specs.Script.{Order}
@@ -10,8 +10,7 @@ use Rattle.blk_history.specs.Fold.{With}
 use Rattle.blk_history.specs.Machine.{Flight}
 use Rattle.blk_history.specs.declared.event.Event.{Event}
 use Rattle.blk_history.specs.declared.event.Event.TheVariants.{Admit, Refuse, Piece, Retire, Reply, Reached, Start, Ready, End, Done}
-use Rattle.qmp_rules.specs.declared.rows.JobRecord.{JobRecord}
-use Rattle.flat_machine.specs.Blocked.{ScriptWaits}
+use Rattle.flat_machine.specs.Blocked.{ScriptWaits, SlotWaits}
 use Rattle.flat_machine.specs.Marks.{Drained, holds_disk, is_guest_held}
 use Rattle.flat_machine.specs.State.{disk_of_guest}
 use Rattle.flat_machine.specs.Courses.{course_of, course_after, past_waits, rest_of}
@@ -19,18 +18,19 @@ use Rattle.world_parts.specs.Face.{WorldSeen, seen_state}
 use Rattle.world_parts.specs.Progress.{Progress, answered_in}
 use Rattle.qblk_inputs.specs.Room.{bytes_for}
 use Rattle.qblk_run.specs.Tasks.{Task, ScriptTask, Tasks, IsTaskOf, IsTaskIn, IsFlying, IsScriptIn, AreDrainsOf, CanGoOn, KeepsTo, IsRestOf, Halts, IsGiving, IsPutOffFor, Rests, ScriptHalts, ScriptRests, entries_to_come, steps_of, steps_of_all, steps_of_tasks, flight_entries, entries_in_flight}
-use Rattle.qblk_run.specs.Slots.{NoneFlies, StandsInRun, parts_left}
+use Rattle.qblk_run.specs.Slots.{NoneFlies, SlotHalts, StandsInRun, parts_left}
 use Rattle.qblk_run.specs.Turns.{DrainsAfter, IsOwnOrder, IsScriptPutOff, IsScriptTurn, ScriptMoves, StaysIn}
-use Rattle.qblk_run.specs.Rounds.{AllRest, AreGuestTurns, AreSlotTurns, Continues, Goes, GuestsHalt, HasTurn, LeavesLess, LeavesNoMore, SlotsHalt, steps_in}
+use Rattle.qblk_run.specs.Rounds.{AllRest, AreGuestTurns, AreSlotTurns, Continues, Goes, GuestsHalt, HasTurn, LeavesLess, LeavesNoMore, SlotsHalt, SlotsWait, steps_in}
 use Rattle.qblk_run.proofs.Lists.{same_or_not, get-below, below-get, get-set, get-set-other, with-at, with-map, with-some}
 use Rattle.qblk_run.proofs.Waits.{grows-same, through, entries-past, bytes-past, numbers-past, length-past}
 use Rattle.qblk_run.proofs.History.{course-answered}
 use Rattle.qblk_run.proofs.Sums.{entries-set, bytes-set, steps-set}
 use Rattle.qblk_run.proofs.Bounds.{parts-bounded}
+use Rattle.qblk_run.proofs.Resting.{none-hold}
 use Rattle.qblk_run.proofs.Moves.{move-can}
 use Rattle.qblk_run.proofs.Orders.{stays, rests-advance, move-order, move-lines}
 use Rattle.qblk_run.proofs.Scripts.{script-can, script-order, script-lines}
-use Rattle.qblk_run.proofs.Worlds.{put-off-flies, put-off-gives, put-off-jobs, put-off-left}
+use Rattle.qblk_run.proofs.Worlds.{put-off-flies, put-off-gives, put-off-left}
 
 -- ---- a guest that makes no entry
 
@@ -110,11 +110,11 @@ module _ (p : Progress) (script : ScriptTask) (tasks : List Task) (g : ℕ) (bef
 
 -- ---- drains
 
-pub drains_stay : (w v : WorldSeen) (script : ScriptTask) → v.drains ≡ w.drains → AreDrainsOf w script → AreDrainsOf v script
-drains_stay w v script same was = record { jobs = ap (λ (d : Drained). d.jobs) same ∙ was.jobs; command = by_command was.command }
+pub drains_stay : (w v : WorldSeen) (script : ScriptTask) → StaysIn w v → v.drains.command ≡ w.drains.command → AreDrainsOf w script → AreDrainsOf v script
+drains_stay w v script stays same was = record { jobs = stays.drains was.jobs; command = by_command was.command }
   where
     by_command : (w.drains.command ≡ []) ⊎ IsGiving script.orders → (v.drains.command ≡ []) ⊎ IsGiving script.orders
-    by_command (inl none) = inl (ap (λ (d : Drained). d.command) same ∙ none)
+    by_command (inl none) = inl (same ∙ none)
     by_command (inr gives) = inr gives
 
 -- ---- less is left
@@ -137,7 +137,7 @@ then-less w v u a b c (inl x) (inr y) = inl (omega (arith, x, y.0))
 then-less w v u a b c (inr x) (inl y) = inl (omega (arith, x.0, y))
 then-less w v u a b c (inr x) (inr y) = inr (omega (arith, x.0, y.0), omega (arith, x.1, y.1))
 
-same-more : (w v : WorldSeen) (a b : Tasks) → v.progress ≡ w.progress → v.works ≡ w.works → steps_of_tasks b ≡ steps_of_tasks a → LeavesNoMore w v a b
+pub same-more : (w v : WorldSeen) (a b : Tasks) → v.progress ≡ w.progress → v.works ≡ w.works → steps_of_tasks b ≡ steps_of_tasks a → LeavesNoMore w v a b
 same-more w v a b progress works steps =
     let aside : v.progress.aside ≡ w.progress.aside = ap (λ (p : Progress). p.aside) progress in
     let left : parts_left v.works ≡ parts_left w.works = ap parts_left works in
@@ -145,7 +145,7 @@ same-more w v a b progress works steps =
 
 -- ---- one turn
 
-stands-on : (w v : WorldSeen) → StaysIn w v → (NoneFlies w.works → NoneFlies v.works) → StandsInRun w → StandsInRun v
+pub stands-on : (w v : WorldSeen) → StaysIn w v → (NoneFlies w.works → NoneFlies v.works) → StandsInRun w → StandsInRun v
 stands-on w v stays flights was = record { opening = was.opening; comes = stays.comes was.opening was.comes; flights = flights was.flights }
 
 pub continues-same : (w : WorldSeen) (a : Tasks) → CanGoOn w.progress a → Continues w w a a
@@ -181,7 +181,7 @@ turn-continues w v script old new g true can stays turn =
       can = rw turn.after_is (move-can w.progress v.progress script old g turn.task turn.now e turn.there move can);
       order = rw turn.after_is (move-order w.progress v.progress script old g turn.task turn.now e turn.there move);
       lines = move-lines w v old g turn.task turn.now e turn.there move beside;
-      drains = drains_stay w v script beside.drains;
+      drains = drains_stay w v script stays (ap (λ (d : Drained). d.command) beside.drains);
       stands = stands-on w v stays beside.flights;
       more = inl less;
       count = rw turn.after_is (length-set old g turn.now);
@@ -202,28 +202,28 @@ turn-continues w v script old new g false can stays turn =
     })
 
 -- the script's entry, and the drains behind it
-script_drains : (w v : WorldSeen) (before after : ScriptTask) (e : Event) → IsOwnOrder before after e → DrainsAfter w v e → AreDrainsOf w before → AreDrainsOf v after
-script_drains w v before after (Reply line given command text) own kept was =
-    record { jobs = ap (λ (d : Drained). d.jobs) kept ∙ was.jobs; command = inl (ap (λ (d : Drained). d.command) kept) }
-script_drains w v before after (Reached line what) own kept was =
-    record { jobs = ap (λ (d : Drained). d.jobs) kept ∙ was.jobs; command = inl (ap (λ (d : Drained). d.command) kept ∙ none was.command) }
+script_drains : (w v : WorldSeen) (before after : ScriptTask) (e : Event) → StaysIn w v → IsOwnOrder before after e → DrainsAfter w v e → AreDrainsOf w before → AreDrainsOf v after
+script_drains w v before after (Reply line given command text) stays own kept was =
+    record { jobs = stays.drains was.jobs; command = inl (ap (λ (d : Drained). d.command) kept) }
+script_drains w v before after (Reached line what) stays own kept was =
+    record { jobs = stays.drains was.jobs; command = inl (ap (λ (d : Drained). d.command) kept ∙ none was.command) }
   where
     none : (w.drains.command ≡ []) ⊎ IsGiving before.orders → w.drains.command ≡ []
     none (inl is) = is
     none (inr gives) = absurd (subst IsGiving own.0 gives)
-script_drains w v before after (Done actor) own kept was =
-    record { jobs = ap (λ (d : Drained). d.jobs) kept ∙ was.jobs; command = inl (ap (λ (d : Drained). d.command) kept ∙ none was.command) }
+script_drains w v before after (Done actor) stays own kept was =
+    record { jobs = stays.drains was.jobs; command = inl (ap (λ (d : Drained). d.command) kept ∙ none was.command) }
   where
     none : (w.drains.command ≡ []) ⊎ IsGiving before.orders → w.drains.command ≡ []
     none (inl is) = is
     none (inr gives) = absurd (subst IsGiving own.1 gives)
-script_drains w v before after (Admit n r op) own kept was = absurd own
-script_drains w v before after (Refuse n r op why) own kept was = absurd own
-script_drains w v before after (Piece n r k outcome got) own kept was = absurd own
-script_drains w v before after (Retire n r) own kept was = absurd own
-script_drains w v before after (Start job) own kept was = absurd own
-script_drains w v before after (Ready job) own kept was = absurd own
-script_drains w v before after (End job outcome offset) own kept was = absurd own
+script_drains w v before after (Admit n r op) stays own kept was = absurd own
+script_drains w v before after (Refuse n r op why) stays own kept was = absurd own
+script_drains w v before after (Piece n r k outcome got) stays own kept was = absurd own
+script_drains w v before after (Retire n r) stays own kept was = absurd own
+script_drains w v before after (Start job) stays own kept was = absurd own
+script_drains w v before after (Ready job) stays own kept was = absurd own
+script_drains w v before after (End job outcome offset) stays own kept was = absurd own
 
 script-put-off : (w v : WorldSeen) (before after : ScriptTask) (tasks : List Task) → CanGoOn w.progress (record { script = before; guests = tasks }) → StaysIn w v
     → IsScriptPutOff w v before after → Continues w v (record { script = before; guests = tasks }) (record { script = after; guests = tasks })
@@ -236,7 +236,7 @@ script-put-off w v before after tasks can stays off =
       can = rw (off.task, same) can;
       order = λ orders traces keeps. rw (off.task, same) keeps;
       lines = λ guests many lines. record { can = rw same lines.can; started = rw (same, table) lines.started };
-      drains = λ was. record { jobs = put-off-jobs before.orders w v off.off ∙ was.jobs; command = inr (rw off.task (put-off-gives before.orders w v off.off)) };
+      drains = λ was. record { jobs = stays.drains was.jobs; command = inr (rw off.task (put-off-gives before.orders w v off.off)) };
       stands = stands-on w v stays (λ none. subst NoneFlies (sym works) none);
       more = same-more w v (record { script = before; guests = tasks }) (record { script = after; guests = tasks }) same works
           (ap (λ (s : ScriptTask). steps_of_tasks (record { script = s; guests = tasks })) off.task);
@@ -265,7 +265,7 @@ script-continues w v before after tasks true can stays turn =
       can = script-can w v before after tasks turn.entry turn.behind turn.move turn.starts can;
       order = script-order w v before after tasks turn.entry turn.behind turn.move turn.starts;
       lines = λ guests many. script-lines w v before after tasks turn.entry turn.behind turn.move turn.starts guests;
-      drains = script_drains w v before after turn.entry turn.move.own turn.drains;
+      drains = script_drains w v before after turn.entry stays turn.move.own turn.drains;
       stands = stands-on w v stays turn.flights;
       more = inl (script-steps w v before after tasks turn);
       count = refl;
@@ -321,23 +321,6 @@ guests-on w v u a b c n false false so goes then script turn =
 pub no-guests : (w : WorldSeen) (a : Tasks) → AreGuestTurns w w a a 0 false
 no-guests w a = (refl, λ g task below is. absurd (omega arith))
 
--- a whole round
-pub round-goes : (w v u x : WorldSeen) (a b c : Tasks) (n : ℕ) (first asked copied : Bool) → Continues w v a b → Goes w v a b 0 0 first
-    → Continues v u b c → c.script ≡ b.script → AreGuestTurns v u b c n asked → Continues u x c c → AreSlotTurns u x c 16 copied
-    → Goes w x a c n 16 ((first || asked) || copied)
-round-goes w v u x a b c n true asked copied so goes then script turns last slots =
-    less-then w u x a c c (less-then w v u a b c goes then.more) last.more
-round-goes w v u x a b c n false true copied so goes then script turns last slots =
-    less-then w u x a c c (then-less w v u a b c so.more turns) last.more
-round-goes w v u x a b c n false false true so goes then script turns last slots =
-    then-less w u x a c c (more-then w v u a b c so.more then.more) slots
-round-goes w v u x a b c n false false false so goes then script turns last slots =
-    let same : x ≡ v = slots.0 ∙ turns.0 in (
-      rw (same, script) goes.0,
-      subst (λ (y : WorldSeen). GuestsHalt y n c.guests) (sym slots.0) turns.1,
-      slots.1,
-    )
-
 -- ---- nothing has moved in a whole round
 
 -- a guest that makes no entry has no request in flight
@@ -348,16 +331,16 @@ halts-idle w g task is (inl (inl done)) =
 halts-idle w g task is (inl (inr waits)) = waits.idle
 halts-idle w g task is (inr held) = held.idle
 
--- so the script's line has not to come again
-none-off : (w : WorldSeen) (tasks : Tasks) → CanGoOn w.progress tasks → GuestsHalt w (length tasks.guests) tasks.guests → IsPutOffFor w.progress tasks.script → ⊥
-none-off w tasks can halt off =
-    let row = with-some (slice_get w.progress.guests off.guest) (λ row. IsSome row.flight) off.flies in
-    let below = below-get w.progress.guests off.guest row.0 row.1 in
+none-flies : (w : WorldSeen) (tasks : Tasks) → CanGoOn w.progress tasks → GuestsHalt w (length tasks.guests) tasks.guests
+    → (g : ℕ) → With (slice_get w.progress.guests g) (λ row. IsSome row.flight) → ⊥
+none-flies w tasks can halt g flies =
+    let row = with-some (slice_get w.progress.guests g) (λ row. IsSome row.flight) flies in
+    let below = below-get w.progress.guests g row.0 row.1 in
     let count = can.count in
-    let task = get-below tasks.guests off.guest (omega arith) in
-    let is = can.guests off.guest task.0 task.1 in
-    let idle = halts-idle w off.guest task.0 is (halt off.guest task.0 (omega arith) task.1) in
-    let its = with-at (slice_get w.progress.guests off.guest) row.0 (λ r. IsTaskOf r task.0) row.1 is.row in
+    let task = get-below tasks.guests g (omega arith) in
+    let is = can.guests g task.0 task.1 in
+    let idle = halts-idle w g task.0 is (halt g task.0 (omega arith) task.1) in
+    let its = with-at (slice_get w.progress.guests g) row.0 (λ r. IsTaskOf r task.0) row.1 is.row in
     flies-not task.0.left row.0.flight idle its.flying row.2
   where
     flies-not : (left : Option ℕ) (flight : Option Flight) → left ≡ None → IsFlying left flight → IsSome flight → ⊥
@@ -365,7 +348,15 @@ none-off w tasks can halt off =
     flies-not None (Some f) none is some = is
     flies-not (Some n) flight none is some = let bad : ⊥ = cc none in bad
 
--- and no drain stands
+-- so no line of the script and no job has to wait for one
+slots-wait : (w : WorldSeen) → ((g : ℕ) → With (slice_get w.progress.guests g) (λ row. IsSome row.flight) → ⊥) → SlotsHalt w 16 → SlotsWait w 16
+slots-wait w none halt slot below = by_halt (halt slot below)
+  where
+    by_halt : SlotHalts w slot → SlotWaits (seen_state w) slot
+    by_halt (inl waits) = waits
+    by_halt (inr off) = absurd (none off.guest off.flies)
+
+-- and the command that the script gives next holds no disk
 none-drained : (w : WorldSeen) (script : ScriptTask) → IsScriptIn w.progress script → ScriptRests w script → AreDrainsOf w script → w.drains.command ≡ []
 none-drained w script is rests drains = by_command drains.command
   where
@@ -389,33 +380,47 @@ none-held w g jobs command = by_disk (disk_of_guest w.table g)
     by_disk None = refl
     by_disk (Some node) = rw (jobs, command) refl
 
--- no slot has a job, and each job is in one
-none-in : (w : WorldSeen) → StandsInRun w → SlotsHalt w 16 → w.table.jobs ≡ []
-none-in w stands halt = by_jobs w.table.jobs refl
-  where
-    by_jobs : (jobs : List JobRecord) → w.table.jobs ≡ jobs → w.table.jobs ≡ []
-    by_jobs [] is = is
-    by_jobs (row ∷ jobs) is =
-        let there : Contains w.table.jobs row = subst (λ (rows : List JobRecord). Contains rows row) (sym is) (0, omega arith, refl) in
-        let slot = (stands.comes.jobs.stand.each row there).slot in
-        let none : find (λ job. job.slot == row.slot) (row ∷ jobs) ≡ None = ap (find (λ job. job.slot == row.slot)) (sym is) ∙ halt row.slot slot in
-        let found : find (λ job. job.slot == row.slot) (row ∷ jobs) ≡ Some row = rw (eq-eqb row.slot row.slot refl) refl in
-        let bad : ⊥ = cc (sym none ∙ found) in absurd bad
+-- a whole round: where nothing is done, no disk is held that was not before
+pub round-goes : (w v u x : WorldSeen) (a b c : Tasks) (first asked copied : Bool) → Continues w v a b → Goes w v a b 0 0 first
+    → Continues v u b c → c.script ≡ b.script → AreGuestTurns v u b c (length c.guests) asked → Continues u x c c → AreSlotTurns u x c 16 copied
+    → Goes w x a c (length c.guests) 16 ((first || asked) || copied)
+round-goes w v u x a b c true asked copied so goes then script turns last slots =
+    less-then w u x a c c (less-then w v u a b c goes then.more) last.more
+round-goes w v u x a b c false true copied so goes then script turns last slots =
+    less-then w u x a c c (then-less w v u a b c so.more turns) last.more
+round-goes w v u x a b c false false true so goes then script turns last slots =
+    then-less w u x a c c (more-then w v u a b c so.more then.more) slots
+round-goes w v u x a b c false false false so goes then script turns last slots =
+    let guests : u.progress.guests ≡ x.progress.guests = sym (ap (λ (y : WorldSeen). y.progress.guests) slots.0) in
+    let none = none-flies u c then.can turns.1 in
+    let waits = slots-wait x (λ g flies. none g (rw guests flies)) slots.1 in
+    let same : x ≡ u = slots.2 waits in (
+      rw (same ∙ turns.0, script) goes.0,
+      subst (λ (y : WorldSeen). GuestsHalt y (length c.guests) c.guests) (sym same) turns.1,
+      slots.1,
+    )
 
 pub round-rests : (x w : WorldSeen) (a b : Tasks) → CanGoOn w.progress b → StandsInRun w → AreDrainsOf w b.script → Goes x w a b (length b.guests) 16 false → AllRest w b
 round-rests x w a b can stands drains goes = by_script goes.0
   where
+    none : (g : ℕ) → With (slice_get w.progress.guests g) (λ row. IsSome row.flight) → ⊥
+    none = none-flies w b can goes.1
+
+    waits : SlotsWait w 16
+    waits = slots-wait w none goes.2
+
     by_halt : w.drains.command ≡ [] → (g : ℕ) (task : Task) → Halts w g task → Rests w g task
-    by_halt none g task (inl rests) = rests
-    by_halt none g task (inr held) = absurd (false≢true (sym (none-held w g drains.jobs none) ∙ held.held))
+    by_halt command g task (inl rests) = rests
+    by_halt command g task (inr held) =
+        absurd (false≢true (sym (none-held w g (none-hold w stands.comes.jobs.stand waits drains.jobs) command) ∙ held.held))
 
     by_script : ScriptHalts w b.script → AllRest w b
     by_script (inl rests) = record {
       script = rests;
       guests = λ g task below is. by_halt (none-drained w b.script can.script rests drains) g task (goes.1 g task below is);
-      jobs = none-in w stands goes.2;
+      slots = waits;
     }
-    by_script (inr off) = absurd (none-off w b can goes.1 off)
+    by_script (inr off) = absurd (none off.guest off.flies)
 
 -- ---- a round ends in which less is left
 
@@ -457,7 +462,7 @@ turn-length w v old new g moved turn = ap length turn.after_is ∙ length-set ol
 -- ---- the same run
 
 pub stays_same : (w : WorldSeen) → StaysIn w w
-stays_same w = record { told = refl; first = refl; earlier = refl; room = refl; comes = λ o was. was }
+stays_same w = record { told = refl; first = refl; earlier = refl; room = refl; comes = λ o was. was; drains = λ kept. kept }
 
 pub stays_then : (w v u : WorldSeen) → StaysIn w v → StaysIn v u → StaysIn w u
 stays_then w v u a b = record {
@@ -466,4 +471,5 @@ stays_then w v u a b = record {
   earlier = b.earlier ∙ a.earlier;
   room = b.room ∙ a.room;
   comes = λ o was. b.comes o (a.comes o was);
+  drains = λ kept. b.drains (a.drains kept);
 }

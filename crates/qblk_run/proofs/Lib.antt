@@ -8,6 +8,7 @@ pub mod Sums
 pub mod Moves
 pub mod Orders
 pub mod Scripts
+pub mod Resting
 pub mod Continuing
 pub mod GuestTurns
 pub mod Answered
@@ -30,6 +31,7 @@ pub mod EndsLeave
 pub mod Ids
 pub mod SlotTurns
 pub mod Blocks
+pub mod JobCalls
 pub mod Bounds
 pub mod Turning
 pub mod Named

@@ -59,11 +59,15 @@ abbrev pub GuestsRest : WorldSeen → ℕ → List Task → Type 0
 GuestsRest w n tasks =
     (g : ℕ) (task : Task) → g < n → slice_get tasks g ≡ Some task → Rests w g task
 
--- and so is the script, and no job is there but those that are ready and wait
+-- each of the first n slots has no job, or one that is ready and waits
+abbrev pub SlotsWait : WorldSeen → ℕ → Type 0
+SlotsWait w n = (slot : ℕ) → slot < n → SlotWaits (seen_state w) slot
+
+-- so is the script done or waits, and no job is there but those that are ready and wait
 pub record AllRest (w : WorldSeen) (tasks : Tasks) : Type 0 where
   pub script : ScriptRests w tasks.script
   pub guests : GuestsRest w (length tasks.guests) tasks.guests
-  pub slots : (slot : ℕ) → slot < 16 → SlotWaits (seen_state w) slot
+  pub slots : SlotsWait w 16
 
 -- each of the first n guests makes no entry
 abbrev pub GuestsHalt : WorldSeen → ℕ → List Task → Type 0
@@ -86,10 +90,11 @@ abbrev pub AreGuestTurns : WorldSeen → WorldSeen → Tasks → Tasks → ℕ �
 AreGuestTurns w v before after n true = LeavesLess w v before after
 AreGuestTurns w v before after n false = (v ≡ w) × GuestsHalt v n after.guests
 
--- so it is with the first n slots, of which some may hold disks
+-- so it is with the first n slots, of which some may hold disks; where each of them waits, none does that did not
 abbrev pub AreSlotTurns : WorldSeen → WorldSeen → Tasks → ℕ → Bool → Type 0
 AreSlotTurns w v tasks n true = LeavesLess w v tasks tasks
-AreSlotTurns w v tasks n false = (v ≡ record w { drains = v.drains }) × SlotsHalt v n
+AreSlotTurns w v tasks n false =
+    (v ≡ record w { drains = v.drains }) × SlotsHalt v n × (SlotsWait v n → v ≡ w)
 
 -- a guest of a list had its turn
 pub record HasTurn (w v : WorldSeen) (before after : List Task) (g : ℕ)

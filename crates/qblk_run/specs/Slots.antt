@@ -143,7 +143,11 @@ HasSettled w v t bytes result =
 
 -- a block is copied, or its copy fails: less is left
 pub record SlotCopies (w v : WorldSeen) : Type 0 where
-  pub kept : v ≡ record w { nodes = v.nodes; works = v.works; drains = v.drains }
+  pub kept : v ≡ record w {
+    nodes = v.nodes;
+    works = v.works;
+    drains = record w.drains { jobs = v.drains.jobs };
+  }
   pub less : parts_left v.works < parts_left w.works
   pub flights : NoneFlies v.works
 
@@ -160,7 +164,7 @@ SlotHalts w slot = SlotWaits (seen_state w) slot ⊎ IsPutOffIn w slot
 
 -- it holds a disk at most
 pub record SlotRests (w v : WorldSeen) (slot : ℕ) : Type 0 where
-  pub kept : v ≡ record w { drains = v.drains }
+  pub kept : v ≡ record w { drains = record w.drains { jobs = v.drains.jobs } }
   pub halts : SlotHalts v slot
   pub waits : SlotWaits (seen_state v) slot → v ≡ w
 

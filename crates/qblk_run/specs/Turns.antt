@@ -23,14 +23,14 @@ use Rattle.qblk_run.specs.Tasks.{Task, ScriptTask, IsTaskOf, entries_of_script, 
 use Rattle.qblk_run.specs.Worlds.{IsPutOffBy}
 
 -- the world of the same run: its store tells as much, and began with the same count and openings, it comes of what it came of, and its
--- jobs hold disks as they are to
+-- jobs hold disks as they are to where they did
 pub record StaysIn (w v : WorldSeen) : Type 0 where
   pub told : is_some v.files ≡ is_some w.files
   pub first : v.first_faults ≡ w.first_faults
   pub earlier : v.earlier ≡ w.earlier
   pub room : v.room ≡ w.room
   pub comes : (o : Opening) → Comes o w → Comes o v
-  pub drains : AreDrainsKept v.table v.drains
+  pub drains : AreDrainsKept w.table w.drains → AreDrainsKept v.table v.drains
 
 -- beside entries: drains stay, no job begins, and no copy is in flight where none was
 pub record KeepsBeside (w v : WorldSeen) : Type 0 where

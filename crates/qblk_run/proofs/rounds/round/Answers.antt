@@ -15,7 +15,7 @@ returns-clause-round g c =
     let b = c.next_script.new.actors in
     let d = c.guests-asked.new.actors in
     subst (λ (moved : Bool). Goes w x a d (length d.guests) 16 moved) (sym c.one_of.ensures)
-    (round-goes w v u x a b d (length d.guests) c.in-Ok.moved c.guests-asked.result c.slots-copied.result c.in-Ok.ensures.goes c.in-Ok.ensures.turn
+    (round-goes w v u x a b d c.in-Ok.moved c.guests-asked.result c.slots-copied.result c.in-Ok.ensures.goes c.in-Ok.ensures.turn
     c.guests-asked.ensures.goes c.guests-asked.ensures.script c.guests-asked.ensures.turns c.slots-copied.ensures.goes c.slots-copied.ensures.turns)
 
 pub returns-clause-comes : goal.returns-clause-comes

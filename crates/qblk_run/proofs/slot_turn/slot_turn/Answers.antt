@@ -1,12 +1,35 @@
-use Rattle.qblk_run.proofs.Blocks.{none-waits}
-use Rattle.qblk_run.proofs.Worlds.{come-ended}
+use Rattle.job_turns.specs.declared.step.Step.TheVariants as step
+use Rattle.qblk_run.proofs.Blocks.{idle-rests, none-rests, put-off-rests, stays-copies, stays-stands, step-stays}
+use Rattle.qblk_run.proofs.Continuing.{stays_then}
+use Rattle.qblk_run.proofs.JobCalls.{became-comes, became-turn, put-off-comes, stays-comes}
 use Rattle.qblk_run.proofs.slot_turn.slot_turn.Goals as goal
 
-pub returns-in-Became-clause-comes : goal.returns-in-Became-clause-comes
-returns-in-Became-clause-comes g c = λ orders o d first has.
-    let ends = c.in-Became.ensures.turned in
-    come-ended o d first (g.W.Events.face c.args.world.now) (g.W.Events.face c.job_turn.new.self) orders has (c.job_turn.ensures.comes o) ends.row ends.why ends.offset ends.ends ends.fits
+pub returns-in-Became-clause-turn : goal.returns-in-Became-clause-turn
+returns-in-Became-clause-turn g c = became-turn (g.W.Events.face c.args.world.now) (g.W.Events.face c.job_turn.new.self) c.args.slot c.in-Became.ensures.turned
 
-pub returns-in-Idle-clause-turn : goal.returns-in-Idle-clause-turn
-returns-in-Idle-clause-turn g c =
-    absurd (none-waits (g.W.Events.face c.args.world.now) c.args.slot c.requires.stands c.in-Idle.ensures.turned.0)
+pub returns-in-Became-clause-comes : goal.returns-in-Became-clause-comes
+returns-in-Became-clause-comes g c =
+    became-comes (g.W.Events.face c.args.world.now) (g.W.Events.face c.job_turn.new.self) c.args.slot c.job_turn.ensures.comes c.in-Became.ensures.turned
+
+pub copy_block-requires-clause-stands : goal.copy_block-requires-clause-stands
+copy_block-requires-clause-stands g c =
+    stays-stands (g.W.Events.face c.args.world.now) (g.W.Events.face c.job_turn.new.self) c.args.slot step.Copy c.in-Copy.ensures.turned c.job_turn.ensures.comes c.requires.stands
+
+pub copy_block-requires-clause-copies : goal.copy_block-requires-clause-copies
+copy_block-requires-clause-copies g c =
+    step-stays (g.W.Events.face c.args.world.now) (g.W.Events.face c.job_turn.new.self) c.args.slot step.Copy c.in-Copy.ensures.turned
+
+pub returns-in-Copy-clause-turn : goal.returns-in-Copy-clause-turn
+returns-in-Copy-clause-turn g c =
+    inr (inr (stays-copies (g.W.Events.face c.args.world.now) (g.W.Events.face c.job_turn.new.self) (g.W.Events.face c.copy_block.new.world) c.args.slot step.Copy
+    c.in-Copy.ensures.turned c.copy_block.ensures.copied))
+
+pub returns-in-Copy-clause-stays : goal.returns-in-Copy-clause-stays
+returns-in-Copy-clause-stays g c =
+    stays_then (g.W.Events.face c.args.world.now) (g.W.Events.face c.job_turn.new.self) (g.W.Events.face c.copy_block.new.world) c.job_turn.ensures.stays c.copy_block.ensures.stays
+
+pub returns-in-Copy-clause-comes : goal.returns-in-Copy-clause-comes
+returns-in-Copy-clause-comes g c = λ orders o d first has.
+    c.copy_block.ensures.comes orders o d first
+    (stays-comes (g.W.Events.face c.args.world.now) (g.W.Events.face c.job_turn.new.self) c.args.slot c.job_turn.ensures.comes c.requires.stands step.Copy
+    c.in-Copy.ensures.turned orders o d first has)
