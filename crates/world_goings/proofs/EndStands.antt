@@ -207,6 +207,7 @@ module _ (t : RunTable) (works : List JobWork) (aside : ℕ) (jobs : AreJobsKept
 
     -- a node with a disk keeps it
     disk_kept : (u : RunTable) (to : ℕ) → IsEndedTable t u filter row.source to → With (node_by_id u row.source) HasDisk
+    unfolding source
     disk_kept u to p =
         with_at HasDisk (node_by_id u row.source) (p.f source.row) (p.found row.source apart ∙ ap (option_map p.f) source.there)
         (by_row (source_disk t works aside jobs stands row here))

@@ -124,6 +124,15 @@ module _ (o : Opening) (w v : WorldSeen) (row : JobRecord) (whole : IsWholeWorld
     table_next : next.table ≡ left.table
     table_next = stepped_table (ready_edits row) s ∙ ap (λ (x : RunTable). all_changed x (ready_edits row)) same
 
+    -- files are over the nodes that they were over
+    contents_then : Agrees (bytes_named o.files) s (contents_of left)
+    unfolding changed
+    contents_then = shows.contents
+
+    images_then : ShowsImages s (contents_of left)
+    unfolding changed
+    images_then = shows.images
+
     shown : ShowsState o next left
     shown = record {
       stands = subst StandsAtRest is_next (readied_rests s row.number shows.stands);
@@ -141,18 +150,9 @@ module _ (o : Opening) (w v : WorldSeen) (row : JobRecord) (whole : IsWholeWorld
         guests_are = shows.guests.guests_are;
         ended_are = shows.guests.ended_are ∙ sym (filter_map-append actor_done h (e ∷ []) ∙ append-nil (ended_in h));
       };
-      contents = subst (λ (x : State). Agrees (bytes_named o.files) x (contents_of left)) is_next (readied_agrees (bytes_named o.files) s row.number (contents_of left) contents);
-      images = subst (λ (x : State). ShowsImages x (contents_of left)) is_next (readied_images s row.number (contents_of left) images);
+      contents = subst (λ (x : State). Agrees (bytes_named o.files) x (contents_of left)) is_next (readied_agrees (bytes_named o.files) s row.number (contents_of left) contents_then);
+      images = subst (λ (x : State). ShowsImages x (contents_of left)) is_next (readied_images s row.number (contents_of left) images_then);
     }
-      where
-        -- files are over the nodes that they were over
-        contents : Agrees (bytes_named o.files) s (contents_of left)
-        unfolding changed
-        contents = shows.contents
-
-        images : ShowsImages s (contents_of left)
-        unfolding changed
-        images = shows.images
 
     ahead : AreJobsAhead (start o) (h ++ e ∷ []) next (disk_of w.nodes) w.works
     ahead =
