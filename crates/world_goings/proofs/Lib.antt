@@ -39,3 +39,4 @@ pub mod StartSteps
 pub mod StartShown
 pub mod Starts
 pub mod CanCopy
+pub mod ReadyKept
