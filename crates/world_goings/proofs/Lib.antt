@@ -41,3 +41,4 @@ pub mod StartSteps
 pub mod StartShown
 pub mod Starts
 pub mod CanCopy
+pub mod ReadyKept
