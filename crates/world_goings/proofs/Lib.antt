@@ -41,4 +41,3 @@ pub mod StartSteps
 pub mod StartShown
 pub mod Starts
 pub mod CanCopy
-pub mod ReadyKept

@@ -1,5 +1,5 @@
 -- The parts of a world behind the entry that a job is ready: its row says so, and one entry less is owed for it.
-use Rattle.std.proofs.Common.{◌≡◌, ◌≢◌, ℕ, ◌+◌, ◌-◌, ◌==◌, Bool, true, false, cond, List, [], ◌∷◌, map, refl, sym, ◌∙◌, ap, subst, arith, inl, inr}
+use Rattle.std.proofs.Common.{◌≡◌, ◌≢◌, ℕ, ◌+◌, ◌-◌, ◌==◌, Bool, true, false, cond, List, [], ◌∷◌, map, Option, refl, sym, ◌∙◌, ap, subst, arith, inl, inr}
 use Rattle.std.specs.Prelude.{AllPairs, Contains}
 use Rattle.std.proofs.lemmas.Bool.{eq-eqb, ne_eqb}
 use Rattle.blk_base.specs.declared.file.Opened.{Opened}
@@ -13,16 +13,21 @@ use Rattle.qmp_rules.specs.Table.{RunTable}
 use Rattle.qmp_rules.specs.declared.change.Change.TheVariants.{ReadyJob}
 use Rattle.qmp_rules.specs.declared.rows.JobRecord.{JobRecord}
 use Rattle.flat_machine.specs.Bitmaps.{AreBitmapsOf}
+use Rattle.flat_machine.specs.Jobs.{readied, readied_by}
 use Rattle.flat_machine.specs.Wiring.{InlineAreUnder, TableAtRest}
+use Rattle.flat_machine.proofs.Resting.{stepped_table}
 use Rattle.flat_machine.proofs.TableRests.{all_keep}
 use Rattle.job_commands.proofs.Uses.{changes_use}
+use Rattle.job_ends.proofs.Others.{at_number}
 use Rattle.job_ends.proofs.Rows.{leaving_rows}
 use Rattle.job_progress.proofs.Belong.{changes_belong}
+use Rattle.job_tables.specs.Copiers.{CopiesGo}
 use Rattle.job_tables.proofs.Asked.{ready_jobs}
-use Rattle.job_tables.proofs.Copiers.{ready_copies}
+use Rattle.job_tables.proofs.Copiers.{readied_copies}
 use Rattle.job_tables.proofs.Runs.{ready_run}
 use Rattle.world_parts.specs.Coherent.{AreJobsKept, IsCoherent, IsLoneCopy, entries_owed, entries_owed_by}
 use Rattle.world_parts.specs.Progress.{Progress}
+use Rattle.world_parts.specs.Tabling.{tabled}
 use Rattle.world_parts.proofs.Coherence.{coherent-same}
 use Rattle.world_parts.proofs.SameWiring.{KeepsWiring, coherent-shape}
 
@@ -110,7 +115,7 @@ pub ready_kept : (t : RunTable) (works : List JobWork) (aside : ℕ) (row : JobR
 ready_kept t works aside row was here yet = record {
   stand = ready_jobs t row.number was.stand;
   run = ready_run t row.number was.run;
-  copies = ready_copies t row.number was.copies;
+  copies = subst CopiesGo behind (readied_copies (tabled t []) row.number was.copies);
   rows = leaving_rows (ReadyJob row.number ∷ []) t (tt, tt) was.rows;
   once =
       subst (AllPairs Differ) (sym (jobs_then t row.number))
@@ -127,3 +132,6 @@ ready_kept t works aside row was here yet = record {
       let of = Contains-map (ready_for row.number) t.jobs later (subst (λ rows. Contains rows later) (jobs_then t row.number) there) in
       subst IsLoneCopy (sym of.2) (ready_lone row.number of.0 (was.lone of.0 of.1));
 }
+  where
+    behind : (readied row.number (tabled t [])).table ≡ changed t (ReadyJob row.number)
+    behind = ap (λ (found : Option JobRecord). (readied_by (tabled t []) found).table) (at_number t was.stand row here) ∙ stepped_table (ReadyJob row.number ∷ []) (tabled t [])
