@@ -13,7 +13,7 @@ use Rattle.blk_graph.proofs.PathLemmas.{Reaches-covered, Reaches-edge}
 use Rattle.blk_history.specs.Fold.{With}
 use Rattle.block_jobs.specs.Work.{JobWork}
 use Rattle.qmp_codec.specs.declared.event.JobKind.TheVariants.{Mirror}
-use Rattle.qmp_rules.specs.Changes.{all_changed, changed, node_changed, settled}
+use Rattle.qmp_rules.specs.Changes.{all_changed, changed}
 use Rattle.qmp_rules.specs.Chains.{disk_node, filter_role}
 use Rattle.qmp_rules.specs.Ends.{drops_aside, end_edits, settle_if, settles_target}
 use Rattle.qmp_rules.specs.Queries.{bytes_of_node}
@@ -28,7 +28,6 @@ use Rattle.flat_machine.specs.Agreement.{HasDisk}
 use Rattle.flat_machine.specs.Suiting.{AllTableSuit, HaveOneSize, IsPlainNode, SuitsMove, SuitsPull, without_way}
 use Rattle.flat_machine.specs.Wiring.{TableStands}
 use Rattle.flat_machine.proofs.FilterPull.{pull_table}
-use Rattle.flat_machine.proofs.Lent.{changed_at}
 use Rattle.flat_machine.proofs.MovedTables.{moved_table as move_stands}
 use Rattle.flat_machine.proofs.TableRests.{all_keep}
 use Rattle.flat_machine.proofs.Wired.{with_at}
@@ -43,7 +42,7 @@ use Rattle.world_parts.proofs.InStep.{with-at}
 use Rattle.world_goings.proofs.EndDisks.{DisksAreLed, disks_moved, disks_pulled, disks_settled, filter_reads as reads_source}
 use Rattle.world_goings.proofs.EndEdits.{edits_are, left_as, over_to, pivot_done, pivot_mirror, pivots, settles_at_end}
 use Rattle.world_goings.proofs.EndGuests.{IsOpen, LeadsOnto}
-use Rattle.world_goings.proofs.EndTables.{IsEndedTable, IsOverNode, IsSettledTable, moved_table, plain_apart, pulled_table, settled_found, settled_table, settled_then}
+use Rattle.world_goings.proofs.EndTables.{IsEndedTable, IsOverNode, IsSettledTable, moved_table, plain_apart, pulled_table, settled_disk, settled_table, settled_then}
 use Rattle.world_goings.proofs.JobNodes.{HasCopy, copy_stands, goes, source_disk, source_plain, target_plain}
 
 -- What used the source is where it was, or on the target.
@@ -248,14 +247,6 @@ module _ (t : RunTable) (works : List JobWork) (aside : ℕ) (jobs : AreJobsKept
       pivot_settles : IsSettledTable (moved mirror) pivoted
       pivot_settles = settled_table (moved mirror) true (Some target) disk
 
-      target_disk : With (node_by_id pivoted target) HasDisk
-      target_disk =
-          let p = moved_onto mirror in
-          let id : p.row.id ≡ target = eqb-true p.row.id target (find-Some (λ (r : NodeRecord). r.id == target) (moved mirror).nodes p.row p.there).1 in
-          with_at HasDisk (node_by_id pivoted target) (node_changed target settled p.row)
-          (settled_found (moved mirror) pivoted pivot_settles target ∙ ap (option_map (node_changed target settled)) p.there)
-          (subst HasDisk (sym (changed_at target settled p.row id)) (record { settled = refl; own = p.own }))
-
       pivot_led : IsLedOn t pivoted filter row.source target true
       pivot_led = record {
         to = target;
@@ -265,7 +256,7 @@ module _ (t : RunTable) (works : List JobWork) (aside : ℕ) (jobs : AreJobsKept
         onto = record {
           apart = plain_apart t filter row.source over_source target onto_plain;
           size = size_at target sizes.other sizes.other_found ∙ sym sizes.same ∙ sym (size_at row.source sizes.row sizes.found);
-          disk = target_disk;
+          disk = settled_disk (moved mirror) target disk (moved_onto mirror);
           writable = λ is. with_at (λ (r : NodeRecord). r.read_only ≡ false) (node_by_id t target) onto_plain.row onto_plain.there (target_open onto_plain.row onto_plain.there);
         };
         stands = all_keep (settle_if true (Some target) disk) (moved mirror) (settle_suits (moved mirror) (moved_onto mirror) true disk) (moved_stands mirror);

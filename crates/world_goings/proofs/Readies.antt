@@ -172,7 +172,7 @@ module _ (o : Opening) (w v : WorldSeen) (row : JobRecord) (whole : IsWholeWorld
     fits : FitsOn o h s w left (e ∷ [])
     fits = record {
       legal = (
-        (shows.table.rest.started, with_at (λ (r : JobRecord). (can_be_ready r r.kind ≡ true) × (r.is_ready ≡ false)) (job_at s.table row.number) row at (did.can, did.yet)),
+        (shows.table.rest, with_at (λ (r : JobRecord). (can_be_ready r r.kind ≡ true) × (r.is_ready ≡ false)) (job_at s.table row.number) row at (did.can, did.yet)),
         tt,
       );
       marks = (All-nil (IsCalm s.table s.guests), tt);
