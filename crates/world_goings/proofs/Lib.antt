@@ -24,6 +24,7 @@ pub mod EndKept
 pub mod EndEntry
 pub mod EndWorld
 pub mod Ends
+pub mod CopyStarts
 pub mod StartTables
 pub mod StartNodes
 pub mod StartReads
