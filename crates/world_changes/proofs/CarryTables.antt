@@ -1,11 +1,8 @@
 -- Commands that change the table and bitmaps alone: what they leave, and that they are carried out so.
-use Rattle.std.proofs.Common.{◌≡◌, ℕ, Bool, true, false, List, [], ◌∷◌, map, length, inl, refl, sym, ◌∙◌, ap, subst, Option, Some, None}
+use Rattle.std.proofs.Common.{◌≡◌, ℕ, Bool, true, false, List, [], ◌∷◌, map, inl, refl, sym, ◌∙◌, ap, subst, Option, Some, None}
 use Rattle.flat_machine.specs.Marks.{AreCalm, IsCalm, drained_by}
 use Rattle.std.proofs.lemmas.List.Elements.{All-nil}
-use Rattle.blk_base.specs.declared.file.Opened.{Opened}
 use Rattle.blk_bitmaps.specs.declared.row.Bitmap.{Bitmap}
-use Rattle.blk_nodes.specs.Nodes.{Nodes, row_at}
-use Rattle.qmp_rules.specs.declared.rows.NodeRecord.{NodeRecord}
 use Rattle.flat_machine.specs.Wiring.{TableAtRest}
 use Rattle.flat_machine.proofs.TableRests.{command_rests}
 use Rattle.qmp_codec.specs.Commands.{Cmd, SeenSources}
@@ -14,7 +11,7 @@ use Rattle.qmp_rules.specs.declared.change.Change.{Change}
 use Rattle.qmp_rules.specs.declared.change.Change.TheVariants as change
 use Rattle.qmp_rules.specs.declared.refusal.Refusal.{Refusal}
 use Rattle.qmp_rules.specs.declared.told.Told.{Told}
-use Rattle.qmp_rules.specs.Table.{RunTable, job_named, node_by_id}
+use Rattle.qmp_rules.specs.Table.{RunTable, job_named}
 use Rattle.qmp_rules.specs.declared.rows.AskedEnd.{AskedEnd}
 use Rattle.qmp_rules.specs.declared.rows.JobRecord.{JobRecord}
 use Rattle.qmp_asks.specs.Values.{flag_or_false}
@@ -25,15 +22,13 @@ use Rattle.qmp_asks.specs.CommandAsks.{is_built}
 use Rattle.qmp_rules.specs.Changes.{changed, all_changed}
 use Rattle.qmp_rules.specs.Edits.{asked_by_cancel, edits_of, merges}
 use Rattle.qmp_rules.specs.Answers.{answer, answer_by, told_none, refusal_to, command_edits, left_by}
-use Rattle.flat_machine.specs.State.{State, filename_of}
+use Rattle.flat_machine.specs.State.{State}
 use Rattle.flat_machine.specs.Agreement.{Contents}
 use Rattle.flat_machine.specs.Bitmaps.{dirty_in}
 use Rattle.flat_machine.specs.Changed.{stepped}
 use Rattle.flat_machine.specs.Performing.{IsQuiet, AllPerformed}
 use Rattle.flat_machine.specs.Recording.{dirty_after}
-use Rattle.world_parts.specs.Progress.{Progress}
-use Rattle.world_parts.specs.Coherent.{IsCoherent, AreAlike, node_row}
-use Rattle.world_parts.specs.Guests.{GuestsStand}
+use Rattle.world_parts.specs.Coherent.{IsCoherent}
 use Rattle.world_parts.specs.Saying.{IsSaid}
 use Rattle.world_parts.specs.Carrying.{IsCarried, IsCarriedAs, IsPutBack, with_counts, counts_of, prints_counts}
 use Rattle.world_parts.specs.Face.{WorldSeen, contents_of, dirty_of}
@@ -46,52 +41,8 @@ use Rattle.world_parts.proofs.Counted.{changes-counted, refusal-counted}
 use Rattle.world_parts.proofs.CountLemmas.{same-devices, runs-devices}
 use Rattle.world_parts.proofs.Uncalled.{called_itself}
 use Rattle.world_parts.proofs.CountsKept.{hides-same}
-use Rattle.world_parts.proofs.GuestsKept.{guests_same, guests_stand}
+use Rattle.world_parts.proofs.SameWiring.{KeepsWiring, coherent-shape}
 use Rattle.world_parts.proofs.CarryPlain.{maps_nothing, opens_nothing, plain_opens, quiet-self, quiet_cause, quiet_fault, table_quiet, told_counts}
-
--- ---- a table of which nodes, edges, devices and guests stay
-
-pub record KeepsWiring (t u : RunTable) : Type 0 where
-  pub nodes : u.nodes ≡ t.nodes
-  pub edges : u.edges ≡ t.edges
-  pub devices : u.devices ≡ t.devices
-  pub guests : u.guests ≡ t.guests
-
-module _ (t u : RunTable) (shape : KeepsWiring t u) where
-  same-node : (id : ℕ) → node_by_id u id ≡ node_by_id t id
-  same-node id = rw shape.nodes refl
-
-  same-filename : (node : ℕ) → filename_of u node ≡ filename_of t node
-  same-filename node = rw shape.nodes refl
-
-  pub coherent-shape : (nodes : Nodes) (opened : List Opened) (p : Progress) → (TableAtRest t → TableAtRest u) → IsCoherent t nodes opened p → IsCoherent u nodes opened p
-  coherent-shape nodes opened p rests was = record {
-    table = rests was.table;
-    drives = stand.drives;
-    disks = stand.disks;
-    alike = record {
-      listed = was.alike.listed ∙ ap (map node_row) (sym shape.nodes);
-      edges = was.alike.edges ∙ sym shape.edges;
-      rows = λ id. subst (λ (row : Option NodeRecord). AreAlike row (row_at nodes id)) (sym (same-node id)) (was.alike.rows id);
-    };
-    asks = stand.asks;
-    writable = stand.writable;
-    within = stand.within;
-    allowed = stand.allowed;
-    count = was.count ∙ ap length (sym shape.guests);
-    out = record {
-      each = λ device held.
-          let is = was.out.each device held in
-          record { opening = is.opening; there = is.there; out = is.out; named = same-filename device.node ∙ is.named; capacity = is.capacity; faults = is.faults };
-      once = was.out.once;
-      order = was.out.order;
-      all = was.out.all;
-      names = was.out.names;
-    };
-  }
-    where
-      stand : GuestsStand u p.guests
-      stand = guests_same t u p.guests shape.nodes shape.edges shape.devices (guests_stand t nodes opened p was)
 
 -- ---- what commands that change the table and bitmaps alone leave
 

@@ -116,7 +116,7 @@ module _ (t : RunTable) (works : List JobWork) (aside : ℕ) (jobs : AreJobsKept
   now_is : now ≡ all_changed first (end_tail row t outcome)
   now_is = ap (all_changed t) (end_parts row t outcome)
 
-  now_jobs : now.jobs ≡ without_job row.number t.jobs
+  pub now_jobs : now.jobs ≡ without_job row.number t.jobs
   unfolding changed
   now_jobs = ap (λ (x : RunTable). x.jobs) now_is ∙ end_jobs (end_tail row t outcome) first of_end
 

@@ -13,7 +13,7 @@ use Rattle.blk_graph.proofs.PathLemmas.{Reaches-covered, Reaches-edge}
 use Rattle.blk_history.specs.Fold.{With}
 use Rattle.block_jobs.specs.Work.{JobWork}
 use Rattle.qmp_codec.specs.declared.event.JobKind.TheVariants.{Mirror}
-use Rattle.qmp_rules.specs.Changes.{all_changed, changed, node_changed, settled}
+use Rattle.qmp_rules.specs.Changes.{all_changed, changed}
 use Rattle.qmp_rules.specs.Chains.{disk_node, filter_role}
 use Rattle.qmp_rules.specs.Ends.{drops_aside, end_edits, settle_if, settles_target}
 use Rattle.qmp_rules.specs.Queries.{bytes_of_node}
@@ -28,7 +28,6 @@ use Rattle.flat_machine.specs.Agreement.{HasDisk}
 use Rattle.flat_machine.specs.Suiting.{AllTableSuit, HaveOneSize, IsPlainNode, SuitsMove, SuitsPull, without_way}
 use Rattle.flat_machine.specs.Wiring.{TableStands}
 use Rattle.flat_machine.proofs.FilterPull.{pull_table}
-use Rattle.flat_machine.proofs.Lent.{changed_at}
 use Rattle.flat_machine.proofs.MovedTables.{moved_table as move_stands}
 use Rattle.flat_machine.proofs.TableRests.{all_keep}
 use Rattle.flat_machine.proofs.Wired.{with_at}
@@ -43,7 +42,7 @@ use Rattle.world_parts.proofs.InStep.{with-at}
 use Rattle.world_goings.proofs.EndDisks.{DisksAreLed, disks_moved, disks_pulled, disks_settled, filter_reads as reads_source}
 use Rattle.world_goings.proofs.EndEdits.{edits_are, left_as, over_to, pivot_done, pivot_mirror, pivots, settles_at_end}
 use Rattle.world_goings.proofs.EndGuests.{IsOpen, LeadsOnto}
-use Rattle.world_goings.proofs.EndTables.{IsEndedTable, IsOverNode, IsSettledTable, moved_table, plain_apart, pulled_table, settled_found, settled_table, settled_then}
+use Rattle.world_goings.proofs.EndTables.{IsEndedTable, IsOverNode, IsSettledTable, moved_table, plain_apart, pulled_table, settled_disk, settled_table, settled_then}
 use Rattle.world_goings.proofs.JobNodes.{HasCopy, copy_stands, goes, source_disk, source_plain, target_plain}
 
 -- What used the source is where it was, or on the target.
@@ -207,6 +206,7 @@ module _ (t : RunTable) (works : List JobWork) (aside : ℕ) (jobs : AreJobsKept
 
     -- a node with a disk keeps it
     disk_kept : (u : RunTable) (to : ℕ) → IsEndedTable t u filter row.source to → With (node_by_id u row.source) HasDisk
+    unfolding source
     disk_kept u to p =
         with_at HasDisk (node_by_id u row.source) (p.f source.row) (p.found row.source apart ∙ ap (option_map p.f) source.there)
         (by_row (source_disk t works aside jobs stands row here))
@@ -220,57 +220,48 @@ module _ (t : RunTable) (works : List JobWork) (aside : ℕ) (jobs : AreJobsKept
     size_at : (n : ℕ) (r : NodeRecord) → node_by_id t n ≡ Some r → bytes_of_node t n ≡ r.size
     size_at n r found = ap (λ (x : Option NodeRecord). unwrap_or (option_map (λ (y : NodeRecord). y.size) x) 0) found
 
-    stay_led : (so : Bool) (disk : NewDisk) → IsLedOn t (all_changed pulled (settle_if so (Some target) disk)) filter row.source target false
-    stay_led so disk = record {
-      to = row.source;
-      ended = now;
-      disks = disks_settled t pulled u filter row.source row.source settles disks;
-      onto = record { apart = apart; size = refl; disk = disk_kept u row.source now; writable = λ is. is };
-      stands = all_keep (settle_if so (Some target) disk) pulled (settle_suits pulled (keeps.plain target onto_plain) so disk) pulled_stands;
-      place = inl refl;
-    }
-      where
-        abbrev u : RunTable
-        u = all_changed pulled (settle_if so (Some target) disk)
+    module _ (so : Bool) (disk : NewDisk) where
+      abbrev stayed : RunTable
+      stayed = all_changed pulled (settle_if so (Some target) disk)
 
-        settles : IsSettledTable pulled u
-        settles = settled_table pulled so (Some target) disk
+      stay_settles : IsSettledTable pulled stayed
+      stay_settles = settled_table pulled so (Some target) disk
 
-        now : IsEndedTable t u filter row.source row.source
-        now = settled_then t pulled u filter row.source row.source ended settles
+      stay_ended : IsEndedTable t stayed filter row.source row.source
+      stay_ended = settled_then t pulled stayed filter row.source row.source ended stay_settles
 
-    pivot_led : row.kind ≡ Mirror → (disk : NewDisk)
-        → IsLedOn t (all_changed pulled (Move row.source target filter ∷ settle_if true (Some target) disk)) filter row.source target true
-    pivot_led mirror disk = record {
-      to = target;
-      ended = settled_then t (moved mirror) u filter row.source target over_there settles;
-      disks = disks_settled t (moved mirror) u filter row.source target settles (disks_moved t pulled filter row.source target (move_suits mirror) pulled_stands disks);
-      onto = record {
-        apart = plain_apart t filter row.source over_source target onto_plain;
-        size = size_at target sizes.other sizes.other_found ∙ sym sizes.same ∙ sym (size_at row.source sizes.row sizes.found);
-        disk = target_disk;
-        writable = λ is. with_at (λ (r : NodeRecord). r.read_only ≡ false) (node_by_id t target) onto_plain.row onto_plain.there (target_open onto_plain.row onto_plain.there);
-      };
-      stands = all_keep (settle_if true (Some target) disk) (moved mirror) (settle_suits (moved mirror) (moved_onto mirror) true disk) (moved_stands mirror);
-      place = inr (refl, refl);
-    }
-      where
-        abbrev u : RunTable
-        u = all_changed (moved mirror) (settle_if true (Some target) disk)
+      stay_led : IsLedOn t stayed filter row.source target false
+      stay_led = record {
+        to = row.source;
+        ended = stay_ended;
+        disks = disks_settled t pulled stayed filter row.source row.source stay_settles disks;
+        onto = record { apart = apart; size = refl; disk = disk_kept stayed row.source stay_ended; writable = λ is. is };
+        stands = all_keep (settle_if so (Some target) disk) pulled (settle_suits pulled (keeps.plain target onto_plain) so disk) pulled_stands;
+        place = inl refl;
+      }
 
-        settles : IsSettledTable (moved mirror) u
-        settles = settled_table (moved mirror) true (Some target) disk
+    module _ (mirror : row.kind ≡ Mirror) (disk : NewDisk) where
+      abbrev pivoted : RunTable
+      pivoted = all_changed (moved mirror) (settle_if true (Some target) disk)
 
-        over_there : IsEndedTable t (moved mirror) filter row.source target
-        over_there = moved_table t pulled filter row.source target ended
+      pivot_settles : IsSettledTable (moved mirror) pivoted
+      pivot_settles = settled_table (moved mirror) true (Some target) disk
 
-        target_disk : With (node_by_id u target) HasDisk
-        target_disk =
-            let p = moved_onto mirror in
-            let id : p.row.id ≡ target = eqb-true p.row.id target (find-Some (λ (r : NodeRecord). r.id == target) (moved mirror).nodes p.row p.there).1 in
-            with_at HasDisk (node_by_id u target) (node_changed target settled p.row)
-            (settled_found (moved mirror) u settles target ∙ ap (option_map (node_changed target settled)) p.there)
-            (subst HasDisk (sym (changed_at target settled p.row id)) (record { settled = refl; own = p.own }))
+      pivot_led : IsLedOn t pivoted filter row.source target true
+      pivot_led = record {
+        to = target;
+        ended = settled_then t (moved mirror) pivoted filter row.source target (moved_table t pulled filter row.source target ended) pivot_settles;
+        disks = disks_settled t (moved mirror) pivoted filter row.source target pivot_settles
+            (disks_moved t pulled filter row.source target (move_suits mirror) pulled_stands disks);
+        onto = record {
+          apart = plain_apart t filter row.source over_source target onto_plain;
+          size = size_at target sizes.other sizes.other_found ∙ sym sizes.same ∙ sym (size_at row.source sizes.row sizes.found);
+          disk = settled_disk (moved mirror) target disk (moved_onto mirror);
+          writable = λ is. with_at (λ (r : NodeRecord). r.read_only ≡ false) (node_by_id t target) onto_plain.row onto_plain.there (target_open onto_plain.row onto_plain.there);
+        };
+        stands = all_keep (settle_if true (Some target) disk) (moved mirror) (settle_suits (moved mirror) (moved_onto mirror) true disk) (moved_stands mirror);
+        place = inr (refl, refl);
+      }
 
   -- ---- all of it
 

@@ -2,7 +2,7 @@
 -- node, and its target may have a flat disk.
 use Rattle.std.proofs.Common.{◌≡◌, ◌≢◌, ◌⊎◌, ℕ, ◌==◌, Bool, true, false, cond, not, List, [], ◌∷◌, map, Option, Some, None, refl, sym, ◌∙◌, ap, subst, inl, inr}
 use Rattle.std.specs.Prelude.{◌&&◌, Contains, find, option_map}
-use Rattle.std.proofs.lemmas.Bool.{cases_eq, eq-eqb, ne_eqb}
+use Rattle.std.proofs.lemmas.Bool.{cases_eq, eq-eqb, eqb-true, ne_eqb}
 use Rattle.blk_graph.specs.declared.edge.Edge.{Edge}
 use Rattle.blk_graph.specs.declared.edge.Parent.{Parent}
 use Rattle.blk_graph.specs.declared.edge.Parent.TheVariants.{Guest, Job, Node}
@@ -14,8 +14,9 @@ use Rattle.blk_graph.proofs.ChildLemmas.{child-without}
 use Rattle.blk_graph.proofs.DraftLemmas.{children_replaced, children_without}
 use Rattle.blk_graph.proofs.EditLemmas.{Contains-with_moved, moved-parent, replaced-parent}
 use Rattle.blk_graph.proofs.InverseLemmas.{same_parent-false}
-use Rattle.blk_graph.proofs.Members.{Contains-filter, Contains-map}
+use Rattle.blk_graph.proofs.Members.{Contains-filter, Contains-map, find-Some}
 use Rattle.blk_graph.proofs.RefreshLemmas.{child_of-refreshed}
+use Rattle.blk_history.specs.Fold.{With}
 use Rattle.qmp_rules.specs.Chains.{filter_role}
 use Rattle.qmp_rules.specs.Changes.{all_changed, changed, node_changed, settled, without_record}
 use Rattle.qmp_rules.specs.Table.{RunTable, child, kinds_of, node_by_id}
@@ -23,8 +24,11 @@ use Rattle.qmp_rules.specs.Ends.{settle_if}
 use Rattle.qmp_rules.specs.declared.change.Change.TheVariants.{EndJob, Move, PullFilter}
 use Rattle.qmp_rules.specs.declared.change.NewDisk.{NewDisk}
 use Rattle.qmp_rules.specs.declared.rows.NodeRecord.{NodeRecord}
+use Rattle.flat_machine.specs.Agreement.{HasDisk}
 use Rattle.flat_machine.specs.Suiting.{IsPlainNode}
+use Rattle.flat_machine.proofs.Lent.{changed_at}
 use Rattle.flat_machine.proofs.Rows.{found_mapped}
+use Rattle.flat_machine.proofs.Wired.{with_at}
 use Rattle.job_tables.proofs.NodeKinds.{still_found}
 use Rattle.world_parts.proofs.GuestEdges.{guest_edge}
 
@@ -144,6 +148,20 @@ settled_table t true (Some target) disk = record {
 }
 settled_table t true None disk = settled_none t
 settled_table t false target disk = settled_none t
+
+-- the target has a flat disk then
+pub settled_disk : (t : RunTable) (target : ℕ) (disk : NewDisk) → IsPlainNode t target → With (node_by_id (all_changed t (settle_if true (Some target) disk)) target) HasDisk
+unfolding changed
+settled_disk t target disk p =
+    let id : p.row.id ≡ target = eqb-true p.row.id target (find-Some (λ (r : NodeRecord). r.id == target) t.nodes p.row p.there).1 in
+    with_at HasDisk (node_by_id (all_changed t (settle_if true (Some target) disk)) target) (node_changed target settled p.row)
+    (found_mapped t (all_changed t (settle_if true (Some target) disk)) (node_changed target settled) (λ row. id_same row (row.id == target)) refl target
+    ∙ ap (option_map (node_changed target settled)) p.there)
+    (subst HasDisk (sym (changed_at target settled p.row id)) (record { settled = refl; own = p.own }))
+  where
+    id_same : (row : NodeRecord) (b : Bool) → (cond b (settled row) row).id ≡ row.id
+    id_same row true = refl
+    id_same row false = refl
 
 pub settled_found : (t u : RunTable) (s : IsSettledTable t u) (n : ℕ) → node_by_id u n ≡ option_map s.f (node_by_id t n)
 settled_found t u s n = found_mapped t u s.f (row_of s.f s.only (λ (r : NodeRecord). r.id) (λ r. refl)) s.rows n

@@ -1,5 +1,5 @@
 -- The world behind the end of a backup or mirror, whatever the store tells: its parts belong together, and each file holds what it held.
-use Rattle.std.proofs.Common.{◌≡◌, ◌≢◌, ℕ, List, length, refl, sym, ◌∙◌, ap, subst, Option, Some, None, inl, inr, option_and_then, option_map}
+use Rattle.std.proofs.Common.{◌≡◌, ◌≢◌, ℕ, true, List, length, refl, sym, ◌∙◌, ap, subst, Option, Some, None, inl, inr, option_and_then, option_map}
 use Rattle.std.specs.Prelude.{Contains}
 use Rattle.blk_history.specs.declared.entry.JobEnd.{JobEnd}
 use Rattle.blk_history.specs.declared.event.Event.TheVariants.{End}

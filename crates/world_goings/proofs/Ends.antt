@@ -1,4 +1,4 @@
--- A world still comes of its opening where a backup ends.
+-- A world still comes of its opening where a backup or mirror ends.
 use Rattle.std.proofs.Common.{◌≡◌, ℕ, true, List, [], ◌∷◌, ◌++◌, refl, sym, ◌∙◌, ap, subst, arith, Some, option_and_then}
 use Rattle.std.specs.Prelude.{Contains, is_some}
 use Rattle.std.proofs.lemmas.List.{append-nil}
@@ -11,14 +11,14 @@ use Rattle.blk_nodes.specs.Contents.{Unfolds, disk_of}
 use Rattle.blk_nodes.specs.Joined.{IsJoined}
 use Rattle.blk_nodes.specs.Nodes.{AreTold, DeviceSeen}
 use Rattle.qmp_rules.specs.Changes.{all_changed}
-use Rattle.qmp_rules.specs.Ends.{drops_aside, end_edits}
+use Rattle.qmp_rules.specs.Ends.{end_edits}
 use Rattle.qmp_rules.specs.Table.{RunTable, job_at}
-use Rattle.qmp_rules.specs.declared.change.NewDisk.TheVariants.{OfStart}
 use Rattle.qmp_rules.specs.declared.rows.JobRecord.{JobRecord}
 use Rattle.flat_machine.specs.Final.{bytes_named}
 use Rattle.flat_machine.specs.Jobs.{changes_at_end, noted_end, outcome_of}
 use Rattle.flat_machine.specs.Licence.{Counts}
 use Rattle.flat_machine.specs.Machine.{after, replay}
+use Rattle.flat_machine.specs.Marks.{AreCalm, end_marks}
 use Rattle.flat_machine.specs.Opening.{start}
 use Rattle.flat_machine.specs.Performing.{AllPerformed}
 use Rattle.flat_machine.specs.Recording.{dirty_after}
@@ -32,7 +32,7 @@ use Rattle.job_ends.proofs.Held.{ended_held}
 use Rattle.job_ends.proofs.Others.{others_ahead}
 use Rattle.job_entries.proofs.Found.{ended_begun}
 use Rattle.job_progress.specs.Belonging.{AreWorksOf, HasWork}
-use Rattle.job_progress.specs.Going.{AreJobsAhead, copies_blocks}
+use Rattle.job_progress.specs.Going.{AreJobsAhead}
 use Rattle.job_tables.specs.Copiers.{CopiesGo}
 use Rattle.job_tables.specs.Jobs.{EdgesAreDrawn, JobsStand}
 use Rattle.job_tables.specs.Running.{JobsRun}
@@ -42,19 +42,20 @@ use Rattle.job_commands.proofs.Granules.{end_granules}
 use Rattle.job_entries.specs.Found.{HasBegun}
 use Rattle.job_tables.proofs.TargetEvents.{ended_files}
 use Rattle.job_works.specs.Works.{work_of}
-use Rattle.world_parts.specs.Coherent.{IsCoherent, IsLoneBackup, IsWholeWorld}
+use Rattle.world_parts.specs.Coherent.{IsCoherent, IsLoneCopy, IsWholeWorld}
 use Rattle.world_parts.specs.Comes.{Comes, ShowsState}
 use Rattle.world_parts.specs.Counting.{seen_sources}
 use Rattle.world_parts.specs.Face.{WorldSeen, contents_of, counts_now, counts_from, dirty_of, first_counts}
-use Rattle.world_parts.specs.Jobs.{EndsJob}
+use Rattle.world_parts.specs.Jobs.{EndsJob, ReadsAsSource}
 use Rattle.world_parts.specs.Keeping.{AreRises, ShowsJobs, all_faults}
 use Rattle.world_parts.specs.Progress.{actor_done, ended_in}
 use Rattle.world_parts.specs.Tabling.{tabled}
 use Rattle.world_parts.proofs.Pushing.{FitsOn, comes-push}
 use Rattle.world_parts.proofs.SoundImages.{images-sound}
+use Rattle.world_goings.proofs.Alike.{target_alike}
+use Rattle.world_goings.proofs.EndEdits.{pivot_done, pivot_mirror, pivots}
 use Rattle.world_goings.proofs.EndEntry as entry
 use Rattle.world_goings.proofs.EndFaults.{faults_at_end}
-use Rattle.world_goings.proofs.EndRests.{settles_at_end}
 use Rattle.world_goings.proofs.EndWorld as behind
 
 module _ (o : Opening) (w v : WorldSeen) (row : JobRecord) (why : JobEnd) (offset : ℕ) (whole : IsWholeWorld w) (joined : IsJoined w.nodes) (unfolds : Unfolds w.nodes)
@@ -80,17 +81,14 @@ module _ (o : Opening) (w v : WorldSeen) (row : JobRecord) (why : JobEnd) (offse
   drawn : EdgesAreDrawn t
   drawn = behind.drawn w v row why offset whole joined unfolds did
 
-  loses : LosesFilter row (contents_of w) (contents_of left)
-  loses = behind.loses w v row why offset whole joined unfolds did
-
   has : HasWork t w.works row
   has = whole.jobs.belong.each row here
 
   found : (seen_sources w).met_by row.number ≡ has.work.met
   found = ap (option_and_then (λ (work : JobWork). work.met)) has.there
 
-  blocks : copies_blocks row.kind ≡ true
-  blocks = ap copies_blocks (whole.jobs.lone row here).kind
+  lone : IsLoneCopy row
+  lone = whole.jobs.lone row here
 
   -- ---- the table
 
@@ -98,7 +96,7 @@ module _ (o : Opening) (w v : WorldSeen) (row : JobRecord) (why : JobEnd) (offse
   dirty_now = behind.dirty_same w v row why offset whole joined unfolds did
 
   tabled_is : after (tabled t (dirty_of w)) e ≡ noted_end (tabled t (dirty_of w)) row why
-  tabled_is = entry.after_end (tabled t (dirty_of w)) row why offset did.there (whole.jobs.lone row here).kind (whole.jobs.lone row here).group
+  tabled_is = entry.after_end (tabled t (dirty_of w)) row why offset did.there lone.group
 
   table_now : left.table ≡ (after (tabled t (dirty_of w)) e).table
   table_now = sym (ap (λ (x : State). x.table) tabled_is ∙ stepped_table (changes_at_end (tabled t (dirty_of w)) row why) (tabled t (dirty_of w)))
@@ -121,9 +119,6 @@ module _ (o : Opening) (w v : WorldSeen) (row : JobRecord) (why : JobEnd) (offse
   module _ (told : is_some w.files ≡ true) (shows : ShowsState o s w) (going : ShowsJobs o h s w) where
     same : s.table ≡ t
     same = shows.table.table_is
-
-    lone : IsLoneBackup row
-    lone = whole.jobs.lone row here
 
     stand : JobsStand s.table
     stand = subst JobsStand (sym same) whole.jobs.stand
@@ -153,18 +148,24 @@ module _ (o : Opening) (w v : WorldSeen) (row : JobRecord) (why : JobEnd) (offse
     next = noted_end s row why
 
     after_is : after s e ≡ next
-    after_is = entry.after_end s row why offset at lone.kind lone.group
+    after_is = entry.after_end s row why offset at lone.group
 
     may : MayEndSo (start o) h s (disk_of w.nodes) row has.work why
     may =
         entry.ends_so (start o) h s (disk_of w.nodes) row has.work (work_of w.works row.number) why has.there did.made
-        (λ done. going.ahead row has.work there blocks has.there (sym found ∙ entry.success_met (seen_sources w) row.number why done did.met))
+        (λ done. going.ahead row has.work there lone.kind has.there (sym found ∙ entry.success_met (seen_sources w) row.number why done did.met))
 
     beside : entry.StaysBeside s next
-    beside =
-        entry.end_beside s row why offset at lone.kind lone.group row.number row.slot (drops_aside (outcome_of why) row.bitmap)
-        (behind.filter w v row why offset whole joined unfolds did) (settles_at_end (outcome_of why) row) row.target (OfStart row.number)
-        (ap (λ (x : RunTable). end_edits x row (outcome_of why)) same ∙ behind.changes_are w v row why offset whole joined unfolds did)
+    beside = entry.end_beside s row why offset at lone.group
+
+    -- a mirror that pivots has made its copy
+    reads : pivots (outcome_of why) row.kind ≡ true → ReadsAsSource w row
+    reads is =
+        let made = may (pivot_done (outcome_of why) row.kind is) in
+        target_alike o w whole row here has.work (pivot_mirror (outcome_of why) row.kind is) shows made.ahead (record { left = made.none.left; rows = made.none.rows })
+
+    loses : LosesFilter row (contents_of w) (contents_of left)
+    loses = behind.loses w v row why offset whole joined unfolds did reads
 
     table_next : next.table ≡ left.table
     table_next = stepped_table (changes_at_end s row why) s ∙ ap (λ (x : RunTable). all_changed x (end_edits x row (outcome_of why))) same
@@ -190,7 +191,7 @@ module _ (o : Opening) (w v : WorldSeen) (row : JobRecord) (why : JobEnd) (offse
           started =
               beside.starts ∙ shows.table.rest.started ∙ ap (λ (x : RunTable). x.started) same
               ∙ sym (behind.started_same w v row why offset whole joined unfolds did) ∙ sym (ap (λ (x : RunTable). x.started) table_next);
-          ended = entry.end_alone s row why offset at lone.kind lone.group;
+          ended = entry.end_alone s row why offset at lone.group;
         };
       };
       guests = record {
@@ -224,11 +225,16 @@ module _ (o : Opening) (w v : WorldSeen) (row : JobRecord) (why : JobEnd) (offse
     fits : FitsOn o h s w left (e ∷ [])
     fits = record {
       legal = (
-        entry.end_fits s row why offset at lone.kind lone.group w same shows.guests.guests_are shows.guests.ended_are shows.table.rest.started shows.table.rest.ended did.cause
+        entry.end_fits s row why offset at lone.group w same shows.guests.guests_are shows.guests.ended_are shows.table.rest.started shows.table.rest.ended did.cause
             did.progress,
         tt,
       );
-      marks = (entry.end_calm s row why offset at lone.kind lone.group s.table s.guests, tt);
+      marks = (
+        entry.end_calm s row why offset at lone.group s.table s.guests
+            (subst (λ (x : RunTable). AreCalm x s.guests (end_marks row row.kind why)) (sym same)
+            (subst (λ guests. AreCalm t guests (end_marks row row.kind why)) (sym shows.guests.guests_are) did.calm)),
+        tt,
+      );
       shows = subst (λ (x : State). ShowsState o x left) (sym after_is) shown;
       going = subst (λ (x : State). ShowsJobs o (h ++ e ∷ []) x left) (sym after_is) goes_on;
       names = sym (append-nil w.progress.jobs);
@@ -249,8 +255,7 @@ module _ (o : Opening) (w v : WorldSeen) (row : JobRecord) (why : JobEnd) (offse
       left.table,
       dirty_of left,
       record {
-        calm =
-            entry.end_calm (tabled t (dirty_of w)) row why offset did.there (whole.jobs.lone row here).kind (whole.jobs.lone row here).group t w.progress.guests;
+        calm = entry.end_calm (tabled t (dirty_of w)) row why offset did.there lone.group t w.progress.guests did.calm;
         table = table_now;
         dirty = dirty_as;
       },

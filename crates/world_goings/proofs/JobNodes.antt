@@ -72,7 +72,7 @@ module _ (t : RunTable) (works : List JobWork) (aside : ℕ) (jobs : AreJobsKept
   source_itself row here = let p = source_plain row here in own_disk t row.source p.row p.there p.own
 
   module _ (row : JobRecord) (target : ℕ) (here : Contains t.jobs row) (is : row.target ≡ Some target) where
-    goes : CopyGoes t row target
+    pub goes : CopyGoes t row target
     goes = jobs.copies row target here (copied_is row (jobs.lone row here).kind ∙ is)
 
     -- no plain node is the file under the target

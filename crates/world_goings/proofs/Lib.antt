@@ -28,6 +28,8 @@ pub mod EndKept
 pub mod EndEntry
 pub mod EndWorld
 pub mod Ends
+pub mod ReadyKept
+pub mod Readies
 pub mod StartTables
 pub mod StartNodes
 pub mod StartReads

@@ -17,13 +17,13 @@ use Rattle.world_parts.specs.Jobs.{PullsFilter}
 use Rattle.world_parts.proofs.DrawnEdges.{drawn_by_nodes}
 use Rattle.world_goings.proofs.Ahead.{job_there}
 use Rattle.world_jobs.specs.Ending.{CanBeEnded, HasPulled, ended_table}
-use Rattle.world_jobs.specs.Filtering.{kinds_with}
+use Rattle.world_jobs.specs.Filtering.{filter_of, kinds_with}
 use Rattle.world_jobs.proofs.EndNodes as nodes
 use Rattle.world_jobs.proofs.EndPulled as pulled
 use Rattle.world_jobs.proofs.EndTable as table
 
 -- a job's entries are among those owed
-owed_of : (jobs : List JobRecord) (row : JobRecord) → Contains jobs row → entries_owed row ≤ entries_owed_by jobs
+pub owed_of : (jobs : List JobRecord) (row : JobRecord) → Contains jobs row → entries_owed row ≤ entries_owed_by jobs
 owed_of [] row there = absurd (Contains-nil row there)
 owed_of (x ∷ jobs) row there = elim (Contains-cases x jobs row there) [
   | inl same ↦ let one : entries_owed row ≡ entries_owed x = ap entries_owed same in omega (arith, one)
@@ -41,26 +41,24 @@ module _ (w : WorldSeen) (row : JobRecord) (why : JobEnd) (whole : IsWholeWorld 
   drawn : EdgesAreDrawn t
   drawn = (drawn_by_nodes t w.nodes whole.coherent.table.stands.apart whole.coherent.alike joined).0
 
-  pub filter : ℕ
-  filter = table.filter t w.works w.progress.aside whole.jobs whole.coherent.table.stands drawn row here (outcome_of why)
+  abbrev filter : ℕ
+  filter = table.filter t w.works w.progress.aside whole.jobs whole.coherent.table.stands drawn row here
 
-  pub filter_is : row.filter ≡ Some filter
-  unfolding filter
-  filter_is = table.filter_is t w.works w.progress.aside whole.jobs whole.coherent.table.stands drawn row here (outcome_of why)
+  filter_is : row.filter ≡ Some filter
+  filter_is = table.filter_is t w.works w.progress.aside whole.jobs whole.coherent.table.stands drawn row here
 
-  pub filter_over : table.IsFilterOver t filter row.source
-  unfolding filter
-  filter_over = table.filter_over t w.works w.progress.aside whole.jobs whole.coherent.table.stands drawn row here (outcome_of why)
+  filter_over : table.IsFilterOver t filter row.source (filter_of row.kind)
+  filter_over = table.filter_over t w.works w.progress.aside whole.jobs whole.coherent.table.stands drawn row here
 
-  pub loses_node : table.LosesNode t (ended_table t row why) filter row.source
-  unfolding filter
+  loses_node : table.LosesNode t (ended_table t row why) filter row.source
   loses_node = table.loses_node t w.works w.progress.aside whole.jobs whole.coherent.table.stands drawn row here (outcome_of why)
 
   pub can_end : CanBeEnded t w.nodes w.works w.progress why row
   can_end = record {
     filter = filter;
     filter_is = filter_is;
-    goes = nodes.can_go t (ended_table t row why) filter row.source filter_over loses_node w.nodes whole.coherent.alike joined;
+    goes =
+        nodes.can_go t (ended_table t row why) filter row.source (filter_of row.kind) whole.coherent.table.stands filter_over loses_node w.nodes whole.coherent.alike joined;
     work = subst IsSome (sym (whole.jobs.belong.each row here).there) refl;
     room = let owed = owed_of t.jobs row here in let all = whole.jobs.room in omega (arith, owed, all);
   }
@@ -69,5 +67,6 @@ module _ (w : WorldSeen) (row : JobRecord) (why : JobEnd) (whole : IsWholeWorld 
   has_pulled now did after =
       let both : Some did.filter ≡ Some filter = sym did.filter_is ∙ filter_is in
       let same : did.filter ≡ filter = cc both in
-      pulled.pulls t (ended_table t row why) filter row.source filter_over loses_node w.nodes whole.coherent.alike joined row now filter_is
-      (did.are ∙ ap (λ n. nodes_without n (rewired (kinds_with n (kinds_of (ended_table t row why).nodes)) (ended_table t row why).edges w.nodes)) same) after
+      pulled.pulls t (ended_table t row why) filter row.source (filter_of row.kind) whole.coherent.table.stands filter_over loses_node w.nodes whole.coherent.alike joined row now
+      filter_is
+      (did.are ∙ ap (λ n. nodes_without n (rewired (kinds_with (filter_of row.kind) n (kinds_of (ended_table t row why).nodes)) (ended_table t row why).edges w.nodes)) same) after

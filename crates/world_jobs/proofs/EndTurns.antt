@@ -1,32 +1,30 @@
--- The job of a slot ends as its turn says: that it may end so, and that where it ends without error nothing is left.
-use Rattle.std.proofs.Common.{◌≡◌, ◌≢◌, ◌⊎◌, ℕ, List, ◌==◌, Bool, true, false, cond, not, [], Option, Some, None, refl, sym, ◌∙◌, ap, subst, inl, inr, option_and_then}
-use Rattle.std.specs.Prelude.{Contains}
-use Rattle.std.specs.List.{list_any}
+-- The job of a slot ends as its turn says: that it may end so, that where it ends without error nothing is left, and that no request is in flight
+-- on a disk that its end marks.
+use Rattle.std.proofs.Common.{◌≡◌, ℕ, List, ◌==◌, ◌&&◌, true, false, [], ◌∷◌, Some, None, refl, sym, ◌∙◌, ap, subst, option_and_then}
 use Rattle.std.proofs.lemmas.Bool.{false≢true}
-use Rattle.blk_base.specs.declared.fault.Fault.{Fault}
+use Rattle.std.proofs.lemmas.List.Elements.{All-nil}
 use Rattle.blk_bitmaps.specs.declared.row.Bitmap.{Bitmap}
 use Rattle.blk_graph.proofs.Members.{find-Some}
 use Rattle.blk_history.specs.Fold.{With}
-use Rattle.blk_history.specs.declared.entry.Cause.TheVariants.{Command}
+use Rattle.blk_history.specs.declared.entry.Cause.TheVariants.{Command, Group, RunEnd}
 use Rattle.blk_history.specs.declared.entry.JobEnd.{JobEnd}
-use Rattle.blk_history.specs.declared.entry.JobEnd.TheVariants.{Cancelled, Completed, Failed}
+use Rattle.blk_history.specs.declared.entry.JobEnd.TheVariants.{Cancelled, Completed, Copied, Failed, Pivoted}
 use Rattle.blk_history.specs.declared.event.Event.TheVariants.{End}
 use Rattle.blk_nodes.specs.Joined.{IsJoined}
 use Rattle.blk_nodes.specs.Nodes.{Nodes}
 use Rattle.block_jobs.specs.Work.{JobWork}
-use Rattle.qmp_codec.specs.declared.event.JobKind.TheVariants.{Backup}
+use Rattle.qmp_codec.specs.declared.event.JobKind.{JobKind}
+use Rattle.qmp_codec.specs.declared.event.JobKind.TheVariants.{Backup, Commit, Mirror, Stream}
 use Rattle.qmp_rules.specs.Table.{RunTable, job_at, job_in}
-use Rattle.qmp_rules.specs.declared.rows.AskedEnd.{AskedEnd}
 use Rattle.qmp_rules.specs.declared.rows.AskedEnd.TheVariants as asked
 use Rattle.qmp_rules.specs.declared.rows.JobRecord.{JobRecord}
-use Rattle.flat_machine.specs.EventLicence.{EndsAsMet, Sources}
+use Rattle.flat_machine.specs.EventLicence.{EndsAsMet}
 use Rattle.flat_machine.specs.Jobs.{can_be_ready, is_success}
 use Rattle.flat_machine.specs.Legal.{MayEnd}
-use Rattle.flat_machine.specs.State.{State}
+use Rattle.flat_machine.specs.Marks.{AreCalm, Drained, IsCalm, after_end, end_marks, must_drain}
 use Rattle.flat_machine.proofs.Wired.{with_at}
 use Rattle.job_ends.proofs.Others.{at_number}
-use Rattle.job_turns.specs.Turns.{copied_step, going_step, has_next, has_rows, ready_end, step_before, step_of, stop_asked}
-use Rattle.job_turns.specs.declared.step.Step.{Step}
+use Rattle.job_progress.specs.Going.{copies_blocks}
 use Rattle.job_turns.specs.declared.step.Step.TheVariants as step
 use Rattle.job_works.specs.Works.{without_work, work_of}
 use Rattle.world_parts.specs.Coherent.{IsWholeWorld, entries_owed}
@@ -34,116 +32,142 @@ use Rattle.world_parts.specs.Counting.{seen_sources}
 use Rattle.world_parts.specs.Face.{WorldSeen, seen_state}
 use Rattle.world_parts.specs.Jobs.{HasCopiedAll, PullsFilter, bitmaps_ended}
 use Rattle.world_parts.specs.Progress.{Progress, with_job_entry}
-use Rattle.world_parts.proofs.InStep.{with-at}
 use Rattle.world_jobs.specs.Ending.{CanBeEnded, HasPulled, IsBehindEnd, ended_table, offset_by}
-use Rattle.world_jobs.specs.Turning.{EndsInTurn, HasTurn, IsTurnOf}
+use Rattle.world_jobs.specs.Turning.{EndsAs, EndsInTurn, FindsCalm, HasTurn, IsTurnOf}
+use Rattle.world_jobs.specs.declared.turned.Turn.{Turn}
 use Rattle.world_jobs.specs.declared.turned.Turn.TheVariants as turn
-use Rattle.world_jobs.proofs.BackupSteps.{none_open}
 use Rattle.world_jobs.proofs.EndReady.{can_end, has_pulled}
+use Rattle.world_jobs.proofs.TurnSteps.{EndSays, FinishSays, IsReady, Says, here, own, slot_job, step_is, step_says}
+
+-- ---- what the ends of a job mark
+
+-- without error, of a job that was ready
+abbrev of_ready : JobEnd → Type 0
+of_ready Pivoted = Unit {0}
+of_ready Copied = Unit {0}
+of_ready why = ⊥
+
+pub ready_mirror : (row : JobRecord) (k : JobKind) → copies_blocks k ≡ true → can_be_ready row k ≡ true → k ≡ Mirror
+ready_mirror row Mirror copies can = refl
+ready_mirror row Backup copies can = absurd (false≢true can)
+ready_mirror row Stream copies can = absurd (false≢true copies)
+ready_mirror row Commit copies can = absurd (false≢true copies)
 
 -- ---- by the work
 
 -- a job may end so, as what was met for it says
-pub record MayEndBy (s : State) (sources : Sources) (row : JobRecord) (work : JobWork) (why : JobEnd) : Type 0 where
-  pub cause : MayEnd s row why
-  pub met : EndsAsMet sources row.number why
+pub record EndsWell (w : WorldSeen) (row : JobRecord) (work : JobWork) (why : JobEnd) : Type 0 where
+  pub cause : MayEnd (seen_state w) row why
+  pub met : EndsAsMet (seen_sources w) row.number why
   pub made : is_success why ≡ true → HasCopiedAll work
+  pub calm : AreCalm w.table w.progress.guests (end_marks row row.kind why)
 
-abbrev Ends : Step → JobEnd → Type 0
-Ends is why = (is ≡ step.End why) ⊎ (is ≡ step.Finish why)
-
-module _ (s : State) (sources : Sources) (row : JobRecord) (work : JobWork) (why : JobEnd) (all_done : Bool) (kind : row.kind ≡ Backup)
-    (met_is : sources.met_by row.number ≡ work.met) where
-  abbrev May : JobEnd → Type 0
-  May end = MayEndBy s sources row work end
-
-  never_ready : can_be_ready row row.kind ≡ false
-  never_ready = ap (can_be_ready row) kind
-
-  module _ (none : work.met ≡ None) (goes : row.asked ≢ asked.Stop) where
-    finish : list_any (λ part. part) work.left ≡ false → work.rows ≡ [] → Ends (copied_step all_done row) why → May why
-    finish left rows ends = elim ends [ inl bad ↦ absurd (let no : step.Finish Completed ≡ step.End why = sym is ∙ bad in let bot : ⊥ = cc no in bot) | inr so ↦ by_why (sym is ∙ so) ]
-      where
-        is : copied_step all_done row ≡ step.Finish Completed
-        is = ap (λ b. cond (not b) (step.Finish Completed) (cond row.is_ready (ready_end all_done row.asked) step.GetReady)) never_ready
-
-        by_why : step.Finish Completed ≡ step.Finish why → May why
-        by_why same =
-            let one : Completed ≡ why = cc same in
-            subst May one (record { cause = (never_ready, goes); met = met_is ∙ none; made = λ done. record { left = left; rows = rows } })
-
-    by_left : (b : Bool) → list_any (λ part. part) work.left ≡ b → work.rows ≡ [] → Ends (cond b step.Go (copied_step all_done row)) why → May why
-    by_left false left rows ends = finish left rows ends
-    by_left true left rows (inl bad) = absurd (let no : ⊥ = cc bad in no)
-    by_left true left rows (inr bad) = absurd (let no : ⊥ = cc bad in no)
-
-    by_open : (b : Bool) → has_rows work ≡ b → Ends (cond b step.Wait (cond (list_any (λ part. part) work.left) step.Go (copied_step all_done row))) why → May why
-    by_open false open_ ends = by_left (list_any (λ part. part) work.left) refl (none_open work.rows open_) ends
-    by_open true open_ (inl bad) = absurd (let no : ⊥ = cc bad in no)
-    by_open true open_ (inr bad) = absurd (let no : ⊥ = cc bad in no)
-
-    by_next : (b : Bool) → Ends (cond b step.Copy (going_step all_done row work)) why → May why
-    by_next false ends = by_open (has_rows work) refl ends
-    by_next true (inl bad) = absurd (let no : ⊥ = cc bad in no)
-    by_next true (inr bad) = absurd (let no : ⊥ = cc bad in no)
-
-  by_asked : (a : AskedEnd) → row.asked ≡ a → work.met ≡ None → Ends (step_before all_done row work (stop_asked a)) why → May why
-  by_asked asked.Stop is none (inl so) =
-      let one : Cancelled Command ≡ why = cc so in
-      subst May one (record { cause = is; met = met_is ∙ none; made = λ done. absurd (false≢true done) })
-  by_asked asked.Stop is none (inr bad) = absurd (let no : ⊥ = cc bad in no)
-  by_asked asked.Nothing is none ends = by_next none (λ same. let no : asked.Nothing ≡ asked.Stop = sym is ∙ same in let bot : ⊥ = cc no in bot) (has_next row work) ends
-  by_asked asked.Complete is none ends = by_next none (λ same. let no : asked.Complete ≡ asked.Stop = sym is ∙ same in let bot : ⊥ = cc no in bot) (has_next row work) ends
-  by_asked asked.Leave is none ends = by_next none (λ same. let no : asked.Leave ≡ asked.Stop = sym is ∙ same in let bot : ⊥ = cc no in bot) (has_next row work) ends
-
-  by_met : (found : Option Fault) → work.met ≡ found
-      → Ends (step_before all_done row work (elim found as (λ _. Option JobEnd) [ None ↦ stop_asked row.asked | Some fault ↦ Some (Failed fault) ])) why → May why
-  by_met None is ends = by_asked row.asked refl is ends
-  by_met (Some fault) is (inl so) =
-      let one : Failed fault ≡ why = cc so in
-      subst May one (record { cause = tt; met = met_is ∙ is; made = λ done. absurd (false≢true done) })
-  by_met (Some fault) is (inr bad) = absurd (let no : ⊥ = cc bad in no)
-
-  pub may_by_turn : Ends (step_of all_done row work) why → MayEndBy s sources row work why
-  unfolding step_of
-  may_by_turn ends = by_met work.met refl ends
-
--- ---- in its slot
-
-module _ (w v : WorldSeen) (slot : ℕ) (why : JobEnd) (has : HasTurn w slot (turn.End why)) (whole : IsWholeWorld w) (joined : IsJoined w.nodes) where
+module _ (w : WorldSeen) (slot : ℕ) (is : Turn) (whole : IsWholeWorld w) (has : HasTurn w slot is) where
   abbrev row : JobRecord
   row = has.row
 
-  here : Contains w.table.jobs row
-  here = (find-Some (λ (r : JobRecord). r.slot == slot) w.table.jobs row has.there).0
+  abbrev work : JobWork
+  work = (own w slot is whole has).work
 
-  pub slot_job : job_at w.table row.number ≡ Some row
-  slot_job = at_number w.table whole.jobs.stand row here
+  copies : copies_blocks row.kind ≡ true
+  copies = (whole.jobs.lone row (here w slot is has)).kind
 
-  may : MayEndBy (seen_state w) (seen_sources w) row (whole.jobs.belong.each row here).work why
-  may =
-      let own = whole.jobs.belong.each row here in
-      may_by_turn (seen_state w) (seen_sources w) row own.work why has.all_done (whole.jobs.lone row here).kind
-      (ap (option_and_then (λ (work : JobWork). work.met)) own.there)
-      (with-at (work_of w.works row.number) own.work (λ work. IsTurnOf has.all_done row work (turn.End why)) own.there has.step)
+  met_is : (seen_sources w).met_by row.number ≡ work.met
+  met_is = ap (option_and_then (λ (k : JobWork). k.met)) (own w slot is whole has).there
 
-  pub ends_in_turn : IsBehindEnd w v row why → EndsInTurn w v slot
-  ends_in_turn did = record {
-    why = why;
-    offset = offset_by w.table row why;
-    has = has;
-    ends = record {
-      there = slot_job;
-      cause = may.cause;
-      met = may.met;
-      made = λ done. with_at HasCopiedAll (work_of w.works row.number) (whole.jobs.belong.each row here).work (whole.jobs.belong.each row here).there (may.made done);
-      progress = refl;
-      pulls =
-          subst (λ (u : RunTable). PullsFilter u row w.nodes v.nodes) (sym (ap (λ (x : WorldSeen). x.table) did.kept))
-          (has_pulled w row why whole joined slot_job v.nodes did.pulls did.joined);
-      kept = did.kept;
-    };
+  marks_calm : (k : JobKind) → copies_blocks k ≡ true → (why : JobEnd) → (of_ready why → AreCalm w.table w.progress.guests (row.source ∷ []))
+      → AreCalm w.table w.progress.guests (end_marks row k why)
+  marks_calm Mirror both Pivoted calm = calm tt
+  marks_calm Mirror both Copied calm = calm tt
+  marks_calm Mirror both Completed calm = All-nil (IsCalm w.table w.progress.guests)
+  marks_calm Mirror both (Failed fault) calm = All-nil (IsCalm w.table w.progress.guests)
+  marks_calm Mirror both (Cancelled cause) calm = All-nil (IsCalm w.table w.progress.guests)
+  marks_calm Backup both why calm = All-nil (IsCalm w.table w.progress.guests)
+  marks_calm Stream both why calm = absurd (false≢true both)
+  marks_calm Commit both why calm = absurd (false≢true both)
+
+  by_end : (why : JobEnd) → EndSays has.all_done row work why → EndsWell w row work why
+  by_end (Failed fault) says = record {
+    cause = tt;
+    met = met_is ∙ says;
+    made = λ done. absurd (false≢true done);
+    calm = marks_calm row.kind copies (Failed fault) (λ never. absurd never);
   }
+  by_end (Cancelled Command) says = record {
+    cause = says.1;
+    met = met_is ∙ says.0;
+    made = λ done. absurd (false≢true done);
+    calm = marks_calm row.kind copies (Cancelled Command) (λ never. absurd never);
+  }
+  by_end (Cancelled RunEnd) says = record {
+    cause = (has.done.0 says.0, (says.1.ready, says.1.asked));
+    met = met_is ∙ says.1.made.unmet;
+    made = λ done. absurd (false≢true done);
+    calm = marks_calm row.kind copies (Cancelled RunEnd) (λ never. absurd never);
+  }
+  by_end (Cancelled Group) says = absurd says
+  by_end Completed says = absurd says
+  by_end Pivoted says = absurd says
+  by_end Copied says = absurd says
+
+  by_finish : (why : JobEnd) → FinishSays row work why → (must_drain row ≡ true → AreCalm w.table w.progress.guests (row.source ∷ [])) → EndsWell w row work why
+  by_finish Completed says calm = record {
+    cause = (says.1.0, says.1.1);
+    met = met_is ∙ says.0.unmet;
+    made = λ done. says.0.all;
+    calm = marks_calm row.kind copies Completed (λ never. absurd never);
+  }
+  by_finish Pivoted says calm = record {
+    cause = (says.can, (says.ready, says.asked));
+    met = met_is ∙ says.made.unmet;
+    made = λ done. says.made.all;
+    calm = marks_calm row.kind copies Pivoted (λ so. calm (rw (says.can, says.asked) refl));
+  }
+  by_finish Copied says calm = record {
+    cause = (ready_mirror row row.kind copies says.can, (says.ready, says.asked));
+    met = met_is ∙ says.made.unmet;
+    made = λ done. says.made.all;
+    calm = marks_calm row.kind copies Copied (λ so. calm (rw (says.can, says.asked) refl));
+  }
+  by_finish (Failed fault) says calm = absurd says
+  by_finish (Cancelled cause) says calm = absurd says
+
+  ends_well : (turn' : Turn) (why : JobEnd) → IsTurnOf has.all_done row work turn' → EndsAs turn' why → FindsCalm w turn' row → EndsWell w row work why
+  ends_well (turn.End other) why step so calm =
+      by_end why (subst (Says has.all_done row work) (step ∙ ap (λ (e : JobEnd). step.End e) (sym so)) (step_says has.all_done row work))
+  ends_well (turn.Finish other) why step so calm =
+      by_finish why (subst (Says has.all_done row work) (step ∙ ap (λ (e : JobEnd). step.Finish e) (sym so)) (step_says has.all_done row work)) calm
+  ends_well turn.GetReady why step so calm = absurd so
+  ends_well turn.Copy why step so calm = absurd so
+  ends_well turn.Wait why step so calm = absurd so
+
+-- ---- in its slot
+
+pub ends_in_turn : (w v : WorldSeen) (slot : ℕ) (is : Turn) (why : JobEnd) → IsWholeWorld w → IsJoined w.nodes → (has : HasTurn w slot is) → EndsAs is why
+    → FindsCalm w is has.row → IsBehindEnd w v has.row why → EndsInTurn w v slot
+ends_in_turn w v slot is why whole joined has so calm did =
+    let well = ends_well w slot is whole has is why (step_is w slot is whole has) so calm in
+    let at = slot_job w slot is whole has in
+    record {
+      is = is;
+      why = why;
+      offset = offset_by w.table has.row why;
+      has = has;
+      so = so;
+      calm = calm;
+      ends = record {
+        there = at;
+        cause = well.cause;
+        met = well.met;
+        made = λ done. with_at HasCopiedAll (work_of w.works has.row.number) (own w slot is whole has).work (own w slot is whole has).there (well.made done);
+        progress = refl;
+        calm = well.calm;
+        pulls =
+            subst (λ (u : RunTable). PullsFilter u has.row w.nodes v.nodes) (sym (ap (λ (x : WorldSeen). x.table) did.kept))
+            (has_pulled w has.row why whole joined at v.nodes did.pulls did.joined);
+        kept = did.kept;
+      };
+    }
 
 -- ---- by the parts of the world
 
@@ -155,18 +179,20 @@ slot_may_end w slot row why whole joined there =
     with_at (CanBeEnded w.table w.nodes w.works w.progress why) (job_at w.table row.number) row at (can_end w row why whole joined at)
 
 -- the world with the parts that an end leaves
-pub behind_end : (w : WorldSeen) (row : JobRecord) (why : JobEnd) (u : RunTable) (now : Nodes) (bitmaps : List Bitmap) (works : List JobWork) (p : Progress)
+pub behind_end : (w : WorldSeen) (row : JobRecord) (why : JobEnd) (u : RunTable) (now : Nodes) (bitmaps : List Bitmap) (works : List JobWork) (drains : Drained)
+    (p : Progress)
     → u ≡ ended_table w.table row why → HasPulled u row w.nodes now → IsJoined now → bitmaps ≡ bitmaps_ended row why w.bitmaps → works ≡ without_work row.number w.works
-    → p ≡ with_job_entry (entries_owed row) (End row.number why (offset_by w.table row why)) w.progress
-    → IsBehindEnd w (record w { nodes = now; table = u; bitmaps = bitmaps; works = works; progress = p }) row why
-behind_end w row why u now bitmaps works p table pulls joined noted gone added = record {
+    → drains ≡ after_end row.number w.drains → p ≡ with_job_entry (entries_owed row) (End row.number why (offset_by w.table row why)) w.progress
+    → IsBehindEnd w (record w { nodes = now; table = u; bitmaps = bitmaps; works = works; drains = drains; progress = p }) row why
+behind_end w row why u now bitmaps works drains p table pulls joined noted gone free added = record {
   pulls = subst (λ (x : RunTable). HasPulled x row w.nodes now) table pulls;
   joined = joined;
   kept =
-      ap (λ (x : RunTable). with_parts x bitmaps works p) table ∙ ap (λ (x : List Bitmap). with_parts (ended_table w.table row why) x works p) noted
-      ∙ ap (λ (x : List JobWork). with_parts (ended_table w.table row why) (bitmaps_ended row why w.bitmaps) x p) gone
-      ∙ ap (with_parts (ended_table w.table row why) (bitmaps_ended row why w.bitmaps) (without_work row.number w.works)) added;
+      ap (λ (x : RunTable). with_parts x bitmaps works drains p) table ∙ ap (λ (x : List Bitmap). with_parts (ended_table w.table row why) x works drains p) noted
+      ∙ ap (λ (x : List JobWork). with_parts (ended_table w.table row why) (bitmaps_ended row why w.bitmaps) x drains p) gone
+      ∙ ap (λ (x : Drained). with_parts (ended_table w.table row why) (bitmaps_ended row why w.bitmaps) (without_work row.number w.works) x p) free
+      ∙ ap (with_parts (ended_table w.table row why) (bitmaps_ended row why w.bitmaps) (without_work row.number w.works) (after_end row.number w.drains)) added;
 }
   where
-    with_parts : RunTable → List Bitmap → List JobWork → Progress → WorldSeen
-    with_parts x rows ks q = record w { nodes = now; table = x; bitmaps = rows; works = ks; progress = q }
+    with_parts : RunTable → List Bitmap → List JobWork → Drained → Progress → WorldSeen
+    with_parts x rows ks ds q = record w { nodes = now; table = x; bitmaps = rows; works = ks; drains = ds; progress = q }

@@ -4,7 +4,8 @@ pub mod EndNodes
 pub mod EndReady
 pub mod EndPulled
 pub mod WorkCounts
-pub mod BackupSteps
+pub mod CopySteps
+pub mod TurnSteps
 pub mod EndParts
 pub mod Wirings
 pub mod StartBehind
@@ -13,6 +14,8 @@ pub mod SeenTables
 pub mod StartWired
 pub mod StartReady
 pub mod EndTurns
+pub mod ReadyTurns
+pub mod JobDrains
 pub mod EndWhole
 pub mod StartCarried
 pub mod StartRoom

@@ -70,7 +70,7 @@ module _ (nodes : Nodes) (joined : IsJoined nodes) where
       by_driver (drivers.Filter kind) role is below own may must =
           below c (subst (λ (r : Role). child_of (Node n) r nodes.graph.edges ≡ Some c) (filtered_role kind role may) is)
 
-between_keeps : (k : Kind) → keeps_size k Between ≡ true → ⊥
+pub between_keeps : (k : Kind) → keeps_size k Between ≡ true → ⊥
 between_keeps kinds.CopyOnRead is = cc is
 between_keeps k is = cc is
 

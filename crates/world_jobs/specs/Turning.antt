@@ -71,6 +71,7 @@ pub record StaysAsTurn (w v : WorldSeen) (slot : ℕ) (is : Turn) : Type 0 where
 pub record WaitsInTurn (w v : WorldSeen) (slot g r : ℕ) : Type 0 where
   pub is : Turn
   pub has : HasTurn w slot is
+  pub first : waits_first is has.row ≡ true
   pub waits : HasToWait (seen_state w) has.row g r
   pub kept : v ≡ record w { drains = after_turn has.row.number w.drains }
 

@@ -37,5 +37,6 @@ pub mod TableKinds
 pub mod TablesAfter
 pub mod Rewirings
 pub mod GuestsKept
+pub mod SameWiring
 pub mod DisksKept
 pub mod NodesRewired
