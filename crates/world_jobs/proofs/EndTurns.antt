@@ -100,7 +100,7 @@ module _ (w : WorldSeen) (slot : ℕ) (is : Turn) (whole : IsWholeWorld w) (has 
     calm = marks_calm row.kind copies (Cancelled Command) (λ never. absurd never);
   }
   by_end (Cancelled RunEnd) says = record {
-    cause = (has.done.0 says.0, (says.1.ready, says.1.asked));
+    cause = (has.done.0 says.0, says.1.ready, says.1.asked);
     met = met_is ∙ says.1.made.unmet;
     made = λ done. absurd (false≢true done);
     calm = marks_calm row.kind copies (Cancelled RunEnd) (λ never. absurd never);
@@ -112,19 +112,19 @@ module _ (w : WorldSeen) (slot : ℕ) (is : Turn) (whole : IsWholeWorld w) (has 
 
   by_finish : (why : JobEnd) → FinishSays row work why → (must_drain row ≡ true → AreCalm w.table w.progress.guests (row.source ∷ [])) → EndsWell w row work why
   by_finish Completed says calm = record {
-    cause = (says.1.0, says.1.1);
+    cause = (says.1, says.2);
     met = met_is ∙ says.0.unmet;
     made = λ done. says.0.all;
     calm = marks_calm row.kind copies Completed (λ never. absurd never);
   }
   by_finish Pivoted says calm = record {
-    cause = (says.can, (says.ready, says.asked));
+    cause = (says.can, says.ready, says.asked);
     met = met_is ∙ says.made.unmet;
     made = λ done. says.made.all;
     calm = marks_calm row.kind copies Pivoted (λ so. calm (rw (says.can, says.asked) refl));
   }
   by_finish Copied says calm = record {
-    cause = (ready_mirror row row.kind copies says.can, (says.ready, says.asked));
+    cause = (ready_mirror row row.kind copies says.can, says.ready, says.asked);
     met = met_is ∙ says.made.unmet;
     made = λ done. says.made.all;
     calm = marks_calm row.kind copies Copied (λ so. calm (rw (says.can, says.asked) refl));
@@ -133,13 +133,13 @@ module _ (w : WorldSeen) (slot : ℕ) (is : Turn) (whole : IsWholeWorld w) (has 
   by_finish (Cancelled cause) says calm = absurd says
 
   ends_well : (turn' : Turn) (why : JobEnd) → IsTurnOf has.all_done row work turn' → EndsAs turn' why → FindsCalm w turn' row → EndsWell w row work why
-  ends_well (turn.End other) why step so calm =
-      by_end why (subst (Says has.all_done row work) (step ∙ ap (λ (e : JobEnd). step.End e) (sym so)) (step_says has.all_done row work))
-  ends_well (turn.Finish other) why step so calm =
-      by_finish why (subst (Says has.all_done row work) (step ∙ ap (λ (e : JobEnd). step.Finish e) (sym so)) (step_says has.all_done row work)) calm
-  ends_well turn.GetReady why step so calm = absurd so
-  ends_well turn.Copy why step so calm = absurd so
-  ends_well turn.Wait why step so calm = absurd so
+  ends_well (turn.End other) why is_step so calm =
+      by_end why (subst (Says has.all_done row work) (is_step ∙ ap (λ (e : JobEnd). step.End e) (sym so)) (step_says has.all_done row work))
+  ends_well (turn.Finish other) why is_step so calm =
+      by_finish why (subst (Says has.all_done row work) (is_step ∙ ap (λ (e : JobEnd). step.Finish e) (sym so)) (step_says has.all_done row work)) calm
+  ends_well turn.GetReady why is_step so calm = absurd so
+  ends_well turn.Copy why is_step so calm = absurd so
+  ends_well turn.Wait why is_step so calm = absurd so
 
 -- ---- in its slot
 
