@@ -34,10 +34,11 @@ use Rattle.qmp_asks.specs.BitmapAsks.{bitmap_add_values, bitmap_add_names, bitma
 use Rattle.qmp_asks.specs.CommandAsks.{asks_of}
 use Rattle.qmp_asks.specs.NodeAsks.{create_values, create_names, create_rest, add_asks, del_asks, snapshot_values, snapshot_names, snapshot_rest, is_read_only, backing_name}
 use Rattle.qmp_asks.specs.Naming.{is_name}
-use Rattle.qmp_asks.specs.Values.{amount_or, is_granularity}
+use Rattle.qmp_asks.specs.Values.{amount_or, flag_or_false, is_granularity}
 use Rattle.qmp_rules.specs.declared.change.Change.{Change}
 use Rattle.qmp_rules.specs.declared.change.Change.TheVariants as change
 use Rattle.qmp_rules.specs.declared.rows.AskedEnd.{AskedEnd}
+use Rattle.qmp_rules.specs.declared.rows.AskedEnd.TheVariants as asked
 use Rattle.qmp_rules.specs.declared.refusal.Refusal.TheVariants as refusal
 use Rattle.qmp_rules.specs.declared.rows.BitmapRow.{BitmapRow}
 use Rattle.qmp_rules.specs.declared.rows.NodeRecord.{NodeRecord}
@@ -47,7 +48,7 @@ use Rattle.qmp_rules.specs.declared.told.Told.{Told}
 use Rattle.qmp_rules.specs.Asks.{holds, id_or, busy, is_base, is_file}
 use Rattle.qmp_rules.specs.Chains.{filter_role}
 use Rattle.qmp_rules.specs.Changes.{changed}
-use Rattle.qmp_rules.specs.Edits.{free_id, file_uses, file_under, goes_with_node, with_inline, del_edits, created_change, raw_edits, qcow2_edits, added_edits, add_edits, of_row, device_uses, new_device, device_add_edits, device_del_edits, snapshot_edits, bitmap_row, bitmap_add_edits, bitmap_remove_edits, merges, filter_row, filter_edits, file_used, writable_if, base_edits, uses_as, under_top, reads_one_of, commit_unsettles, commit_uses, target_edits, uses_target, ask_edits, edits_by_kind, start_edits, edits_of}
+use Rattle.qmp_rules.specs.Edits.{free_id, file_uses, file_under, goes_with_node, with_inline, del_edits, created_change, raw_edits, qcow2_edits, added_edits, add_edits, of_row, device_uses, new_device, device_add_edits, device_del_edits, snapshot_edits, bitmap_row, bitmap_add_edits, bitmap_remove_edits, merges, filter_row, filter_edits, file_used, writable_if, base_edits, uses_as, under_top, reads_one_of, commit_unsettles, commit_uses, target_edits, uses_target, asked_by_cancel, leaves_copy, ask_edits, edits_by_kind, start_edits, edits_of}
 use Rattle.qmp_rules.specs.Table.{RunTable, node_by_id, node_named, id_named, device_named, job_named, job_id, bitmap_at, bitmap_named}
 use Rattle.flat_machine.specs.Suiting.{IsAlone, TableSuits, AllTableSuit}
 use Rattle.flat_machine.specs.Wiring.{TableStands, TableAtRest}
@@ -209,6 +210,7 @@ pub record AsksJob (changes : List Change) : Type 0 where
   pub number : ℕ
   pub new : AskedEnd
   pub is : changes ≡ change.AskJob number new ∷ []
+  pub ends : new ≢ asked.Nothing
 
 -- ---- one bitmap
 
@@ -235,12 +237,19 @@ pub record OneBitmap (t : RunTable) (changes : List Change) : Type 0 where
 abbrev pub MayChange : RunTable → List Change → Type 0
 MayChange t changes = AllSpareJobs t changes ⊎ (AsksJob changes ⊎ OneBitmap t changes)
 
-ask_command : (t : RunTable) (id : List ℕ) (asked : JobRecord → AskedEnd) → MayChange t (ask_edits t id asked)
-ask_command t id asked = by_job (job_named t id)
+ask_command : (t : RunTable) (id : List ℕ) (end : JobRecord → AskedEnd) → ((job : JobRecord) → end job ≢ asked.Nothing) → MayChange t (ask_edits t id end)
+ask_command t id end ends = by_job (job_named t id)
   where
-    by_job : (found : Option JobRecord) → MayChange t (elim found as (λ _. List Change) [ None ↦ [] | Some job ↦ change.AskJob job.number (asked job) ∷ [] ])
+    by_job : (found : Option JobRecord) → MayChange t (elim found as (λ _. List Change) [ None ↦ [] | Some job ↦ change.AskJob job.number (end job) ∷ [] ])
     by_job None = inl tt
-    by_job (Some job) = inr (inl (record { number = job.number; new = asked job; is = refl }))
+    by_job (Some job) = inr (inl (record { number = job.number; new = end job; is = refl; ends = ends job }))
+
+cancel_ends : (force : Bool) (job : JobRecord) → asked_by_cancel force job ≢ asked.Nothing
+cancel_ends force job = by_test (leaves_copy force job.is_ready job.kind)
+  where
+    by_test : (b : Bool) → cond b asked.Leave asked.Stop ≢ asked.Nothing
+    by_test true same = absurd cc
+    by_test false same = absurd cc
 
 module _ (t : RunTable) (told : Told) where
   named_id : (node : List ℕ) → holds t told (ask.Found (Some node)) ≡ None → id_named t node ≡ Some (id_or 0 t (Some node))
@@ -338,8 +347,8 @@ command_spares t told exp (command.BlockStream c) h j one none asks = absurd cc
 command_spares t told exp (command.BlockCommit c) h j one none asks = absurd cc
 command_spares t told exp (command.BlockdevMirror c) h j one none asks = absurd cc
 command_spares t told exp (command.BlockdevBackup c) h j one none asks = absurd cc
-command_spares t told exp (command.BlockJobCancel id force) h j one none asks = ask_command t id _
-command_spares t told exp (command.BlockJobComplete id) h j one none asks = ask_command t id _
+command_spares t told exp (command.BlockJobCancel id force) h j one none asks = ask_command t id _ (cancel_ends (flag_or_false force))
+command_spares t told exp (command.BlockJobComplete id) h j one none asks = ask_command t id _ (λ job same. absurd cc)
 command_spares t told exp command.QueryBlockJobs h j one none asks = inl tt
 command_spares t told exp (command.QueryNamedBlockNodes flat) h j one none asks = inl tt
 command_spares t told exp (command.BitmapAdd c) h j one none asks = inr (inr (add_bitmap_command t told h.stands c asks))

@@ -362,7 +362,7 @@ module _ (w u : WorldSeen) (c : Cmd) (refusal' : Option Refusal) (is : IsCarried
 
         files-now : TargetFilesStand now
         files-now =
-            as-changes (λ cs. TargetFilesStand (all_stepped s cs)) (answer_files s is.told c w.works w.progress.aside rest-s kept-s starts-s shows.table.rest.started going.files)
+            as-changes (λ cs. TargetFilesStand (all_stepped s cs)) (answer_files s is.told c w.works w.progress.aside rest-s kept-s starts-s going.files)
 
         unsure-now : HeldAreUnsure now
         unsure-now =

@@ -19,6 +19,7 @@ use Rattle.qmp_rules.specs.declared.change.Change.TheVariants as change
 use Rattle.qmp_rules.specs.declared.refusal.Refusal.{Refusal}
 use Rattle.qmp_rules.specs.declared.refusal.Refusal.TheVariants as refusal
 use Rattle.qmp_rules.specs.declared.rows.AskedEnd.{AskedEnd}
+use Rattle.qmp_rules.specs.declared.rows.AskedEnd.TheVariants as asked
 use Rattle.qmp_rules.specs.declared.rows.DeviceRow.{DeviceRow}
 use Rattle.qmp_rules.specs.declared.rows.JobRecord.{JobRecord}
 use Rattle.qmp_rules.specs.declared.rows.NodeRecord.{NodeRecord}
@@ -42,6 +43,7 @@ use Rattle.world_parts.proofs.Accepted.{built_accepted}
 abbrev pub keeps_bitmaps : Cmd → Bool
 keeps_bitmaps (command.BlockdevDel name) = false
 keeps_bitmaps (command.BlockdevBackup c) = false
+keeps_bitmaps (command.BlockdevMirror c) = false
 keeps_bitmaps (command.BitmapAdd c) = false
 keeps_bitmaps (command.BitmapRemove c) = false
 keeps_bitmaps (command.BitmapClear c) = false
@@ -54,6 +56,7 @@ pub kept-bitmaps : (t : RunTable) (c : Cmd) (first : Option Refusal) (old now : 
 kept-bitmaps t c (Some cause) old now keeps same = same
 kept-bitmaps t (command.BlockdevDel name) None old now keeps same = absurd cc
 kept-bitmaps t (command.BlockdevBackup c) None old now keeps same = absurd cc
+kept-bitmaps t (command.BlockdevMirror c) None old now keeps same = absurd cc
 kept-bitmaps t (command.BitmapAdd c) None old now keeps same = absurd cc
 kept-bitmaps t (command.BitmapRemove c) None old now keeps same = absurd cc
 kept-bitmaps t (command.BitmapClear c) None old now keeps same = absurd cc
@@ -129,6 +132,7 @@ module _ (t : RunTable) (told : Told) where
   edits-leave (command.DeviceDel id) keeps built = removed-leaves (device_named t id)
   edits-leave (command.BlockdevSnapshot c) keeps built = refl
   edits-leave (command.BlockJobCancel id force) keeps built = asked-leaves (job_named t id) (asked_by_cancel (flag_or_false force))
+  edits-leave (command.BlockJobComplete id) keeps built = asked-leaves (job_named t id) (λ job. asked.Complete)
   edits-leave command.QueryBlockJobs keeps built = refl
   edits-leave (command.QueryNamedBlockNodes flat) keeps built = refl
   edits-leave _ keeps built = absurd cc

@@ -176,4 +176,5 @@ whole-new files earlier room faults failed guests spare =
       counted = omega arith;
       bitmaps = record { listed = refl; single = tt; each = λ row there. absurd (omega (arith, there.1)) };
       jobs = jobs-new guests;
+      drains = record { each = λ k d within. absurd (omega arith); once = λ i j d less within. absurd (omega arith) };
     }

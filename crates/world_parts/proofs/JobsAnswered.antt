@@ -17,6 +17,7 @@ use Rattle.qmp_rules.specs.declared.change.Change.TheVariants as change
 use Rattle.qmp_rules.specs.declared.refusal.Refusal.{Refusal}
 use Rattle.qmp_rules.specs.declared.refusal.Refusal.TheVariants as refusal
 use Rattle.qmp_rules.specs.declared.rows.AskedEnd.{AskedEnd}
+use Rattle.qmp_rules.specs.declared.rows.AskedEnd.TheVariants as asked
 use Rattle.qmp_rules.specs.declared.rows.JobRecord.{JobRecord}
 use Rattle.qmp_rules.specs.declared.told.Told.{Told}
 use Rattle.qmp_rules.specs.Answers.{answer, answer_by, command_edits, left_by, out_of_turn, refusal_behind, refusal_to, unbuilt}
@@ -40,12 +41,12 @@ use Rattle.job_tables.specs.Changes.{AllLeaveJobs}
 use Rattle.job_tables.specs.Running.{AllLeaveDisks}
 use Rattle.job_tables.specs.TargetFiles.{TargetFilesStand}
 use Rattle.job_tables.proofs.Changes.{changes_leave_jobs}
-use Rattle.job_tables.proofs.Commands.{accepted_keep_jobs, accepted_leave}
+use Rattle.job_tables.proofs.Commands.{accepted_leave, others_keep_jobs}
 use Rattle.job_tables.proofs.Copiers.{spoiled_copies}
 use Rattle.job_tables.proofs.CopierCommands as copiers
 use Rattle.job_tables.proofs.Failed.{failed_files, spoils_free, unmet}
 use Rattle.job_tables.proofs.Runs.{changes_leave_run}
-use Rattle.job_tables.proofs.TargetEvents.{accepted_files}
+use Rattle.job_tables.proofs.TargetFiles.{all_spared_files, changes_leave_files}
 use Rattle.job_entries.specs.Found.{HaveBegun}
 use Rattle.job_entries.proofs.Found.{leaving_begun, snapshot_begun}
 use Rattle.job_ends.specs.Images.{HeldAreUnsure}
@@ -60,8 +61,9 @@ use Rattle.job_commands.proofs.Copies.{command_belongs, command_goes}
 use Rattle.job_commands.proofs.Failed.{failure_belongs, failure_goes}
 use Rattle.job_commands.proofs.Shapes.{ChangesBitmap, MayChange, command_spares}
 use Rattle.job_commands.proofs.Spared.{all_sparing_keep_jobs}
-use Rattle.world_parts.specs.Coherent.{AreJobsKept, IsLoneBackup, IsWholeWorld, entries_owed, entries_owed_by}
+use Rattle.world_parts.specs.Coherent.{AreDrainsKept, AreJobsKept, IsLoneCopy, IsWholeWorld, entries_owed, entries_owed_by}
 use Rattle.world_parts.specs.Face.{WorldSeen}
+use Rattle.world_parts.proofs.DrainsKept.{AskedStay, asked_further, asked_same, drains_stay}
 use Rattle.world_parts.proofs.DrawnEdges.{drawn_by_nodes}
 
 -- it is no transaction, and begins no job
@@ -92,10 +94,10 @@ module _ (number : ℕ) (new : AskedEnd) where
   owe_asked (row ∷ rows) =
       ap (λ n. n + entries_owed_by (map (asked_for number new) rows)) (owes_asked row) ∙ ap (λ n. entries_owed row + n) (owe_asked rows)
 
-  lone_asked : (row : JobRecord) → IsLoneBackup row → IsLoneBackup (asked_for number new row)
+  lone_asked : (row : JobRecord) → IsLoneCopy row → IsLoneCopy (asked_for number new row)
   lone_asked row is = by_test (row.number == number)
     where
-      by_test : (b : Bool) → IsLoneBackup (cond b (record row { asked = followed row.asked new }) row)
+      by_test : (b : Bool) → IsLoneCopy (cond b (record row { asked = followed row.asked new }) row)
       by_test true = record { kind = is.kind; group = is.group }
       by_test false = is
 
@@ -107,29 +109,31 @@ number_asked number new row = by_test (row.number == number)
     by_test false = refl
 
 abbrev AllLone : List JobRecord → Type 0
-AllLone rows = (row : JobRecord) → Contains rows row → IsLoneBackup row
+AllLone rows = (row : JobRecord) → Contains rows row → IsLoneCopy row
 
 abbrev DifferInNumber : JobRecord → JobRecord → Type 0
 DifferInNumber a b = a.number ≢ b.number
 
--- rows like these are as many entries owed by, lone backups still, and of other numbers each
-record OwesAsMuch (old new : List JobRecord) : Type 0 where
-  owed : entries_owed_by new ≡ entries_owed_by old
-  lone : AllLone old → AllLone new
-  once : AllPairs DifferInNumber old → AllPairs DifferInNumber new
+-- rows like these are as many entries owed by, lone copies still, and of other numbers each, and what they were asked for is so
+record OwesAsMuch (t now : RunTable) : Type 0 where
+  owed : entries_owed_by now.jobs ≡ entries_owed_by t.jobs
+  lone : AllLone t.jobs → AllLone now.jobs
+  once : AllPairs DifferInNumber t.jobs → AllPairs DifferInNumber now.jobs
+  asked : AskedStay t now
 
-owed_same : (old new : List JobRecord) → new ≡ old → OwesAsMuch old new
-owed_same old new same = subst (OwesAsMuch old) (sym same) (record { owed = refl; lone = λ was. was; once = λ was. was })
+owed_same : (t now : RunTable) → now.jobs ≡ t.jobs → OwesAsMuch t now
+owed_same t now same = record { owed = ap entries_owed_by same; lone = subst AllLone (sym same); once = subst (AllPairs DifferInNumber) (sym same); asked = asked_same t now same }
 
-owed_asked : (t : RunTable) (number : ℕ) (new : AskedEnd) → OwesAsMuch t.jobs (changed t (change.AskJob number new)).jobs
+owed_asked : (t : RunTable) (number : ℕ) (new : AskedEnd) → new ≢ asked.Nothing → OwesAsMuch t (changed t (change.AskJob number new))
 unfolding changed
-owed_asked t number new = record {
+owed_asked t number new ends = record {
   owed = owe_asked number new t.jobs;
   lone = λ was row there.
       let of = Contains-map (asked_for number new) t.jobs row there in
-      subst IsLoneBackup (sym of.2) (lone_asked number new of.0 (was of.0 of.1));
+      subst IsLoneCopy (sym of.2) (lone_asked number new of.0 (was of.0 of.1));
   once = map_pairs DifferInNumber (asked_for number new) t.jobs
       (λ a b at_a at_b apart same. apart (sym (number_asked number new a) ∙ same ∙ number_asked number new b));
+  asked = asked_further t (changed t (change.AskJob number new)) number new ends refl;
 }
 
 bitmap_jobs : (t : RunTable) (c : Change) → ChangesBitmap t c → (changed t c).jobs ≡ t.jobs
@@ -138,13 +142,13 @@ bitmap_jobs t (change.AddBitmap row) is = refl
 bitmap_jobs t (change.RemoveBitmap node name) is = refl
 bitmap_jobs t _ never = absurd never
 
-owed_by_changes : (t : RunTable) (changes : List Change) → MayChange t changes → OwesAsMuch t.jobs (all_changed t changes).jobs
-owed_by_changes t changes (inl spares) = owed_same t.jobs (all_changed t changes).jobs (all_sparing_keep_jobs t changes t spares)
+owed_by_changes : (t : RunTable) (changes : List Change) → MayChange t changes → OwesAsMuch t (all_changed t changes)
+owed_by_changes t changes (inl spares) = owed_same t (all_changed t changes) (all_sparing_keep_jobs t changes t spares)
 owed_by_changes t changes (inr (inl asks)) =
-    subst (λ (cs : List Change). OwesAsMuch t.jobs (all_changed t cs).jobs) (sym asks.is) (owed_asked t asks.number asks.new)
+    subst (λ (cs : List Change). OwesAsMuch t (all_changed t cs)) (sym asks.is) (owed_asked t asks.number asks.new asks.ends)
 owed_by_changes t changes (inr (inr bitmap)) =
-    subst (λ (cs : List Change). OwesAsMuch t.jobs (all_changed t cs).jobs) (sym bitmap.is)
-    (owed_same t.jobs (changed t bitmap.one).jobs (bitmap_jobs t bitmap.one bitmap.leaves))
+    subst (λ (cs : List Change). OwesAsMuch t (all_changed t cs)) (sym bitmap.is)
+    (owed_same t (changed t bitmap.one) (bitmap_jobs t bitmap.one bitmap.leaves))
 
 -- ---- accepted
 
@@ -160,7 +164,7 @@ pub own_edits : (t : RunTable) (told : Told) (c : Cmd) → IsOneCommand c → co
 own_edits t told (command.Transaction c) one = absurd one
 own_edits t told c one = refl
 
-module _ (t : RunTable) (told : Told) (c : Cmd) (works : List JobWork) (aside : ℕ) (rest : TableAtRest t) (drawn : EdgesAreDrawn t) (was : AreJobsKept t works aside)
+module _ (t : RunTable) (told : Told) (c : Cmd) (works : List JobWork) (aside : ℕ) (rest : TableAtRest t) (was : AreJobsKept t works aside)
     (none : refusal_to t told c ≡ None) (starts : StartsNoJob t c) where
   met : IsMet t told c
   met = met_of t told c none
@@ -168,15 +172,15 @@ module _ (t : RunTable) (told : Told) (c : Cmd) (works : List JobWork) (aside : 
   go_on : JobsGoOn (all_changed t (edits_of t told c))
   go_on =
       subst (λ (cs : List Change). JobsGoOn (all_changed t cs)) (own_edits t told c starts.one)
-      (accepted_keep_jobs t told told c rest (record { stand = was.stand; run = was.run }) none)
+      (others_keep_jobs t told told c rest (record { stand = was.stand; run = was.run }) none (begins_not t c starts))
 
-  rows : OwesAsMuch t.jobs (all_changed t (edits_of t told c)).jobs
+  rows : OwesAsMuch t (all_changed t (edits_of t told c))
   rows =
       owed_by_changes t (edits_of t told c)
       (command_spares t told told c rest was.stand starts.one starts.none (none-holds t told (asks_of c) met.asks))
 
-  accepted_kept : AreJobsKept (all_changed t (command_edits t told c)) works aside
-  accepted_kept =
+  accepted_kept : EdgesAreDrawn t → AreJobsKept (all_changed t (command_edits t told c)) works aside
+  accepted_kept drawn =
       let own = own_edits t told c starts.one in
       subst (λ (cs : List Change). AreJobsKept (all_changed t cs) works aside) (sym own)
       (record {
@@ -192,6 +196,9 @@ module _ (t : RunTable) (told : Told) (c : Cmd) (works : List JobWork) (aside : 
         room = was.room ∙ sym rows.owed;
         lone = rows.lone was.lone;
       })
+
+  accepted_asked : AskedStay t (all_changed t (command_edits t told c))
+  accepted_asked = subst (λ (cs : List Change). AskedStay t (all_changed t cs)) (sym (own_edits t told c starts.one)) rows.asked
 
 -- ---- a creation of which a call failed
 
@@ -214,7 +221,7 @@ module _ (t : RunTable) (told : Told) (c : BlockdevCreate (List ℕ)) (cause : R
   failed_kept : (works : List JobWork) (aside : ℕ) → AreJobsKept t works aside → AreJobsKept (all_changed t (spoiled t c.options)) works aside
   failed_kept works aside was =
       let suits = spoiled_suits t c.options in
-      let rows = owed_same t.jobs (all_changed t (spoiled t c.options)).jobs (spoiled_jobs t c.options) in
+      let rows = owed_same t (all_changed t (spoiled t c.options)) (spoiled_jobs t c.options) in
       record {
         stand = changes_leave_jobs (spoiled t c.options) t stands j suits leaves.0;
         run = changes_leave_run (spoiled t c.options) t stands j suits leaves.0 leaves.1 was.run;
@@ -255,7 +262,7 @@ answered_as t told c P accepted nothing spoils = by_refusal (refusal_to t told c
 pub jobs_answered : (t : RunTable) (told : Told) (c : Cmd) (works : List JobWork) (aside : ℕ) → TableAtRest t → EdgesAreDrawn t
     → (refusal_to t told c ≡ None → StartsNoJob t c) → AreJobsKept t works aside → AreJobsKept (all_changed t (answer t told c).changes) works aside
 jobs_answered t told c works aside rest drawn starts was = answered_as t told c (λ changes. AreJobsKept (all_changed t changes) works aside)
-    (λ none. accepted_kept t told c works aside rest drawn was none (starts none)) was
+    (λ none. accepted_kept t told c works aside rest was none (starts none) drawn) was
     (λ create cause some placeless. failed_kept t told create cause rest.stands was.stand some placeless works aside was)
 
 pub jobs_kept : (w : WorldSeen) → IsWholeWorld w → IsJoined w.nodes → (c : Cmd) (told : Told) (u : RunTable) → (refusal_to w.table told c ≡ None → StartsNoJob w.table c)
@@ -265,6 +272,18 @@ jobs_kept w whole joined c told u starts is =
     let drawn = (drawn_by_nodes w.table w.nodes rest.stands.apart whole.coherent.alike joined).0 in
     subst (λ (t : RunTable). AreJobsKept t w.works w.progress.aside) (sym is)
     (jobs_answered w.table told c w.works w.progress.aside rest drawn starts whole.jobs)
+
+-- those that hold a disk are asked to end still
+pub drains_kept : (w : WorldSeen) → IsWholeWorld w → IsJoined w.nodes → (c : Cmd) (told : Told) (u : RunTable) → (refusal_to w.table told c ≡ None → StartsNoJob w.table c)
+    → u ≡ all_changed w.table (answer w.table told c).changes → AreDrainsKept u w.drains
+drains_kept w whole joined c told u starts is =
+    let t : RunTable = w.table in
+    drains_stay t u w.drains
+    (subst (AskedStay t) (sym is)
+    (answered_as t told c (λ changes. AskedStay t (all_changed t changes))
+    (λ none. accepted_asked t told c w.works w.progress.aside whole.coherent.table whole.jobs none (starts none)) (λ job was. was)
+    (λ create cause some placeless. asked_same t (all_changed t (spoiled t create.options)) (spoiled_jobs t create.options))))
+    whole.drains
 
 -- ---- where the store tells its files
 
@@ -299,9 +318,17 @@ module _ (s : State) (told : Told) (c : Cmd) (works : List JobWork) (aside : ℕ
       all_leaving_held (spoiled s.table create.options) s rest.stands was.stand (spoiled_suits s.table create.options)
       (leaves s.table told create cause rest.stands was.stand some placeless).0 unsure)
 
+  accepted_files : refusal_to s.table told c ≡ None → TargetFilesStand s → TargetFilesStand (behind (command_edits s.table told c))
+  accepted_files none files = elim (accepted_leave s.table told told c (begins_not s.table c (starts none)) rest was.stand none) [
+    | inl l ↦ changes_leave_files (command_edits s.table told c) s rest.stands was.stand l.0 l.1.0 l.1.1 files
+    | inr of ↦
+        subst (λ (cs : List Change). TargetFilesStand (behind cs)) (sym of.is)
+        (all_spared_files (change.Attach of.overlay of.node ∷ change.Move of.node of.overlay of.overlay ∷ []) s (tt, (tt, tt)) files)
+  ]
+
   -- the files that they write
-  pub answer_files : s.starts ≡ s.table.started → TargetFilesStand s → TargetFilesStand (behind (answer s.table told c).changes)
-  answer_files started files = answered_as s.table told c (λ changes. TargetFilesStand (behind changes)) (λ none. accepted_files s told told c rest was.stand was.run started none files) files
+  pub answer_files : TargetFilesStand s → TargetFilesStand (behind (answer s.table told c).changes)
+  answer_files files = answered_as s.table told c (λ changes. TargetFilesStand (behind changes)) (λ none. accepted_files none files) files
       (λ create cause some placeless. failed_files s told create cause rest.stands was.stand some placeless files)
 
   -- how far they have come

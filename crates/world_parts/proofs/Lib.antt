@@ -24,6 +24,8 @@ pub mod ImageTold
 pub mod Rows
 pub mod InStep
 pub mod InTheWayLemmas
+pub mod DrainedDisks
+pub mod DrainsKept
 pub mod DrawnEdges
 pub mod JobsAnswered
 pub mod WholeDisks

@@ -44,6 +44,14 @@ fn is_source(names: &Names, node: NodeId, job: u32) -> bool
     }
 }
 
+/// Whether the source of one of these jobs is that node.
+#[tactic(auto, using(crate::proofs::DrainedDisks::source_by_source))]
+fn is_source_of_one(names: &Names, node: NodeId, jobs: &[u32]) -> bool
+    ensures { result ≡ list_any (is_on names.now.table node) (job_disks names.now.table jobs.now) }
+{
+    jobs.iter().any(|job| is_source(names, node, *job))
+}
+
 impl Drained {
     /// No disk is held.
     pub fn none(alloc: Global) -> Result<Self, NoMemory>
@@ -70,12 +78,19 @@ impl Drained {
         self.disks.clear();
     }
 
+    /// Whether a job holds its source.
+    fn holds_for(&self, job: u32) -> bool
+        ensures { result ≡ is_listed job self.now.jobs }
+    {
+        self.jobs.iter().any(|other| *other == job)
+    }
+
     /// Holds the source of a job that is asked to end. Takes no memory.
     pub fn hold_for(&mut self, job: u32)
         requires { (is_listed job self.old.jobs ≡ true) ⊎ (length self.old.jobs < 16) }
         ensures { self.new ≡ after_turn job self.old }
     {
-        if !self.jobs.iter().any(|other| *other == job) {
+        if !self.holds_for(job) {
             self.jobs.push_reserved(job);
         }
     }
@@ -92,7 +107,7 @@ impl Drained {
         ensures { result ≡ holds_disk names.now.table self.now (Some node) }
     {
         is_on_one(names, node, self.disks.as_slice())
-            || self.jobs.iter().any(|job| is_source(names, node, *job))
+            || is_source_of_one(names, node, self.jobs.as_slice())
     }
 }
 
