@@ -30,6 +30,7 @@ pub mod EndWorld
 pub mod Ends
 pub mod ReadyKept
 pub mod Readies
+pub mod CopyStarts
 pub mod StartTables
 pub mod StartNodes
 pub mod StartReads

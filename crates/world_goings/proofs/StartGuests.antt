@@ -1,4 +1,4 @@
--- What is so of guests behind the start of a backup: drives on its source are on its filter then, and disks stay.
+-- What is so of guests behind the start of a backup or a mirror: drives on its source are on its filter then, and disks stay.
 use Rattle.std.proofs.Common.{◌≡◌, ◌≢◌, ℕ, zero, suc, ◌≤◌, ◌==◌, false, List, Option, Some, None, refl, sym, ◌∙◌, ap, subst, inl, inr, ◌⊎◌}
 use Rattle.std.specs.Prelude.{IsSome, find, option_and_then, option_map, unwrap_or}
 use Rattle.std.proofs.lemmas.Bool.{cases_eq, eq-eqb, eqb-true, ne_eqb}

@@ -1,16 +1,14 @@
--- What is kept of jobs and bitmaps behind the start of a backup.
-use Rattle.std.proofs.Common.{◌≡◌, ◌≢◌, ◌⊎◌, length, ℕ, zero, suc, ◌+◌, ◌<◌, ◌≤◌, ◌^◌, List, [], ◌∷◌, ◌++◌, map, refl, sym, ◌∙◌, ap, subst, arith, le_refl, Option, Some, None, inl, inr}
+-- What is kept of jobs and bitmaps behind the start of a backup or a mirror.
+use Rattle.std.proofs.Common.{◌≡◌, ◌≢◌, ◌⊎◌, length, ℕ, zero, suc, ◌+◌, ◌<◌, ◌≤◌, ◌^◌, Bool, cond, List, [], ◌∷◌, ◌++◌, map, refl, sym, ◌∙◌, ap, subst, arith, le_refl, Option, Some, None, inl, inr}
 use Rattle.std.specs.Prelude.{AllPairs, Contains, option_and_then, slice_index_or}
 use Rattle.std.proofs.lemmas.List.Kept.{AllPairs-cons}
 use Rattle.blk_bitmaps.specs.declared.row.Bitmap.{Bitmap}
 use Rattle.blk_graph.proofs.Members.{Contains-cases, Contains-here, Contains-nil, Contains-there, find-Some}
 use Rattle.blk_graph.proofs.RoleLemmas.{head_pairs, tail_pairs}
 use Rattle.block_jobs.specs.Work.{IsJobWork, JobWork, room_for}
-use Rattle.qmp_codec.specs.declared.command.Command.TheVariants.{BlockdevBackup}
-use Rattle.qmp_codec.specs.declared.jobs.Backup.{Backup}
 use Rattle.qmp_rules.specs.Answers.{command_edits}
 use Rattle.qmp_rules.specs.Changes.{all_changed, busy_by}
-use Rattle.qmp_rules.specs.Edits.{backup_job, edits_of}
+use Rattle.qmp_rules.specs.Edits.{edits_of}
 use Rattle.qmp_rules.specs.Queries.{bytes_of_node}
 use Rattle.qmp_rules.specs.Table.{RunTable, job_at, node_by_id}
 use Rattle.qmp_rules.specs.declared.rows.JobRecord.{JobRecord}
@@ -23,6 +21,7 @@ use Rattle.flat_machine.specs.Marking.{made_dirty, where_recording}
 use Rattle.flat_machine.specs.State.{Dirty, State}
 use Rattle.flat_machine.specs.Wiring.{TableAtRest, TableStands}
 use Rattle.flat_machine.proofs.InUse.{all_dirtied, use_begins}
+use Rattle.job_commands.specs.Begun.{CopyCmd, cmd_of, copy_job}
 use Rattle.job_commands.specs.Bitmaps.{UsesStand}
 use Rattle.job_commands.specs.Granules.{GranulesStand}
 use Rattle.job_commands.proofs.BitmapCommands.{command_uses}
@@ -37,9 +36,9 @@ use Rattle.job_tables.specs.Accepted.{IsMet, JobsAreDrawn}
 use Rattle.job_tables.specs.Jobs.{JobsStand}
 use Rattle.job_tables.specs.Copiers.{CopiesGo}
 use Rattle.job_tables.proofs.RowEdges.{in_either}
-use Rattle.job_tables.proofs.StartCommands.{backup_goes, kept_backup}
-use Rattle.world_parts.specs.Coherent.{AreJobsKept, IsLoneBackup, entries_owed, entries_owed_by}
+use Rattle.world_parts.specs.Coherent.{AreJobsKept, IsLoneCopy, entries_owed, entries_owed_by}
 use Rattle.world_parts.specs.Jobs.{bitmaps_begun, filled_for, frozen_for}
+use Rattle.world_goings.proofs.CopyStarts.{IsNewCopy, begins_row, command_starts, copy_drawn, copy_goes, edits_start, new_copy, one_command}
 
 -- ---- what is dirty of bitmaps
 
@@ -106,29 +105,31 @@ once_pushed (x ∷ rows) new once apart =
       | inr none ↦ absurd (Contains-nil y none)
     ]
 
-module _ (t u : RunTable) (told exp : Told) (c : Backup (List ℕ)) (works : List JobWork) (aside : ℕ) (was : AreJobsKept t works aside) (h : TableStands t) (drawn : JobsAreDrawn t)
-    (met : IsMet t told (BlockdevBackup c)) (table_is : u ≡ all_changed t (command_edits t exp (BlockdevBackup c))) (jobs_are : u.jobs ≡ t.jobs ++ backup_job t None c ∷ [])
-    (size_is : bytes_of_node u (backup_job t None c).source ≡ bytes_of_node t (backup_job t None c).source)
-    (small : bytes_of_node t (backup_job t None c).source ≤ 2 ^ 47) where
+module _ (t u : RunTable) (told exp : Told) (c : CopyCmd) (works : List JobWork) (aside : ℕ) (was : AreJobsKept t works aside) (h : TableStands t) (drawn : JobsAreDrawn t)
+    (met : IsMet t told (cmd_of c)) (table_is : u ≡ all_changed t (command_edits t exp (cmd_of c))) (jobs_are : u.jobs ≡ t.jobs ++ copy_job t c ∷ [])
+    (size_is : bytes_of_node u (copy_job t c).source ≡ bytes_of_node t (copy_job t c).source)
+    (small : bytes_of_node t (copy_job t c).source ≤ 2 ^ 47) where
   abbrev row : JobRecord
-  row = backup_job t None c
+  row = copy_job t c
 
-  same_changes : all_changed t (command_edits t told (BlockdevBackup c)) ≡ u
-  unfolding edits_of
-  same_changes = sym table_is
+  new : IsNewCopy t (copy_job t c)
+  new = new_copy t c
+
+  same_changes : all_changed t (edits_of t told (cmd_of c)) ≡ u
+  same_changes = ap (all_changed t) (edits_start t told c ∙ sym (command_starts t exp c)) ∙ sym table_is
 
   pub drawn_next : JobsAreDrawn u
-  drawn_next = subst JobsAreDrawn same_changes (kept_backup t told c h drawn met)
+  drawn_next = subst JobsAreDrawn same_changes (copy_drawn t told h drawn c met)
 
-  pub found_next : job_at u (backup_job t None c).number ≡ Some (backup_job t None c)
+  pub found_next : job_at u (copy_job t c).number ≡ Some (copy_job t c)
   found_next =
       subst (λ (x : RunTable). job_at x row.number ≡ Some row) same_changes
-      (command_found t told told (BlockdevBackup c) row was.stand was.run met refl)
+      (command_found t told told (cmd_of c) row was.stand was.run met (begins_row t c))
 
   others_belong : (s : State) → s.table ≡ u → AreWorksOf (without_row row.number s.table) works
   others_belong s table =
       subst (λ (x : RunTable). AreWorksOf (without_row row.number x) works) (same_changes ∙ sym table)
-      (command_begins t told told (BlockdevBackup c) row works was.stand was.run was.belong met refl)
+      (command_begins t told told (cmd_of c) row works was.stand was.run was.belong met (begins_row t c))
 
   found_in : (s : State) → s.table ≡ u → job_at s.table row.number ≡ Some row
   found_in s table = ap (λ (x : RunTable). job_at x row.number) table ∙ found_next
@@ -137,24 +138,24 @@ module _ (t u : RunTable) (told exp : Told) (c : Backup (List ℕ)) (works : Lis
   kept_of rest work belong = record {
     stand = drawn_next.jobs.stand;
     run = drawn_next.jobs.run;
-    copies = subst CopiesGo same_changes (backup_goes t told c h was.stand was.run met was.copies);
-    rows = subst (λ (x : RunTable). AreCopyRows x.jobs) same_changes (command_rows t told (BlockdevBackup c) was.rows);
+    copies = subst CopiesGo same_changes (copy_goes t told h was.stand was.run drawn.edges c met was.copies);
+    rows = subst (λ (x : RunTable). AreCopyRows x.jobs) (sym table_is) (command_rows t exp (cmd_of c) was.rows);
     once =
         subst (AllPairs DifferInNumber) (sym jobs_are)
-        (once_pushed t.jobs row was.once (λ other there same. let less = was.run.numbers other there in let own : row.number ≡ t.started = refl in omega (arith, less, same, own)));
-    uses = subst UsesStand same_changes (command_uses t told told (BlockdevBackup c) rest was.stand was.run tt met was.uses);
+        (once_pushed t.jobs row was.once (λ other there same. let less = was.run.numbers other there in let own = new.number in omega (arith, less, same, own)));
+    uses = subst UsesStand same_changes (command_uses t told told (cmd_of c) rest was.stand was.run (one_command c) met was.uses);
     belong = belong;
     room =
         let owed = owed_pushed t.jobs row in
         let all : entries_owed_by u.jobs ≡ entries_owed_by (t.jobs ++ row ∷ []) = ap entries_owed_by jobs_are in
-        let two : entries_owed row ≡ 2 = refl in
+        let two : entries_owed row ≡ 2 = ap (λ (b : Bool). cond b 1 2) new.yet in
         let before = was.room in
         omega (arith, owed, all, two, before);
     lone = λ other there.
         elim (in_either t.jobs (row ∷ []) other (subst (λ (rows : List JobRecord). Contains rows other) jobs_are there)) [
           | inl old ↦ was.lone other old
           | inr last ↦ elim (Contains-cases row [] other last) [
-            | inl same ↦ subst IsLoneBackup (sym same) (record { kind = refl; group = refl })
+            | inl same ↦ subst IsLoneCopy (sym same) (record { kind = new.kind; group = new.group })
             | inr none ↦ absurd (Contains-nil other none)
           ]
         ];
@@ -165,15 +166,15 @@ module _ (t u : RunTable) (told exp : Told) (c : Backup (List ℕ)) (works : Lis
   begun_is size (Some d) = record { job = refl; size_is = refl; room = le_refl (room_for row.kind size) }
 
   -- where its work is one
-  pub kept_by : TableAtRest t → (s : State) → s.table ≡ u → IsJobWork (work_begun s (backup_job t None c))
-      → AreJobsKept u (works ++ work_begun s (backup_job t None c) ∷ []) (aside + 2)
+  pub kept_by : TableAtRest t → (s : State) → s.table ≡ u → IsJobWork (work_begun s (copy_job t c))
+      → AreJobsKept u (works ++ work_begun s (copy_job t c) ∷ []) (aside + 2)
   kept_by rest s table sound =
       kept_of rest (work_begun s row)
       (subst (λ (x : RunTable). AreWorksOf x (works ++ work_begun s row ∷ [])) table
       (begun_belongs s.table row works (work_begun s row) (subst JobsStand (sym table) drawn_next.jobs.stand) (found_in s table) (others_belong s table)
       (begun_is (bytes_of_node s.table row.source) (granules_of s row row.bitmap)) sound))
 
-  pub kept_next : TableAtRest t → (s : State) → s.table ≡ u → GranulesStand t s.dirty → AreJobsKept u (works ++ work_begun s (backup_job t None c) ∷ []) (aside + 2)
+  pub kept_next : TableAtRest t → (s : State) → s.table ≡ u → GranulesStand t s.dirty → AreJobsKept u (works ++ work_begun s (copy_job t c) ∷ []) (aside + 2)
   kept_next rest s table granules =
       kept_of rest (work_begun s row)
       (subst (λ (x : RunTable). AreWorksOf x (works ++ work_begun s row ∷ [])) table

@@ -1,4 +1,4 @@
--- The nodes behind the start of a backup: they are the table's, its filter reads as its source, and all else as before.
+-- The nodes behind the start of a backup or a mirror: they are the table's, its filter reads as its source, and all else as before.
 use Rattle.std.proofs.Common.{◌≡◌, ◌≢◌, ℕ, zero, suc, ◌<◌, ◌≤◌, ◌==◌, Bool, true, false, not, cond, List, [], ◌∷◌, ◌++◌, map, length, set, get_or, Option, Some, None, refl, sym, ◌∙◌, ap, subst, arith, inl, inr}
 use Rattle.std.specs.Prelude.{Contains, IsSome, find, option_map}
 use Rattle.std.proofs.lemmas.Bool.{cases_eq, cases_lt, eqb-true, ne_eqb}

@@ -1,4 +1,4 @@
--- What nodes read as behind the start of a backup: its filter as its source, and all others as before.
+-- What nodes read as behind the start of a backup or a mirror: its filter as its source, and all others as before.
 use Rattle.std.proofs.Common.{◌≡◌, ◌≢◌, ℕ, ◌<◌, ◌==◌, cond, List, Option, Some, None, refl, sym, ◌∙◌, ap, subst, inl, inr}
 use Rattle.std.specs.Prelude.{IsSome, option_map}
 use Rattle.std.proofs.lemmas.Bool.{cases_eq, eq-eqb, ne_eqb}

@@ -1,14 +1,12 @@
--- The reply to an accepted backup, behind which its job begins: what it leaves of the world.
-use Rattle.std.proofs.Common.{◌≡◌, ℕ, ◌+◌, List, refl, ◌∙◌, ap, subst, arith, Option, Some, None, Ok}
+-- The reply to an accepted backup or mirror, behind which its job begins: what it leaves of the world.
+use Rattle.std.proofs.Common.{◌≡◌, ℕ, ◌+◌, List, [], refl, ◌∙◌, ap, subst, arith, Option, Some, None, Ok}
 use Rattle.blk_base.specs.declared.fault.FaultFrom.{FaultFrom}
 use Rattle.blk_base.specs.declared.fault.FaultFrom.TheVariants.{Dev, Sink, Store}
 use Rattle.blk_base.specs.declared.fault.FaultAt.{FaultAt}
+use Rattle.blk_bitmaps.specs.declared.row.Bitmap.{Bitmap}
 use Rattle.qmp_codec.specs.Lines.{command_at}
-use Rattle.qmp_codec.specs.declared.command.Command.TheVariants.{BlockdevBackup}
-use Rattle.qmp_codec.specs.declared.jobs.Backup.{Backup}
-use Rattle.qmp_rules.specs.Answers.{answer, answer_by, answer_for, command_edits, line_answer, refusal_to}
+use Rattle.qmp_rules.specs.Answers.{answer, answer_by, answer_for, command_edits, left_by, line_answer, refusal_to}
 use Rattle.qmp_rules.specs.Changes.{all_changed}
-use Rattle.qmp_rules.specs.Edits.{backup_job}
 use Rattle.qmp_rules.specs.Table.{RunTable}
 use Rattle.qmp_rules.specs.declared.refusal.Refusal.{Refusal}
 use Rattle.qmp_rules.specs.declared.told.Told.{Told}
@@ -16,22 +14,44 @@ use Rattle.flat_machine.specs.EventLicence.{IsCalledBy, IsCommandsFault, Sources
 use Rattle.flat_machine.specs.Licence.{Counts, named_in}
 use Rattle.flat_machine.specs.Recording.{dirty_after}
 use Rattle.flat_machine.specs.Replies.{command_read}
+use Rattle.job_commands.specs.Begun.{CopyCmd, OfBackup, OfMirror, cmd_of, copy_job}
 use Rattle.world_parts.specs.Carrying.{IsReplied, reply_entry}
 use Rattle.world_parts.specs.Counting.{seen_sources}
 use Rattle.world_parts.specs.Face.{WorldSeen, counts_now, dirty_of}
 use Rattle.world_parts.specs.Jobs.{PutsFilter}
-use Rattle.world_parts.specs.Leaving.{Leaves, LeavesBitmaps, LeavesBitmapsIn, LeavesDone, LeavesIn, clean_told}
+use Rattle.world_parts.specs.Leaving.{Leaves, LeavesBitmaps, LeavesBitmapsIn, LeavesIn, clean_told}
+use Rattle.world_parts.specs.Looking.{Site}
 use Rattle.world_parts.specs.Saying.{Given}
 use Rattle.world_parts.specs.Staging.{site_of}
 use Rattle.world_parts.specs.Stores.{StoreInRun}
 
--- a backup calls nothing
-calls_none : (t : RunTable) (sources : Sources) (before : Counts) (from : FaultFrom) (c : Backup (List ℕ)) → IsCalledBy t sources before from (Some (BlockdevBackup c)) → ⊥
-calls_none t sources before (Dev dev) c bad = bad
-calls_none t sources before Store c bad = bad
-calls_none t sources before Sink c bad = bad
+-- the command calls nothing
+calls_none : (t : RunTable) (sources : Sources) (before : Counts) (from : FaultFrom) (c : CopyCmd) → IsCalledBy t sources before from (Some (cmd_of c)) → ⊥
+calls_none t sources before (Dev dev) (OfBackup c) bad = bad
+calls_none t sources before Store (OfBackup c) bad = bad
+calls_none t sources before Sink (OfBackup c) bad = bad
+calls_none t sources before (Dev dev) (OfMirror c) bad = bad
+calls_none t sources before Store (OfMirror c) bad = bad
+calls_none t sources before Sink (OfMirror c) bad = bad
 
-module _ (w x : WorldSeen) (line : Given) (c : Backup (List ℕ)) (good : command_at line.text ≡ Ok (BlockdevBackup c)) (replied : IsReplied w x line)
+-- refused it changes nothing
+refused_none : (t : RunTable) (c : CopyCmd) (cause : Refusal) → left_by t (cmd_of c) cause ≡ []
+refused_none t (OfBackup c) cause = refl
+refused_none t (OfMirror c) cause = refl
+
+-- accepted it puts its filter over its source, and leaves store and bitmaps
+has_put : (t : RunTable) (told : Told) (c : CopyCmd) (first : Option Refusal) (u : RunTable) (old new : Site) → first ≡ None → Leaves t told (cmd_of c) first u old new
+    → (new.store ≡ old.store) × PutsFilter u (copy_job t c) old.nodes new.nodes
+has_put t told (OfBackup c) None u old new is leaves = leaves
+has_put t told (OfMirror c) None u old new is leaves = leaves
+has_put t told c (Some cause) u old new bad leaves = absurd (let no : ⊥ = cc bad in no)
+
+leaves_bitmaps : (t : RunTable) (c : CopyCmd) (first : Option Refusal) (old new : List Bitmap) → LeavesBitmaps t (cmd_of c) first old new → new ≡ old
+leaves_bitmaps t (OfBackup c) None old new leaves = leaves.are
+leaves_bitmaps t (OfMirror c) None old new leaves = leaves.are
+leaves_bitmaps t c (Some cause) old new leaves = leaves
+
+module _ (w x : WorldSeen) (line : Given) (c : CopyCmd) (good : command_at line.text ≡ Ok (cmd_of c)) (replied : IsReplied w x line)
     (began : x.table.started ≡ w.table.started + 1) where
   abbrev t : RunTable
   t = w.table
@@ -39,60 +59,50 @@ module _ (w x : WorldSeen) (line : Given) (c : Backup (List ℕ)) (good : comman
   abbrev told : Told
   told = replied.told
 
-  line_changes : (first : Option Refusal) → refusal_to t told (BlockdevBackup c) ≡ first
-      → (line_answer t told line.text).changes ≡ (answer_by t told (BlockdevBackup c) first).changes
+  line_changes : (first : Option Refusal) → refusal_to t told (cmd_of c) ≡ first
+      → (line_answer t told line.text).changes ≡ (answer_by t told (cmd_of c) first).changes
   unfolding line_answer answer
   line_changes first is =
-      ap (λ read. (answer_for t told line.text read).changes) good ∙ ap (λ (f : Option Refusal). (answer_by t told (BlockdevBackup c) f).changes) is
+      ap (λ read. (answer_for t told line.text read).changes) good ∙ ap (λ (f : Option Refusal). (answer_by t told (cmd_of c) f).changes) is
 
   -- it was accepted, since a job begins
-  pub accepted : refusal_to t told (BlockdevBackup c) ≡ None
-  accepted = by_first (refusal_to t told (BlockdevBackup c)) refl
+  pub accepted : refusal_to t told (cmd_of c) ≡ None
+  accepted = by_first (refusal_to t told (cmd_of c)) refl
     where
-      by_first : (first : Option Refusal) → refusal_to t told (BlockdevBackup c) ≡ first → first ≡ None
+      by_first : (first : Option Refusal) → refusal_to t told (cmd_of c) ≡ first → first ≡ None
       by_first None is = refl
       by_first (Some cause) is =
-          let same : x.table.started ≡ t.started = ap (λ (u : RunTable). u.started) (replied.table ∙ ap (all_changed t) (line_changes (Some cause) is)) in
+          let same : x.table.started ≡ t.started = ap (λ (u : RunTable). u.started) (replied.table ∙ ap (all_changed t) (line_changes (Some cause) is ∙ refused_none t c cause)) in
           absurd (omega (arith, same, began))
 
-  pub changes_are : (line_answer t told line.text).changes ≡ command_edits t told (BlockdevBackup c)
+  pub changes_are : (line_answer t told line.text).changes ≡ command_edits t told (cmd_of c)
   changes_are = line_changes None accepted
 
-  pub table_is : x.table ≡ all_changed t (command_edits t told (BlockdevBackup c))
+  pub table_is : x.table ≡ all_changed t (command_edits t told (cmd_of c))
   table_is = replied.table ∙ ap (all_changed t) changes_are
 
-  pub dirty_is : dirty_of x ≡ dirty_after t (dirty_of w) (command_edits t told (BlockdevBackup c))
+  pub dirty_is : dirty_of x ≡ dirty_after t (dirty_of w) (command_edits t told (cmd_of c))
   dirty_is = replied.dirty ∙ ap (dirty_after t (dirty_of w)) changes_are
 
-  done : LeavesDone t (BlockdevBackup c) x.table (site_of w) (site_of x)
+  done : (x.opened ≡ w.opened) × (x.files ≡ w.files) × PutsFilter x.table (copy_job t c) w.nodes x.nodes
   done =
-      let leaves : LeavesIn t told (Ok (BlockdevBackup c)) x.table (site_of w) (site_of x) =
-      subst (λ read. LeavesIn t told read x.table (site_of w) (site_of x)) good replied.site in
-      by_refusal (refusal_to t told (BlockdevBackup c)) accepted leaves
-    where
-      by_refusal : (first : Option Refusal) → first ≡ None → Leaves t (clean_told told) (BlockdevBackup c) first x.table (site_of w) (site_of x)
-          → LeavesDone t (BlockdevBackup c) x.table (site_of w) (site_of x)
-      by_refusal None is leaves = leaves
-      by_refusal (Some cause) bad leaves = absurd (let no : ⊥ = cc bad in no)
+      let put = has_put t (clean_told told) c (refusal_to t told (cmd_of c)) x.table (site_of w) (site_of x) accepted
+      (subst (λ read. LeavesIn t told read x.table (site_of w) (site_of x)) good replied.site) in
+      (ap (λ (s : StoreInRun). s.opened) put.0, ap (λ (s : StoreInRun). s.files) put.0, put.1)
 
-  pub puts : PutsFilter x.table (backup_job t None c) w.nodes x.nodes
-  puts = done.1
+  pub puts : PutsFilter x.table (copy_job t c) w.nodes x.nodes
+  puts = done.2
 
   pub opened_same : x.opened ≡ w.opened
-  opened_same = ap (λ (s : StoreInRun). s.opened) done.0
+  opened_same = done.0
 
   pub files_same : x.files ≡ w.files
-  files_same = ap (λ (s : StoreInRun). s.files) done.0
+  files_same = done.1
 
   pub bitmaps_same : x.bitmaps ≡ w.bitmaps
   bitmaps_same =
-      let leaves : LeavesBitmapsIn t told (Ok (BlockdevBackup c)) w.bitmaps x.bitmaps =
-      subst (λ read. LeavesBitmapsIn t told read w.bitmaps x.bitmaps) good replied.bitmaps in
-      by_refusal (refusal_to t told (BlockdevBackup c)) leaves
-    where
-      by_refusal : (first : Option Refusal) → LeavesBitmaps t (BlockdevBackup c) first w.bitmaps x.bitmaps → x.bitmaps ≡ w.bitmaps
-      by_refusal None leaves = leaves.are
-      by_refusal (Some cause) leaves = leaves
+      leaves_bitmaps t c (refusal_to t told (cmd_of c)) w.bitmaps x.bitmaps
+      (subst (λ read. LeavesBitmapsIn t told read w.bitmaps x.bitmaps) good replied.bitmaps)
 
   -- it names no fault
   pub quiet : named_in (reply_entry w told line) ≡ None

@@ -1,9 +1,9 @@
--- Where the store tells its files, the state behind the reply to an accepted backup and its start shows the world that they leave.
+-- Where the store tells its files, the state behind the reply to an accepted backup or mirror and its start shows the world that they leave.
 use Rattle.std.proofs.Common.{◌≡◌, ℕ, ◌+◌, ◌<◌, ◌==◌, Bool, true, false, cond, List, [], ◌∷◌, ◌++◌, refl, sym, ◌∙◌, ap, subst, arith, Option, Some, None, Ok}
 use Rattle.std.specs.Prelude.{Contains, IsSome, is_some}
 use Rattle.std.proofs.lemmas.Bool.{eqb-true}
 use Rattle.std.proofs.lemmas.List.{append_assoc}
-use Rattle.std.proofs.lemmas.List.Elements.{All-cons, All-head, All-nil}
+use Rattle.std.proofs.lemmas.List.Elements.{All-nil}
 use Rattle.blk_graph.proofs.Members.{find-Some}
 use Rattle.blk_history.specs.Names.{JobLine}
 use Rattle.blk_history.specs.declared.event.Event.{Event}
@@ -12,11 +12,9 @@ use Rattle.block_jobs.specs.Work.{JobWork}
 use Rattle.blk_nodes.specs.Contents.{Unfolds, disk_of}
 use Rattle.blk_nodes.specs.Joined.{IsJoined}
 use Rattle.qmp_codec.specs.Lines.{command_at, id_at}
-use Rattle.qmp_codec.specs.declared.command.Command.TheVariants.{BlockdevBackup}
-use Rattle.qmp_codec.specs.declared.jobs.Backup.{Backup}
 use Rattle.qmp_rules.specs.Answers.{Answer, answer, answer_by, answer_data, answer_for, command_edits, line_answer, line_text, refusal_to}
 use Rattle.qmp_rules.specs.Changes.{all_changed}
-use Rattle.qmp_rules.specs.Edits.{backup_job, edits_of, start_edits}
+use Rattle.qmp_rules.specs.Edits.{edits_of, start_edits}
 use Rattle.qmp_rules.specs.Queries.{bytes_of_node}
 use Rattle.qmp_rules.specs.Table.{RunTable, job_at, node_by_id}
 use Rattle.qmp_rules.specs.declared.change.Change.{Change}
@@ -24,7 +22,7 @@ use Rattle.qmp_rules.specs.declared.refusal.Refusal.{Refusal}
 use Rattle.qmp_rules.specs.declared.rows.JobRecord.{JobRecord}
 use Rattle.qmp_rules.specs.declared.rows.UsedBitmap.{UsedBitmap}
 use Rattle.serde_json.specs.Written.{compact_text}
-use Rattle.flat_machine.specs.Agreement.{Agrees}
+use Rattle.flat_machine.specs.Agreement.{Agrees, ReadAsDisks}
 use Rattle.flat_machine.specs.Begun.{begun_of}
 use Rattle.flat_machine.specs.Bitmaps.{AreBitmapsOf}
 use Rattle.flat_machine.specs.Changed.{all_stepped}
@@ -35,10 +33,11 @@ use Rattle.flat_machine.specs.Jobs.{granules_of, noted_start, started}
 use Rattle.flat_machine.specs.Legal.{Fits, IsNotDone}
 use Rattle.flat_machine.specs.Machine.{after, replay}
 use Rattle.flat_machine.specs.Marking.{dirty_at}
-use Rattle.flat_machine.specs.Marks.{AreCalm, IsCalm, ids_of, marks_of, of_job, reply_marks, snapshot_marks, start_marks}
+use Rattle.flat_machine.specs.Marks.{AreCalm, IsCalm, marks_of, of_job, reply_marks, snapshot_marks, start_marks}
 use Rattle.flat_machine.specs.Opening.{start}
 use Rattle.flat_machine.specs.Performing.{AllCan, AllPerformed}
 use Rattle.flat_machine.specs.Recording.{dirty_after}
+use Rattle.flat_machine.specs.Sights.{expected}
 use Rattle.flat_machine.specs.Replies.{IsAnswer, IsToldOf, edits_by, failed_edits, is_accepted, tells_failure, command_read}
 use Rattle.flat_machine.specs.Standing.{StandsAtRest}
 use Rattle.flat_machine.specs.State.{Begun, Dirty, Guest, State}
@@ -49,6 +48,7 @@ use Rattle.flat_machine.proofs.ImagesChanged.{all_images_keep}
 use Rattle.flat_machine.proofs.Kept.{changes_keep}
 use Rattle.flat_machine.proofs.Recorded.{all_stepped-dirty}
 use Rattle.flat_machine.proofs.Resting.{stepped_table}
+use Rattle.job_commands.specs.Begun.{CopyCmd, cmd_of, copy_job}
 use Rattle.job_commands.specs.Copies.{DisksStand}
 use Rattle.job_commands.specs.Granules.{GranulesStand}
 use Rattle.job_commands.specs.Whole.{DisksAreWhole, HaveRowSizes}
@@ -56,8 +56,6 @@ use Rattle.job_commands.proofs.WholeCommands.{command_whole}
 use Rattle.job_commands.proofs.WholeEntries.{started_whole}
 use Rattle.blk_nodes.specs.Nodes.{AreTold}
 use Rattle.world_parts.proofs.WholeDisks.{row_sizes}
-use Rattle.job_commands.proofs.BegunKept.{backup_begun}
-use Rattle.job_commands.proofs.Copied.{backup_can}
 use Rattle.job_commands.proofs.Copies.{command_goes}
 use Rattle.job_ends.proofs.Held.{beginning_held, started_held}
 use Rattle.job_entries.specs.Found.{HaveBegun}
@@ -72,12 +70,12 @@ use Rattle.job_progress.specs.Belonging.{AreWorksOf}
 use Rattle.job_progress.specs.Going.{AreJobsAhead}
 use Rattle.job_progress.proofs.Begin.{start_begins}
 use Rattle.job_progress.proofs.Entries.{entries_leave}
-use Rattle.job_tables.specs.Accepted.{IsMet, JobsAreDrawn}
+use Rattle.job_tables.specs.Accepted.{Begins, IsMet, JobsAreDrawn}
 use Rattle.job_tables.specs.Jobs.{JobsStand}
 use Rattle.job_tables.specs.Running.{JobsRun}
 use Rattle.job_tables.specs.Starts.{JobBegins}
 use Rattle.job_tables.specs.TargetFiles.{TargetFilesStand}
-use Rattle.job_tables.proofs.TargetEvents.{accepted_files, start_noted}
+use Rattle.job_tables.proofs.TargetEvents.{start_noted, starts_keep_files}
 use Rattle.job_works.specs.Works.{work_of}
 use Rattle.world_parts.specs.Carrying.{FoundCalm, IsCarriedIn, IsReplied, IsSeenIn, reply_entry}
 use Rattle.world_parts.specs.Coherent.{IsWholeWorld}
@@ -91,6 +89,7 @@ use Rattle.world_parts.proofs.InStep.{ended-push}
 use Rattle.world_parts.proofs.Pushing.{FitsOn}
 use Rattle.world_parts.proofs.Quiet.{undone}
 use Rattle.world_goings.specs.Begun.{CanCopyWhole}
+use Rattle.world_goings.proofs.CopyStarts.{command_starts, copy_begun, copy_can, edits_start, marks_calm, new_copy, no_snapshot, one_command}
 use Rattle.world_goings.proofs.StartKept as kept
 use Rattle.world_goings.proofs.StartKept.{dirty_begun, started_dirty}
 use Rattle.world_goings.proofs.StartReply as reply
@@ -120,9 +119,9 @@ none_yet t works run belong number is = by_found (work_of works number) refl
         let same : of.row.number ≡ number = of.number ∙ eqb-true work.job number at.1 in
         absurd (omega (arith, less, same, is))
 
-module _ (o : Opening) (w x : WorldSeen) (line : Given) (c : Backup (List ℕ)) (good : command_at line.text ≡ Ok (BlockdevBackup c)) (replied : IsReplied w x line)
+module _ (o : Opening) (w x : WorldSeen) (line : Given) (c : CopyCmd) (good : command_at line.text ≡ Ok (cmd_of c)) (replied : IsReplied w x line)
     (began : x.table.started ≡ w.table.started + 1) (whole : IsWholeWorld w) (joined : IsJoined w.nodes) (unfolds : Unfolds w.nodes) (joined_next : IsJoined x.nodes)
-    (can : CanCopyWhole o w (backup_job w.table None c)) (says : is_accepted (line_text w.table replied.told line.text) ≡ true) where
+    (can : CanCopyWhole o w (copy_job w.table c)) (says : is_accepted (line_text w.table replied.told line.text) ≡ true) where
   abbrev t : RunTable
   t = w.table
 
@@ -130,7 +129,7 @@ module _ (o : Opening) (w x : WorldSeen) (line : Given) (c : Backup (List ℕ)) 
   h = w.progress.log.events
 
   abbrev pub job : JobRecord
-  job = backup_job w.table None c
+  job = copy_job w.table c
 
   abbrev text : List ℕ
   text = line_text w.table replied.told line.text
@@ -139,26 +138,26 @@ module _ (o : Opening) (w x : WorldSeen) (line : Given) (c : Backup (List ℕ)) 
   e = reply_entry w replied.told line
 
   abbrev Edits : RunTable → List Change
-  Edits u = start_edits u (backup_job u None c)
+  Edits u = start_edits u (copy_job u c)
 
   -- its row, its number and its work are these
   abbrev pub left : WorldSeen
   left = record x {
-    bitmaps = bitmaps_begun (backup_job w.table None c) x.bitmaps;
-    works = x.works ++ work_begun (seen_state x) (backup_job w.table None c) ∷ [];
-    progress = with_start (backup_job w.table None c).number (job_line_of (seen_state x) (Some (backup_job w.table None c))) x.progress;
+    bitmaps = bitmaps_begun (copy_job w.table c) x.bitmaps;
+    works = x.works ++ work_begun (seen_state x) (copy_job w.table c) ∷ [];
+    progress = with_start (copy_job w.table c).number (job_line_of (seen_state x) (Some (copy_job w.table c))) x.progress;
   }
 
-  pub none : refusal_to t replied.told (BlockdevBackup c) ≡ None
+  pub none : refusal_to t replied.told (cmd_of c) ≡ None
   none = reply.accepted w x line c good replied began
 
-  pub table_is : x.table ≡ all_changed t (command_edits t replied.told (BlockdevBackup c))
+  pub table_is : x.table ≡ all_changed t (command_edits t replied.told (cmd_of c))
   table_is = reply.table_is w x line c good replied began
 
   pub puts : PutsFilter x.table job w.nodes x.nodes
   puts = reply.puts w x line c good replied began
 
-  pub met : IsMet t replied.told (BlockdevBackup c)
+  pub met : IsMet t replied.told (cmd_of c)
   met = world.met w x.table x.nodes replied.told replied.told c whole joined none table_is puts joined_next
 
   pub drawn : JobsAreDrawn t
@@ -176,31 +175,26 @@ module _ (o : Opening) (w x : WorldSeen) (line : Given) (c : Backup (List ℕ)) 
   pub found_next : job_at x.table job.number ≡ Some job
   found_next = kept.found_next t x.table replied.told replied.told c w.works w.progress.aside whole.jobs whole.coherent.table.stands drawn met table_is jobs_are size_is can.size
 
-  -- no request is in flight on its source, before and behind
-  pub calm_source : IsCalm x.table w.progress.guests job.source
-  calm_source =
+  -- no request is in flight on what its start marks, before and behind
+  pub calm_marked : AreCalm x.table w.progress.guests (start_marks job job.kind)
+  calm_marked =
       world.start_calm w x.table x.nodes replied.told replied.told c whole joined none table_is puts joined_next w.progress.guests
-      (first (subst (λ (ids : Option ℕ). AreCalm t w.progress.guests (ids_of ids)) (world.source_named t replied.told c met)
-      (subst (FoundCalm (seen_state w) replied.told) good replied.calm none)))
-    where
-      first : AreCalm t w.progress.guests (job.source ∷ []) → IsCalm t w.progress.guests job.source
-      first calm = All-head (IsCalm t w.progress.guests) job.source [] calm
+      (marks_calm t replied.told w.progress.guests c met (subst (FoundCalm (seen_state w) replied.told) good replied.calm none))
 
-  marks_start : (s : State) → s.table ≡ x.table → marks_of s (Start job.number) ≡ job.source ∷ []
+  marks_start : (s : State) → s.table ≡ x.table → marks_of s (Start job.number) ≡ start_marks job job.kind
   marks_start s same = ap (λ (found : Option JobRecord). of_job found (λ (row : JobRecord). start_marks row row.kind)) (ap (λ (u : RunTable). job_at u job.number) same ∙ found_next)
 
   pub calm_start : (s : State) (u : RunTable) (guests : List Guest) → s.table ≡ x.table → u ≡ x.table → guests ≡ w.progress.guests → AreCalm u guests (marks_of s (Start job.number))
   calm_start s u guests same table are =
       subst (AreCalm u guests) (sym (marks_start s same))
-      (subst (λ (v : RunTable). AreCalm v guests (job.source ∷ [])) (sym table)
-      (subst (λ (gs : List Guest). AreCalm x.table gs (job.source ∷ [])) (sym are)
-      (All-cons (IsCalm x.table w.progress.guests) job.source [] calm_source (All-nil (IsCalm x.table w.progress.guests)))))
+      (subst (λ (v : RunTable). AreCalm v guests (start_marks job job.kind)) (sym table)
+      (subst (λ (gs : List Guest). AreCalm x.table gs (start_marks job job.kind)) (sym are) calm_marked))
 
   pub calm_reply : (s : State) (u : RunTable) (guests : List Guest) → AreCalm u guests (reply_marks s.table line.text text)
   calm_reply s u guests = by_accepted (is_accepted text)
     where
       none_marked : snapshot_marks s.table (command_at line.text) ≡ []
-      none_marked = ap (snapshot_marks s.table) good
+      none_marked = ap (snapshot_marks s.table) good ∙ no_snapshot s.table c
 
       by_accepted : (b : Bool) → AreCalm u guests (cond b (snapshot_marks s.table (command_at line.text)) [])
       by_accepted true = subst (AreCalm u guests) (sym none_marked) (All-nil (IsCalm u guests))
@@ -214,16 +208,16 @@ module _ (o : Opening) (w x : WorldSeen) (line : Given) (c : Backup (List ℕ)) 
     same : s.table ≡ t
     same = shows.table.table_is
 
-    in_it : IsCarriedIn s w x (BlockdevBackup c) replied.told
+    in_it : IsCarriedIn s w x (cmd_of c) replied.told
     in_it = subst (IsSeenIn s w x replied.told) good (replied.shows told o s shows)
 
     -- ---- the reply's entry fits
 
     edits_are : edits_by s text (command_at line.text) ≡ Edits s.table
-    unfolding edits_of
     edits_are =
         ap (edits_by s text) good
-        ∙ ap (λ (b : Bool). cond b (Edits s.table) (cond (tells_failure text) (failed_edits s.table (BlockdevBackup c)) [])) says
+        ∙ ap (λ (b : Bool). cond b (command_edits s.table (expected s (cmd_of c)) (cmd_of c)) (cond (tells_failure text) (failed_edits s.table (cmd_of c)) [])) says
+        ∙ command_starts s.table (expected s (cmd_of c)) c
 
     abbrev mid : State
     mid = all_stepped s (Edits s.table)
@@ -236,7 +230,7 @@ module _ (o : Opening) (w x : WorldSeen) (line : Given) (c : Backup (List ℕ)) 
     text_said =
         ap (λ read. compact_text (answer_data (id_at line.text) (answer_for t replied.told line.text read).reply)) good
         ∙ ap (λ (a : Answer). compact_text (answer_data (id_at line.text) a.reply)) (sym in_it.same)
-        ∙ ap (λ (u : RunTable). compact_text (answer_data (id_at line.text) (answer u in_it.seen (BlockdevBackup c)).reply)) (sym same)
+        ∙ ap (λ (u : RunTable). compact_text (answer_data (id_at line.text) (answer u in_it.seen (cmd_of c)).reply)) (sym same)
         ∙ sym (ap (λ read. compact_text (answer_data (id_at line.text) (answer_for s.table in_it.seen line.text read).reply)) good)
 
     answers : IsAnswer s line.text (command_read (command_at line.text)) text
@@ -249,35 +243,41 @@ module _ (o : Opening) (w x : WorldSeen) (line : Given) (c : Backup (List ℕ)) 
 
     -- ---- its changes
 
-    changes_are : (answer t replied.told (BlockdevBackup c)).changes ≡ Edits t
-    unfolding answer edits_of
-    changes_are = ap (λ (f : Option Refusal). (answer_by t replied.told (BlockdevBackup c) f).changes) none
+    changes_are : (answer t replied.told (cmd_of c)).changes ≡ Edits t
+    unfolding answer
+    changes_are = ap (λ (f : Option Refusal). (answer_by t replied.told (cmd_of c) f).changes) none ∙ command_starts t replied.told c
 
     did : AllPerformed s (Edits s.table) (contents_of w) (contents_of x)
     did = subst (λ (cs : List Change). AllPerformed s cs (contents_of w) (contents_of x)) (changes_are ∙ ap Edits (sym same)) in_it.performed
 
+    did_command : AllPerformed s (edits_of s.table replied.told (cmd_of c)) (contents_of w) (contents_of x)
+    did_command = subst (λ (cs : List Change). AllPerformed s cs (contents_of w) (contents_of x)) (sym (edits_start s.table replied.told c)) did
+
     drawn_s : JobsAreDrawn s.table
     drawn_s = subst JobsAreDrawn (sym same) drawn
 
-    begins : JobBegins s.table (backup_job s.table None c)
-    begins =
-        subst (λ (u : RunTable). JobBegins u (backup_job u None c)) (sym same)
-        (world.begins w x.table x.nodes replied.told replied.told c whole joined none table_is puts joined_next).job
+    begins_s : Begins s.table (copy_job s.table c)
+    begins_s =
+        subst (λ (u : RunTable). Begins u (copy_job u c)) (sym same)
+        (world.begins w x.table x.nodes replied.told replied.told c whole joined none table_is puts joined_next)
 
-    met_s : IsMet s.table replied.told (BlockdevBackup c)
-    met_s = subst (λ (u : RunTable). IsMet u replied.told (BlockdevBackup c)) (sym same) met
+    begins : JobBegins s.table (copy_job s.table c)
+    begins = begins_s.job
+
+    met_s : IsMet s.table replied.told (cmd_of c)
+    met_s = subst (λ (u : RunTable). IsMet u replied.told (cmd_of c)) (sym same) met
 
     rest_s : TableAtRest s.table
     rest_s = subst TableAtRest (sym same) whole.coherent.table
 
     suits : AllSuit s (Edits s.table)
-    suits = start_suits s shows.stands.stands.table drawn_s.jobs.stand drawn_s.edges (backup_job s.table None c) begins tt
+    suits = start_suits s shows.stands.stands.table drawn_s.jobs.stand drawn_s.edges (copy_job s.table c) begins (new_copy s.table c).lends
 
     can_all : AllCan s (Edits s.table)
-    can_all = start_can s (backup_job s.table None c) begins
+    can_all = start_can s (copy_job s.table c) begins
 
     rests : StandsAtRest mid
-    rests = steps_rest (Edits s.table) s (start_steps s (backup_job s.table None c) begins shows.stands.stands.table) suits shows.stands
+    rests = steps_rest (Edits s.table) s (start_steps s (copy_job s.table c) begins shows.stands.stands.table) suits shows.stands
 
     agrees : Agrees (bytes_named o.files) mid (contents_of x)
     agrees = changes_keep (bytes_named o.files) (Edits s.table) s (contents_of w) (contents_of x) can_all did shows.contents
@@ -285,23 +285,23 @@ module _ (o : Opening) (w x : WorldSeen) (line : Given) (c : Backup (List ℕ)) 
     images : ShowsImages mid (contents_of x)
     images =
         all_images_keep (bytes_named o.files) (Edits s.table) s (contents_of w) (contents_of x) suits can_all
-        (steps_keep (Edits s.table) s (start_steps s (backup_job s.table None c) begins shows.stands.stands.table)) shows.stands.stands shows.contents did shows.images
+        (steps_keep (Edits s.table) s (start_steps s (copy_job s.table c) begins shows.stands.stands.table)) shows.stands.stands shows.contents did shows.images
 
     table_mid : mid.table ≡ x.table
-    unfolding edits_of
-    table_mid = stepped_table (Edits s.table) s ∙ ap (λ (u : RunTable). all_changed u (Edits u)) same ∙ sym table_is
+    table_mid =
+        stepped_table (Edits s.table) s ∙ ap (λ (u : RunTable). all_changed u (Edits u)) same ∙ ap (all_changed t) (sym (command_starts t replied.told c)) ∙ sym table_is
 
     dirty_mid : mid.dirty ≡ dirty_of x
-    unfolding edits_of
     dirty_mid =
         all_stepped-dirty (Edits s.table) s ∙ ap (λ (u : RunTable). dirty_after u s.dirty (Edits u)) same
-        ∙ ap (λ (ds : List Dirty). dirty_after t ds (Edits t)) shows.dirty ∙ sym (reply.dirty_is w x line c good replied began)
+        ∙ ap (λ (ds : List Dirty). dirty_after t ds (Edits t)) shows.dirty ∙ ap (dirty_after t (dirty_of w)) (sym (command_starts t replied.told c))
+        ∙ sym (reply.dirty_is w x line c good replied began)
 
     aside : StaysAside s mid
     aside =
         let list = world.start_list w x.table x.nodes replied.told replied.told c whole joined none table_is puts joined_next in
         subst (λ (cs : List Change). StaysAside s (all_stepped s cs)) (sym (ap Edits same ∙ list.is))
-        (start_aside s (node_by_id t list.target) list.target list.source list.filter t c)
+        (start_aside s (node_by_id t list.target) list.target list.source list.filter job)
 
     -- ---- then it begins
 
@@ -321,7 +321,7 @@ module _ (o : Opening) (w x : WorldSeen) (line : Given) (c : Backup (List ℕ)) 
     noted = started_aside mid job
 
     turn : job.number ≡ mid.starts
-    turn = sym (aside.starts ∙ shows.table.rest.started ∙ ap (λ (u : RunTable). u.started) same)
+    turn = (new_copy t c).number ∙ sym (aside.starts ∙ shows.table.rest.started ∙ ap (λ (u : RunTable). u.started) same)
 
     stand_mid : JobsStand mid.table
     stand_mid = subst JobsStand (sym table_mid) drawn_next.jobs.stand
@@ -341,7 +341,7 @@ module _ (o : Opening) (w x : WorldSeen) (line : Given) (c : Backup (List ℕ)) 
         table_is = started_table mid (Some job) ∙ table_mid;
         rest = record {
           started =
-              noted.starts ∙ ap (λ n. n + 1) (sym turn) ∙ sym began ∙ sym (ap (λ (u : RunTable). u.started) (started_table mid (Some job) ∙ table_mid));
+              noted.starts ∙ ap (λ n. n + 1) (sym turn ∙ (new_copy t c).number) ∙ sym began ∙ sym (ap (λ (u : RunTable). u.started) (started_table mid (Some job) ∙ table_mid));
           ended = noted.ending ∙ aside.ending ∙ shows.table.rest.ended;
         };
       };
@@ -359,10 +359,10 @@ module _ (o : Opening) (w x : WorldSeen) (line : Given) (c : Backup (List ℕ)) 
 
     -- ---- jobs
 
-    shows_filter : ShowsFilter (backup_job s.table None c) (contents_of w) (contents_of x)
+    shows_filter : ShowsFilter (copy_job s.table c) (contents_of w) (contents_of x)
     shows_filter =
         let was = world.start_shows w x.table x.nodes replied.told replied.told c whole joined none table_is puts joined_next unfolds in
-        subst (λ (u : RunTable). ShowsFilter (backup_job u None c) (contents_of w) (contents_of x)) (sym same)
+        subst (λ (u : RunTable). ShowsFilter (copy_job u c) (contents_of w) (contents_of x)) (sym same)
         (record {
           nodes = was.nodes;
           files = λ name other.
@@ -381,24 +381,29 @@ module _ (o : Opening) (w x : WorldSeen) (line : Given) (c : Backup (List ℕ)) 
     target : ℕ
     target = (world.copy w x.table x.nodes replied.told replied.told c whole joined none table_is puts joined_next).target
 
+    -- what the command's changes leave
+    made : all_stepped s (edits_of s.table replied.told (cmd_of c)) ≡ mid
+    made = ap (all_stepped s) (edits_start s.table replied.told c)
+
     copies : CanBeCopied mid (disk_of x.nodes) job target
-    unfolding edits_of target
+    unfolding target
     copies =
-        subst (λ (u : RunTable). CanBeCopied mid (disk_of x.nodes) (backup_job u None c) target) same
-        (backup_can s replied.told replied.told c target (contents_of w) (contents_of x) shows.stands.stands.table drawn_s.jobs.stand met_s
-        (subst (λ (u : RunTable). (backup_job u None c).target ≡ Some target) (sym same)
+        subst (λ (u : RunTable). CanBeCopied mid (disk_of x.nodes) (copy_job u c) target) same
+        (subst (λ (m : State). CanBeCopied m (disk_of x.nodes) (copy_job s.table c) target) made
+        (copy_can s replied.told replied.told c target (contents_of w) (contents_of x) shows.stands.stands.table drawn_s.jobs.stand met_s
+        (subst (λ (u : RunTable). (copy_job u c).target ≡ Some target) (sym same)
         (world.copy w x.table x.nodes replied.told replied.told c whole joined none table_is puts joined_next).is_target)
-        disks shows_filter)
+        disks shows_filter))
 
     belong_s : AreWorksOf s.table w.works
     belong_s = subst (λ (u : RunTable). AreWorksOf u w.works) (sym same) whole.jobs.belong
 
     ahead_mid : AreJobsAhead (start o) (h ++ e ∷ []) mid (disk_of x.nodes) w.works
-    unfolding edits_of
     ahead_mid =
         entries_leave (start o) mid mid h e (disk_of x.nodes) w.works refl refl refl
-        (command_goes (start o) s h replied.told replied.told (BlockdevBackup c) (contents_of w) (contents_of x) w.works rest_s drawn_s.jobs.stand drawn_s.jobs.run belong_s tt
-        met_s did going.ahead)
+        (subst (λ (m : State). AreJobsAhead (start o) h m (disk_of x.nodes) w.works) made
+        (command_goes (start o) s h replied.told replied.told (cmd_of c) (contents_of w) (contents_of x) w.works rest_s drawn_s.jobs.stand drawn_s.jobs.run belong_s
+        (one_command c) met_s did_command going.ahead))
 
     begun_none : begun_of mid.begun job.number ≡ None
     begun_none =
@@ -416,21 +421,20 @@ module _ (o : Opening) (w x : WorldSeen) (line : Given) (c : Backup (List ℕ)) 
         (subst (AreJobsAhead (start o) ((h ++ e ∷ []) ++ Start job.number ∷ []) final (disk_of x.nodes)) works_are
         (subst (λ (m : State). AreJobsAhead (start o) ((h ++ e ∷ []) ++ Start job.number ∷ []) m (disk_of x.nodes) (w.works ++ work_begun mid job ∷ [])) after_start
         (start_begins (start o) mid (h ++ e ∷ []) (disk_of x.nodes) job target w.works stand_mid job_mid
-        (none_yet t w.works whole.jobs.run whole.jobs.belong job.number refl) begun_none copies ahead_mid)))
+        (none_yet t w.works whole.jobs.run whole.jobs.belong job.number (new_copy t c).number) begun_none copies ahead_mid)))
 
     begun_next : HaveBegun final
-    unfolding edits_of
     begun_next =
-        subst HaveBegun (ap (λ (u : RunTable). after mid (Start u.started)) same ∙ after_start)
-        (backup_begun s replied.told replied.told c rest_s drawn_s.jobs.stand drawn_s.jobs.run met_s shows.table.rest (can.disks told) going.begun)
+        subst HaveBegun
+        (ap (λ (m : State). after m (Start s.table.started)) made ∙ ap (λ (n : ℕ). after mid (Start n)) (ap (λ (u : RunTable). u.started) same ∙ sym (new_copy t c).number)
+        ∙ after_start)
+        (copy_begun s replied.told replied.told c rest_s drawn_s met_s shows.table.rest (can.disks told) going.begun)
 
     files_next : TargetFilesStand final
-    unfolding edits_of
     files_next =
         subst TargetFilesStand after_start
         (start_noted mid job.number rests.stands.table stand_mid turn
-        (accepted_files s replied.told replied.told (BlockdevBackup c) rest_s drawn_s.jobs.stand drawn_s.jobs.run shows.table.rest.started
-        (subst (λ (u : RunTable). refusal_to u replied.told (BlockdevBackup c) ≡ None) (sym same) none) going.files)
+        (starts_keep_files s (copy_job s.table c) rest_s.stands drawn_s.jobs.stand drawn_s.jobs.run begins_s.job begins_s.run shows.table.rest.started going.files)
         (subst IsSome (sym job_mid) refl))
 
     reads_mid : HaveRowSizes mid.table (disk_of x.nodes)
@@ -440,10 +444,13 @@ module _ (o : Opening) (w x : WorldSeen) (line : Given) (c : Backup (List ℕ)) 
         subst (λ (u : RunTable). HaveRowSizes u (disk_of x.nodes)) (sym table_mid) (row_sizes x.table x.nodes alike joined_next tells)
 
     whole_next : DisksAreWhole final
-    unfolding edits_of
-    whole_next =
-        started_whole mid (Some job)
-        (command_whole s replied.told replied.told (BlockdevBackup c) (contents_of x) rest_s drawn_s.jobs.stand tt met_s can_all agrees.disks reads_mid (can.disks told))
+    whole_next = started_whole mid (Some job) (subst DisksAreWhole made by_command)
+      where
+        by_command : DisksAreWhole (all_stepped s (edits_of s.table replied.told (cmd_of c)))
+        by_command =
+            command_whole s replied.told replied.told (cmd_of c) (contents_of x) rest_s drawn_s.jobs.stand (one_command c) met_s
+            (subst (AllCan s) (sym (edits_start s.table replied.told c)) can_all) (subst (λ (m : State). ReadAsDisks m (contents_of x)) (sym made) agrees.disks)
+            (subst (λ (m : State). HaveRowSizes m.table (disk_of x.nodes)) (sym made) reads_mid) (can.disks told)
 
     goes_on : ShowsJobs o (h ++ e ∷ Start job.number ∷ []) final left
     goes_on = record {
@@ -452,8 +459,8 @@ module _ (o : Opening) (w x : WorldSeen) (line : Given) (c : Backup (List ℕ)) 
       ahead = ahead_next;
       unsure =
           started_held mid job stand_mid there_mid turn
-          (beginning_held s (backup_job s.table None c) shows.stands.stands.table drawn_s.jobs.stand begins
-          (let is = shows.table.rest.started in omega (arith, is)) going.unsure);
+          (beginning_held s (copy_job s.table c) shows.stands.stands.table drawn_s.jobs.stand begins
+          (let is = shows.table.rest.started in let number = (new_copy s.table c).number in omega (arith, is, number)) going.unsure);
       whole = whole_next;
     }
 
@@ -462,7 +469,7 @@ module _ (o : Opening) (w x : WorldSeen) (line : Given) (c : Backup (List ℕ)) 
     fits_start : Fits mid (Start job.number)
     fits_start =
         let later : mid.table.started ≡ t.started + 1 = ap (λ (u : RunTable). u.started) table_mid ∙ began in
-        let number : job.number ≡ t.started = refl in
+        let number = (new_copy t c).number in
         let is = turn in
         ((turn, omega (arith, later, number, is)), subst IsSome (sym job_mid) refl)
 
@@ -476,7 +483,7 @@ module _ (o : Opening) (w x : WorldSeen) (line : Given) (c : Backup (List ℕ)) 
             ap (λ (m : State). job_line_of m (job_at m.table job.number)) after_reply ∙ ap (job_line_of mid) job_mid
             ∙ ap (λ (u : RunTable). let l : JobLine = record { id = job.id; kind = job.kind; size = bytes_of_node u job.source } in l) table_mid
 
-    pub start_fits : FitsOn o w.progress.log.events (replay (start o) w.progress.log.events) w left (reply_entry w replied.told line ∷ Start (backup_job w.table None c).number ∷ [])
+    pub start_fits : FitsOn o w.progress.log.events (replay (start o) w.progress.log.events) w left (reply_entry w replied.told line ∷ Start (copy_job w.table c).number ∷ [])
     start_fits = record {
       legal = (
         (shows.table.rest, (undone o s w 0 shows not_done, answers)),

@@ -1,4 +1,4 @@
--- The table behind the start of a backup: its filter is over its source, its target has no flat disk, and its edge leads there.
+-- The table behind the start of a backup or a mirror: its filter is over its source, its target has no flat disk, and its edge leads there.
 use Rattle.std.proofs.Common.{◌≡◌, ◌≢◌, ℕ, ◌+◌, ◌==◌, Bool, true, false, cond, List, [], ◌∷◌, ◌++◌, map, refl, sym, ◌∙◌, ap, subst, Option, Some, None, inl, inr}
 use Rattle.std.specs.Prelude.{Contains, find, IsSome, option_and_then, option_map}
 use Rattle.std.proofs.lemmas.Bool.{ne_eqb}

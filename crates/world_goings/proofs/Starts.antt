@@ -1,4 +1,4 @@
--- A world still comes of its opening where a backup begins behind the reply to its command.
+-- A world still comes of its opening where a backup or a mirror begins behind the reply to its command.
 use Rattle.std.proofs.Common.{◌≡◌, ℕ, ◌+◌, true, List, [], ◌∷◌, ◌++◌, map, refl, sym, ◌∙◌, ap, subst, arith, Option, Some, None, Ok}
 use Rattle.std.proofs.lemmas.List.{append-nil, append_assoc}
 use Rattle.std.proofs.lemmas.List.Elements.{filter_map-append}
@@ -9,11 +9,10 @@ use Rattle.blk_nodes.specs.Contents.{Unfolds}
 use Rattle.blk_nodes.specs.Joined.{IsJoined}
 use Rattle.blk_nodes.specs.Nodes.{AreTold}
 use Rattle.qmp_codec.specs.Lines.{command_at}
-use Rattle.qmp_codec.specs.declared.command.Command.TheVariants.{BlockdevBackup}
-use Rattle.qmp_codec.specs.declared.jobs.Backup.{Backup}
 use Rattle.qmp_rules.specs.Answers.{command_edits, line_text}
-use Rattle.qmp_rules.specs.Edits.{backup_job, edits_of}
+use Rattle.qmp_rules.specs.Changes.{all_changed}
 use Rattle.qmp_rules.specs.Table.{RunTable, job_at}
+use Rattle.qmp_rules.specs.declared.change.Change.{Change}
 use Rattle.qmp_rules.specs.declared.rows.JobRecord.{JobRecord}
 use Rattle.flat_machine.specs.Bitmaps.{AreBitmapsOf, dirty_in}
 use Rattle.flat_machine.specs.Comes.{job_line_of}
@@ -25,6 +24,7 @@ use Rattle.flat_machine.specs.Recording.{dirty_after}
 use Rattle.flat_machine.specs.Replies.{is_accepted}
 use Rattle.flat_machine.specs.State.{Dirty, State}
 use Rattle.flat_machine.specs.declared.opening.Opening.{Opening}
+use Rattle.job_commands.specs.Begun.{CopyCmd, cmd_of, copy_job}
 use Rattle.job_commands.specs.Granules.{GranulesStand}
 use Rattle.job_commands.proofs.Granules.{command_granules, entry_granules}
 use Rattle.job_entries.proofs.Noted.{started_table}
@@ -44,6 +44,7 @@ use Rattle.world_parts.proofs.Pushing.{comes-push, rises-quiet}
 use Rattle.world_parts.proofs.Rises.{rises-entry}
 use Rattle.world_parts.proofs.SoundImages.{images-sound}
 use Rattle.world_goings.specs.Begun.{CanCopyWhole}
+use Rattle.world_goings.proofs.CopyStarts.{command_starts, edits_start, new_copy, one_command}
 use Rattle.world_goings.proofs.StartKept as kept
 use Rattle.world_goings.proofs.StartReply as reply
 use Rattle.world_goings.proofs.StartShown as shown
@@ -59,9 +60,9 @@ kept_pushed works new none =
     filter_map-append (λ (work : JobWork). rise_of work.met) works (new ∷ [])
     ∙ rw none (append-nil (faults_kept works))
 
-module _ (o : Opening) (w x v : WorldSeen) (line : Given) (c : Backup (List ℕ)) (good : command_at line.text ≡ Ok (BlockdevBackup c)) (replied : IsReplied w x line)
+module _ (o : Opening) (w x v : WorldSeen) (line : Given) (c : CopyCmd) (good : command_at line.text ≡ Ok (cmd_of c)) (replied : IsReplied w x line)
     (begins : BeginsOne w.table x v) (whole : IsWholeWorld w) (joined : IsJoined w.nodes) (unfolds : Unfolds w.nodes) (joined_next : IsJoined x.nodes)
-    (can : CanCopyWhole o w (backup_job w.table None c)) (says : is_accepted (line_text w.table replied.told line.text) ≡ true) (not_done : IsNotDone (seen_state w) 0) where
+    (can : CanCopyWhole o w (copy_job w.table c)) (says : is_accepted (line_text w.table replied.told line.text) ≡ true) (not_done : IsNotDone (seen_state w) 0) where
   abbrev t : RunTable
   t = w.table
 
@@ -69,7 +70,7 @@ module _ (o : Opening) (w x v : WorldSeen) (line : Given) (c : Backup (List ℕ)
   h = w.progress.log.events
 
   abbrev job : JobRecord
-  job = backup_job w.table None c
+  job = copy_job w.table c
 
   abbrev e : Event
   e = reply_entry w replied.told line
@@ -82,7 +83,7 @@ module _ (o : Opening) (w x v : WorldSeen) (line : Given) (c : Backup (List ℕ)
 
   row_is : begins.row ≡ job
   row_is =
-      let both : Some begins.row ≡ Some job = sym begins.begins.there ∙ ap (job_at x.table) begins.number ∙ found in
+      let both : Some begins.row ≡ Some job = sym begins.begins.there ∙ ap (job_at x.table) (begins.number ∙ sym (new_copy t c).number) ∙ found in
       cc both
 
   left_is : v ≡ left
@@ -159,13 +160,13 @@ module _ (o : Opening) (w x v : WorldSeen) (line : Given) (c : Backup (List ℕ)
       (subst (GranulesStand t) (ap (λ rows. map dirty_in rows) (sym (reply.bitmaps_same w x line c good replied begins.started))) can.granules)))
 
   granules_next : GranulesStand t (dirty_of w) → GranulesStand x.table (dirty_of x)
-  unfolding edits_of
   granules_next was =
       subst (GranulesStand x.table) (sym (reply.dirty_is w x line c good replied begins.started))
-      (subst (λ (u : RunTable). GranulesStand u (dirty_after t (dirty_of w) (command_edits t replied.told (BlockdevBackup c))))
+      (subst (λ (u : RunTable). GranulesStand u (dirty_after t (dirty_of w) (command_edits t replied.told (cmd_of c))))
       (sym (shown.table_is o w x line c good replied begins.started whole joined unfolds joined_next can says))
-      (command_granules t (dirty_of w) replied.told replied.told (BlockdevBackup c) whole.coherent.table whole.jobs.stand tt
-      (shown.met o w x line c good replied begins.started whole joined unfolds joined_next can says) was))
+      (subst (λ (cs : List Change). GranulesStand (all_changed t cs) (dirty_after t (dirty_of w) cs)) (edits_start t replied.told c ∙ sym (command_starts t replied.told c))
+      (command_granules t (dirty_of w) replied.told replied.told (cmd_of c) whole.coherent.table whole.jobs.stand (one_command c)
+      (shown.met o w x line c good replied begins.started whole joined unfolds joined_next can says) was)))
 
   granules : GranulesStand t (dirty_of w) → GranulesStand left.table (dirty_of left)
   granules was =
