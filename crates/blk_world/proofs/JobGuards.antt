@@ -46,20 +46,22 @@ use Rattle.blk_world.proofs.PieceBlocks.{IsSomeOfBlock, written_is, written_some
 
 -- ---- the backup of a node
 
-by_kind : (node : ℕ) (row : JobRecord) (kind : JobKind) → backs_up node row kind ≡ true → row.source ≡ node
-by_kind node row Backup is = eqb-true row.source node is
+by_kind : (node : ℕ) (row : JobRecord) (kind : JobKind) → backs_up node row kind ≡ true → (kind ≡ Backup) × (row.source ≡ node)
+by_kind node row Backup is = (refl, eqb-true row.source node is)
 by_kind node row Stream is = absurd (false≢true is)
 by_kind node row Commit is = absurd (false≢true is)
 by_kind node row Mirror is = absurd (false≢true is)
 
 pub record IsBackupThere (t : RunTable) (node : ℕ) (row : JobRecord) : Type 0 where
   pub here : Contains t.jobs row
+  pub kind : row.kind ≡ Backup
   pub source : row.source ≡ node
 
 pub backup_there : (t : RunTable) (node : ℕ) (row : JobRecord) → backup_of t node ≡ Some row → IsBackupThere t node row
 backup_there t node row is =
     let at = find-Some (is_backup_of node) t.jobs row is in
-    record { here = at.0; source = by_kind node row row.kind at.1 }
+    let by = by_kind node row row.kind at.1 in
+    record { here = at.0; kind = by.0; source = by.1 }
 
 -- where there is none, no job is one
 backup_none : (t : RunTable) (node : ℕ) → backup_of t node ≡ None → (row : JobRecord) → Contains t.jobs row → row.kind ≡ Backup → row.source ≡ node → ⊥
@@ -158,7 +160,7 @@ module _ (w : WorldSeen) (g : ℕ) (f : Flight) (drive : ℕ) (on : drive_of w.t
           guards_block w v drive f.op row by.target (part.start / 65536) whole
           (step_of w whole joined row b.here nodes works (Guarded w.nodes nodes row.source by.target (part.start / 65536)) joined_then told by.guards failed
           (λ work at. small row work is at))
-          (done_for_backup w g f drive on flies joined whole.coherent whole.jobs writes row b.here (sym b.source)) by.target_is by.writes
+          (done_for_backup w g f drive on flies joined whole.coherent whole.jobs writes row b.here b.kind (sym b.source)) by.target_is by.writes
 
       by_found : (found : Option JobRecord) → backup_of w.table node ≡ found → IsGuardedBy found w.nodes nodes (part.start / 65536) w.works works
           → IsGuardedThen w v f drive

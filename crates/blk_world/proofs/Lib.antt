@@ -4,5 +4,6 @@ pub mod BlockSizes
 pub mod JobCopies
 pub mod JobTurns
 pub mod PieceBlocks
+pub mod PieceMarks
 pub mod JobGuards
 pub mod JobStarts

@@ -1,7 +1,7 @@
 -- What the steps of jobs' copying need of a world, and that they are what the jobs do to it.
-use Rattle.std.proofs.Common.{◌≡◌, ℕ, ◌≤◌, ◌<◌, ◌/◌, List, arith, refl, sym, ◌∙◌, ap, subst, Option, Some, None}
+use Rattle.std.proofs.Common.{◌≡◌, ℕ, ◌≤◌, ◌<◌, ◌/◌, true, List, arith, refl, sym, ◌∙◌, ap, subst, Option, Some, None}
 use Rattle.std.specs.Prelude.{◌==◌, Contains, option_map, unwrap_or}
-use Rattle.std.proofs.lemmas.Bool.{eqb-true}
+use Rattle.std.proofs.lemmas.Bool.{eqb-true, false≢true}
 use Rattle.block_jobs.specs.Work.{JobWork, block_count, room_for}
 use Rattle.block_jobs.proofs.PartLemmas.{among}
 use Rattle.blk_graph.specs.declared.edge.Parent.TheVariants.{Job, Node}
@@ -10,14 +10,16 @@ use Rattle.blk_nodes.specs.Joined.{IsJoined}
 use Rattle.blk_nodes.specs.Nodes.{AreTold, Nodes, node_size, row_at, size_by}
 use Rattle.blk_nodes.specs.Writing.{MayWriteThrough}
 use Rattle.blk_nodes.specs.declared.row.Row.{Row}
-use Rattle.flat_machine.specs.Jobs.{copied_to}
 use Rattle.flat_machine.specs.Wiring.{TableStands}
-use Rattle.job_ends.proofs.Ends.{written_is}
+use Rattle.job_ends.proofs.Ends.{copied_is, written_is}
 use Rattle.job_ends.proofs.Others.{at_number}
 use Rattle.job_progress.specs.Belonging.{HasWork}
+use Rattle.job_progress.specs.Going.{copies_blocks}
 use Rattle.job_tables.specs.Copiers.{CopyGoes}
 use Rattle.job_works.specs.Works.{ChangesWork, work_of}
 use Rattle.job_progress.proofs.Belong.{found_there}
+use Rattle.qmp_codec.specs.declared.event.JobKind.{JobKind}
+use Rattle.qmp_codec.specs.declared.event.JobKind.TheVariants.{Stream, Commit, Mirror, Backup}
 use Rattle.qmp_rules.specs.Queries.{bytes_of_node}
 use Rattle.qmp_rules.specs.Table.{RunTable, job_at, job_in, node_by_id}
 use Rattle.qmp_rules.specs.declared.rows.JobRecord.{JobRecord}
@@ -27,7 +29,6 @@ use Rattle.world_parts.specs.Face.{WorldSeen}
 use Rattle.world_pieces.proofs.PieceReady.{may_write}
 use Rattle.world_pieces.proofs.PieceWriters.{own_row}
 use Rattle.world_goings.specs.Copied.{FailedAreDone, HasSmallFault}
-use Rattle.world_goings.proofs.Ahead.{job_copies}
 use Rattle.world_goings.proofs.Failed.{found_then}
 use Rattle.world_goings.proofs.JobNodes.{copy_stands, target_plain}
 use Rattle.world_copies.specs.Copying.{IsStepOf}
@@ -50,6 +51,13 @@ in_slot t slot row is = (find-Some (λ (r : JobRecord). r.slot == slot) t.jobs r
 pub numbered_so : (t : RunTable) (job : ℕ) (row : JobRecord) → job_at t job ≡ Some row → row.number ≡ job
 numbered_so t job row is = eqb-true row.number job (find-Some (λ (r : JobRecord). r.number == job) t.jobs row is).1
 
+-- what copies block by block has room for a copy of each
+room_of : (kind : JobKind) (size : ℕ) → copies_blocks kind ≡ true → room_for kind size ≡ block_count size
+room_of Mirror size copies = refl
+room_of Backup size copies = refl
+room_of Stream size copies = absurd (false≢true copies)
+room_of Commit size copies = absurd (false≢true copies)
+
 module _ (w : WorldSeen) (whole : IsWholeWorld w) (joined : IsJoined w.nodes) (row : JobRecord) (here : Contains w.table.jobs row) where
   abbrev t : RunTable
   t = w.table
@@ -71,14 +79,14 @@ module _ (w : WorldSeen) (whole : IsWholeWorld w) (joined : IsJoined w.nodes) (r
   unfolding has_work has
   room_to_copy = record {
     has = has_work;
-    room = subst (λ k. room_for k has.work.size ≤ has.work.room) (whole.jobs.lone row here).kind has.room;
+    room = subst (λ most. most ≤ has.work.room) (room_of row.kind has.work.size (whole.jobs.lone row here).kind) has.room;
   }
 
   -- ---- its target
 
   module _ (target : ℕ) (is : row.target ≡ Some target) where
     goes : CopyGoes t row target
-    goes = whole.jobs.copies row target here (ap (copied_to row) (whole.jobs.lone row here).kind ∙ is)
+    goes = whole.jobs.copies row target here (copied_is row (whole.jobs.lone row here).kind ∙ is)
 
     target_size : bytes_of_node t target ≡ bytes_of_node t row.source
     target_size =
@@ -91,7 +99,7 @@ module _ (w : WorldSeen) (whole : IsWholeWorld w) (joined : IsJoined w.nodes) (r
         let at = find-Some (λ (r : NodeRecord). r.id == target) t.nodes plain.row plain.there in
         let id_is = eqb-true plain.row.id target at.1 in
         let own = own_row t w.nodes joined whole.coherent.alike stands target plain.row plain.there in
-        let blocks = (job_copies t w.works w.progress.aside row whole.jobs here).1 in
+        let blocks = (whole.jobs.lone row here).kind in
         let writable = (whole.jobs.run.targets row target here (written_is row blocks ∙ is)).writable plain.row at.0 id_is in
         may_write t w.nodes joined whole.coherent.alike stands target plain.row plain.there at.0 id_is plain.own
         (λ over leads.
@@ -101,7 +109,7 @@ module _ (w : WorldSeen) (whole : IsWholeWorld w) (joined : IsJoined w.nodes) (r
   pub has_target : HasTarget w.nodes w.works row
   unfolding has_work has
   has_target =
-      let c = copy_stands t w.works w.progress.aside whole.jobs stands row here in
+      let c = (copy_stands t w.works w.progress.aside whole.jobs stands row here).copy in
       record {
         has = has_work;
         target = c.target;

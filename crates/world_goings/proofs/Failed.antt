@@ -4,6 +4,7 @@ use Rattle.std.specs.Prelude.{◌&&◌, ◌==◌, Contains, Err, IsSome, Ok, Res
 use Rattle.std.specs.List.{list_any, range_with_len}
 use Rattle.std.specs.Simd.Lanes.{mask_l}
 use Rattle.std.proofs.lemmas.Bool.{false≢true}
+use Rattle.blk_base.specs.Pieces.{Extent}
 use Rattle.blk_base.specs.declared.fault.Fault.{Fault}
 use Rattle.blk_bits.specs.Granules.{contains}
 use Rattle.blk_graph.proofs.Members.{Contains-cases, Contains-here, Contains-nil, Contains-there}
@@ -15,10 +16,12 @@ use Rattle.block_jobs.proofs.PartLemmas.{any_none, find_found, has_at, mask_step
 use Rattle.job_copies.specs.Guarding.{Guards, after_guard}
 use Rattle.job_copies.specs.Settling.{Settles, after_write}
 use Rattle.job_copies.specs.Taking.{Takes}
+use Rattle.job_ends.proofs.Idle.{all_marked_idle}
+use Rattle.job_ends.specs.Idle.{AllMetAreIdle}
 use Rattle.job_progress.proofs.Belong.{found_there}
 use Rattle.job_tables.proofs.RowEdges.{in_either}
 use Rattle.job_works.proofs.Changed.{changed_at, job_found}
-use Rattle.job_works.specs.Works.{ChangesWork, with_changed, without_work, work_of}
+use Rattle.job_works.specs.Works.{ChangesWork, marked_again, with_changed, without_work, work_of}
 use Rattle.node_copies.specs.Putting.{answer_of}
 use Rattle.qmp_codec.specs.declared.event.JobKind.{JobKind}
 use Rattle.qmp_codec.specs.declared.event.JobKind.TheVariants.{Stream, Commit, Mirror, Backup}
@@ -153,6 +156,13 @@ begun_done works work none all x there = elim (in_either works (work ∷ []) x t
     | inr more ↦ absurd (Contains-nil x more)
   ]
 ]
+
+-- marks are made for a job that met none
+pub marked_done : (job : ℕ) (span : Extent) (works : List JobWork) → FailedAreDone works → FailedAreDone (marked_again job span works)
+marked_done job span works all x there met =
+    let idle : AllMetAreIdle works = λ work here some. let done = all work here some in record { left = done.left; rows = done.rows } in
+    let still = all_marked_idle job span works idle x there met in
+    record { left = still.left; rows = still.rows }
 
 pub gone_done : (job : ℕ) (works : List JobWork) → FailedAreDone works → FailedAreDone (without_work job works)
 gone_done job works all x there = all x (left_in works there)

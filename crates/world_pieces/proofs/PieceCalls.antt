@@ -21,7 +21,8 @@ use Rattle.world_parts.specs.Comes.{Comes}
 use Rattle.world_parts.specs.Face.{WorldSeen}
 use Rattle.blk_pieces.specs.Pieces.{CanTransfer, Transfers}
 use Rattle.world_parts.specs.Piecing.{IsMadeOn, part_of, shown_in_flight, table_after}
-use Rattle.job_progress.specs.Piecing.{IsGuarded}
+use Rattle.block_jobs.specs.Work.{JobWork}
+use Rattle.job_progress.specs.Piecing.{IsGuarded, marked_by}
 use Rattle.world_pieces.proofs.PieceApart.{apart_from_jobs}
 use Rattle.world_pieces.proofs.PieceJobs.{IsApartFromJobs}
 use Rattle.world_pieces.specs.Pieces.{IsGuardedPiece, IsPieceMade, HasPieceLicence, noted_after, written_in}
@@ -61,12 +62,13 @@ drive_there t nodes p opened coherent g next none =
 
 -- ---- what the calls leave together
 
-pub made_of : (w : WorldSeen) (nodes : Nodes) (table : RunTable) (p : Progress) (bitmaps : List Bitmap) (g drive node : ℕ) (f : Flight) (outcome : Outcome) (op : Op)
+pub made_of : (w : WorldSeen) (nodes : Nodes) (table : RunTable) (p : Progress) (bitmaps : List Bitmap) (works : List JobWork) (g drive node : ℕ) (f : Flight) (outcome : Outcome) (op : Op)
     → drive_of w.table g ≡ Some drive → node ≡ disk_node w.table drive
     → f.op ≡ op → table ≡ table_after op node w.table → IsMadeOn w.nodes nodes w.progress p drive node g f outcome
     → bitmaps ≡ noted_after outcome (written_in f.op (part_of f)) drive table w.bitmaps
-    → IsPieceMade w (record w { nodes = nodes; table = table; progress = p; bitmaps = bitmaps }) g f outcome
-made_of w nodes table p bitmaps g drive node f outcome op on is_node asks noted made recorded = record {
+    → works ≡ marked_by f.op outcome w.table node (part_of f) w.works
+    → IsPieceMade w (record w { nodes = nodes; table = table; progress = p; bitmaps = bitmaps; works = works }) g f outcome
+made_of w nodes table p bitmaps works g drive node f outcome op on is_node asks noted made recorded marked = record {
   drive = drive;
   buffer = made.buffer;
   on = on;
@@ -74,17 +76,29 @@ made_of w nodes table p bitmaps g drive node f outcome op on is_node asks noted 
   fits = made.fits;
   shown = made.shown;
   kept =
-      ap (λ (t : RunTable). let v : WorldSeen = record w { nodes = nodes; table = t; progress = p; bitmaps = bitmaps } in v)
+      ap (λ (t : RunTable). let v : WorldSeen = record w { nodes = nodes; table = t; progress = p; bitmaps = bitmaps; works = works } in v)
       (noted ∙ ap (λ (o : Op). table_after o node w.table) (sym asks) ∙ ap (λ (n : ℕ). table_after f.op n w.table) is_node)
-      ∙ ap (λ (q : Progress). let v : WorldSeen = record w { nodes = nodes; table = table_after f.op (disk_node w.table drive) w.table; progress = q; bitmaps = bitmaps } in v) made.noted
+      ∙ ap
+      (λ (q : Progress). let v : WorldSeen = record w { nodes = nodes; table = table_after f.op (disk_node w.table drive) w.table; progress = q; bitmaps = bitmaps; works = works } in v)
+      made.noted
       ∙ ap
       (λ (rows : List Bitmap). let v : WorldSeen = record w {
         nodes = nodes;
         table = table_after f.op (disk_node w.table drive) w.table;
         progress = with_piece_entry g f.next outcome (shown_in_flight f outcome made.buffer) w.progress;
         bitmaps = rows;
+        works = works;
       } in v)
-      recorded;
+      recorded
+      ∙ ap
+      (λ (left : List JobWork). let v : WorldSeen = record w {
+        nodes = nodes;
+        table = table_after f.op (disk_node w.table drive) w.table;
+        progress = with_piece_entry g f.next outcome (shown_in_flight f outcome made.buffer) w.progress;
+        bitmaps = noted_after outcome (written_in f.op (part_of f)) drive table w.bitmaps;
+        works = left;
+      } in v)
+      (marked ∙ ap (λ (n : ℕ). marked_by f.op outcome w.table n (part_of f) w.works) is_node);
 }
 
 -- what holds for the request in flight on its drive
@@ -112,7 +126,7 @@ module _ (w v : WorldSeen) (g : ℕ) (outcome : Outcome) (next : With (flight_at
       (guarded_at w g flight.at made_on.drive flight.is made_on.on guarded) unfolds whole.tell whole.bitmaps
 
   pub made_whole : IsJoined v.nodes → IsWholeWorld v
-  made_whole = piece_whole w v g flight.at outcome made_on flight.holds flight.is joined whole.coherent whole.jobs apart whole.tell whole.counted whole.bitmaps
+  made_whole = piece_whole w v g flight.at outcome made_on flight.holds flight.is joined whole.coherent whole.jobs apart whole
 
   pub made_licence : (f : Flight) (flies : flight_at w.progress.guests g ≡ Some f) → (m : IsPieceMade w v g f outcome) × HasPieceLicence w v g f outcome m
   made_licence f flies = (made f flies, piece_licence w v g f outcome (made f flies) (next_at (flight_at w.progress.guests g) f next flies) flies joined whole.coherent whole.jobs)

@@ -23,7 +23,7 @@ use Rattle.qmp_rules.specs.Table.{RunTable, child, device_by_number}
 use Rattle.qmp_rules.specs.declared.rows.DeviceRow.{DeviceRow}
 use Rattle.flat_machine.specs.EventLicence.{IsOnTheWay, ReachesDevice, RoseIn, WouldPass, full_by, faulty_device}
 use Rattle.flat_machine.specs.Legal.{Fits, IsForbidden}
-use Rattle.flat_machine.specs.Licence.{fault_at, named_by}
+use Rattle.flat_machine.specs.Licence.{fault_at, faults_of, named_by}
 use Rattle.flat_machine.specs.Machine.{after, flight_of, replay, with_part, with_piece}
 use Rattle.flat_machine.specs.Opening.{start}
 use Rattle.flat_machine.specs.Marks.{IsCalm}
@@ -39,7 +39,7 @@ use Rattle.blk_nodes.specs.Joined.{IsJoined}
 use Rattle.blk_nodes.specs.Nodes.{DeviceSeen, AreTold, is_device_of}
 use Rattle.blk_nodes.specs.Reading.{LeadsTo, StoppedAt, StoppedBy}
 use Rattle.blk_nodes.specs.Writing.{IsApartFrom}
-use Rattle.world_parts.specs.Coherent.{AreJobsKept, IsCoherent, IsWholeWorld, DevicesTell}
+use Rattle.world_parts.specs.Coherent.{AreDrainsKept, AreJobsKept, IsCoherent, IsWholeWorld, DevicesTell}
 use Rattle.world_parts.specs.Comes.{Comes, ShowsState}
 use Rattle.world_parts.specs.Counting.{RunsOn, IsFaultReached, IsReachedBy, seen_sources, counts_within, HidesNoFault}
 use Rattle.world_parts.specs.Face.{WorldSeen, dirty_of, held, counts_now, first_counts, node_over, contents_of}
@@ -54,12 +54,14 @@ use Rattle.world_parts.specs.Tabling.{piece_table, piece_dirty}
 use Rattle.world_pieces.proofs.BitmapsNoted.{noted-follow, noted-listed}
 use Rattle.world_parts.proofs.Coherence.{coherent-past}
 use Rattle.world_parts.proofs.CountLemmas.{runs-devices, reached-held, out-same}
+use Rattle.world_parts.proofs.DrainsKept.{asked_same, drains_stay}
 use Rattle.world_parts.proofs.Quiet.{files-beside}
 use Rattle.world_parts.proofs.Rises.{rises-entry}
-use Rattle.world_parts.specs.Keeping.{AreRises, ShowsJobs, all_faults}
-use Rattle.world_pieces.proofs.PieceJobs.{IsApartFromJobs, can_pass, jobs_after, no_commit, unmarked}
+use Rattle.world_parts.specs.Keeping.{AreRises, ShowsJobs, faults_kept}
+use Rattle.world_pieces.proofs.PieceJobs.{IsApartFromJobs, can_pass, jobs_after, marked_faults, no_commit}
 use Rattle.job_ends.proofs.Held.{other_held}
 use Rattle.job_entries.proofs.Found.{other_begun}
+use Rattle.job_progress.proofs.Belong.{marks_belong}
 use Rattle.job_progress.proofs.Entries.{entries_leave}
 use Rattle.job_progress.proofs.Pieces.{piece_goes}
 use Rattle.job_progress.specs.Going.{AreJobsAhead}
@@ -169,21 +171,32 @@ module _ (w v : WorldSeen) (g : ℕ) (f : Flight) (outcome : Outcome) (made : Is
   tell_then tell now = λ tells.
       told_after w.table f.op w.nodes v.nodes made.drive node part outcome made.buffer joined now moved.devices went (tell (sym (ap (λ (x : WorldSeen). is_some x.files) made.kept) ∙ tells))
 
-  works_kept : v.works ≡ w.works
-  works_kept = ap (λ (x : WorldSeen). x.works) made.kept
+  works_then : v.works ≡ marked_by f.op outcome w.table node part w.works
+  works_then = ap (λ (x : WorldSeen). x.works) made.kept
 
   pub piece_jobs : IsApartFromJobs w.table node f.op → AreJobsKept v.table v.works v.progress.aside
   piece_jobs apart =
       subst (λ (x : WorldSeen). AreJobsKept x.table x.works x.progress.aside) (sym made.kept)
-      (jobs_after w.table node w.works w.progress.aside f.op was.table.stands kept apart)
+      (jobs_after w.table node w.works (marked_by f.op outcome w.table node part w.works) w.progress.aside f.op was.table.stands kept
+      (marks_belong w.table node f.op outcome part w.works kept.belong) apart)
 
-  pub piece_whole : IsApartFromJobs w.table node f.op → DevicesTell w.files w.nodes.devices → w.first_faults ≤ w.faults → AreBitmapsOf w.table.bitmaps w.bitmaps → IsJoined v.nodes → IsWholeWorld v
-  piece_whole apart tell counted bitmaps now = record {
+  -- the faults that jobs keep are those that they kept
+  faults_same : faults_kept v.works ≡ faults_kept w.works
+  faults_same = ap faults_kept works_then ∙ marked_faults f.op outcome w.table node part w.works
+
+  pub piece_drains : AreDrainsKept w.table w.drains → AreDrainsKept v.table v.drains
+  piece_drains drains =
+      subst (λ (x : WorldSeen). AreDrainsKept x.table x.drains) (sym made.kept)
+      (drains_stay w.table (table_after f.op node w.table) w.drains (asked_same w.table (table_after f.op node w.table) (eased_after f.op node w.table).jobs) drains)
+
+  pub piece_whole : IsApartFromJobs w.table node f.op → IsWholeWorld w → IsJoined v.nodes → IsWholeWorld v
+  piece_whole apart whole now = record {
     coherent = piece_coherent;
-    tell = tell_then tell now;
-    counted = subst (λ (x : WorldSeen). x.first_faults ≤ x.faults) (sym made.kept) counted;
-    bitmaps = noted-listed outcome made.drive w.bitmaps (written_in f.op part) v.bitmaps w.table v.table node f.op table_kept noted bitmaps;
+    tell = tell_then whole.tell now;
+    counted = subst (λ (x : WorldSeen). x.first_faults ≤ x.faults) (sym made.kept) whole.counted;
+    bitmaps = noted-listed outcome made.drive w.bitmaps (written_in f.op part) v.bitmaps w.table v.table node f.op table_kept noted whole.bitmaps;
     jobs = piece_jobs apart;
+    drains = piece_drains whole.drains;
   }
 
   -- what is dirty then, by the table alone
@@ -342,7 +355,7 @@ module _ (w v : WorldSeen) (g : ℕ) (f : Flight) (outcome : Outcome) (made : Is
             let far = piece_goes (start o) w.progress.log.events s made.drive outcome part (contents_of w) (contents_of v) w.works (rw t_is kept.stand) (rw t_is kept.belong)
             (rw (s_node, t_is) within) going.ahead f.op (can_write o s unfolds told bitmaps shows joined_now) pass (did o s unfolds told bitmaps shows joined_now) in
             let same = subst (AreJobsAhead (start o) w.progress.log.events now (disk_of v.nodes))
-            (ap (λ (t : RunTable). marked_by f.op outcome t (disk_node t made.drive) part w.works) t_is ∙ unmarked w.table w.works w.progress.aside kept f.op outcome node part ∙ sym works_kept) far in
+            (ap (λ (t : RunTable). marked_by f.op outcome t (disk_node t made.drive) part w.works) t_is ∙ sym works_then) far in
             entries_leave (start o) now (after s entry) w.progress.log.events entry (disk_of v.nodes) v.works (ap (λ (x : State). x.table) is_now) (ap (λ (x : State). x.disks) is_now) (ap (λ (x : State). x.begun) is_now) same;
         unsure = other_held s entry refl going.unsure;
         whole =
@@ -379,7 +392,7 @@ module _ (w v : WorldSeen) (g : ℕ) (f : Flight) (outcome : Outcome) (made : Is
         coherent = λ coherent. piece_coherent;
         jobs = λ jobs. piece_jobs apart;
         kept = λ rises.
-            subst (λ works. AreRises (first_counts v) (counts_now v) (all_faults (w.progress.log.events ++ entry ∷ []) works)) (sym works_kept)
+            subst (λ faults. AreRises (first_counts v) (counts_now v) (faults_of (w.progress.log.events ++ entry ∷ []) ++ faults)) (sym faults_same)
             (rises-entry w v piece_runs w.progress.log.events w.works entry piece_reached rises);
         sound = λ tells. images-sound v joined_now piece_coherent (tell_then told joined_now tells);
         fits = λ tells shows going.

@@ -16,6 +16,7 @@ use Rattle.blk_history.specs.Fold.{With}
 use Rattle.blk_history.specs.Machine.{Flight}
 use Rattle.blk_nodes.specs.Joined.{IsJoined}
 use Rattle.blk_nodes.specs.Nodes.{driver_kind}
+use Rattle.qmp_codec.specs.declared.event.JobKind.TheVariants.{Backup}
 use Rattle.qmp_rules.specs.Chains.{disk_from, disk_node, filter_role, filtered}
 use Rattle.qmp_rules.specs.Table.{RunTable, child}
 use Rattle.qmp_rules.specs.declared.rows.JobRecord.{JobRecord}
@@ -33,12 +34,12 @@ use Rattle.world_pieces.proofs.PieceWriters.{filter_edge, into_write, own_row, r
 
 module _ (w : WorldSeen) (g : ℕ) (f : Flight) (drive : ℕ) (on : drive_of w.table g ≡ Some drive) (flies : flight_at w.progress.guests g ≡ Some f) (joined : IsJoined w.nodes)
     (was : IsCoherent w.table w.nodes w.opened w.progress) (kept : AreJobsKept w.table w.works w.progress.aside) (writes : is_write f.op ≡ true)
-    (row : JobRecord) (here : Contains w.table.jobs row) (source : disk_node w.table drive ≡ row.source) where
+    (row : JobRecord) (here : Contains w.table.jobs row) (backs : row.kind ≡ Backup) (source : disk_node w.table drive ≡ row.source) where
   abbrev t : RunTable
   t = w.table
 
   stands : CopyStands t row BeforeWrite
-  stands = subst (StandsByKind t row) (kept.lone row here).kind (kept.stand.each row here).shape
+  stands = subst (StandsByKind t row) backs (kept.stand.each row here).shape
 
   abbrev filter : ℕ
   filter = stands.filter.filter
@@ -101,4 +102,4 @@ module _ (w : WorldSeen) (g : ℕ) (f : Flight) (drive : ℕ) (on : drive_of w.t
   -- what is copied before it is done for the backup
   pub done_for_backup : IsDoneFor t (PieceOn drive f.op) row
   done_for_backup =
-      ((kept.lone row here).kind, writes, subst (λ (o : Option ℕ). With o (λ n. Contains (path t drive) n)) (sym stands.filter.is_filter) passes)
+      (backs, writes, subst (λ (o : Option ℕ). With o (λ n. Contains (path t drive) n)) (sym stands.filter.is_filter) passes)
