@@ -1,3 +1,4 @@
+pub mod CopyPlans
 pub mod NewJobs
 pub mod EndTable
 pub mod EndNodes

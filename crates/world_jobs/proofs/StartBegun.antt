@@ -1,4 +1,4 @@
--- A backup begins behind the reply to its command: what it leaves of bitmaps, works and history is what its row says.
+-- A backup or a mirror begins behind the reply to its command: what it leaves of bitmaps, works and history is what its row says.
 use Rattle.std.proofs.Common.{◌≡◌, ℕ, ◌+◌, List, [], ◌∷◌, ◌++◌, map, Option, Some, None, refl, sym, ◌∙◌, ap}
 use Rattle.blk_bitmaps.specs.Calls.{Freeze, NoteAll, rows_after_call}
 use Rattle.blk_bitmaps.specs.declared.row.Bitmap.{Bitmap}

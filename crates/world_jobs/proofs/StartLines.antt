@@ -1,4 +1,4 @@
--- Lines that start backups: what is answered, and the world behind them.
+-- Lines that start backups and mirrors: what is answered, and the world behind them.
 use Rattle.std.proofs.Common.{◌≡◌, ℕ, true, List, [], ◌∷◌, ◌++◌, Some, None, Ok, inr, refl, ap, subst}
 use Rattle.std.specs.Prelude.{IsSome}
 use Rattle.blk_history.specs.declared.event.Event.{Event}
@@ -12,13 +12,12 @@ use Rattle.flat_machine.specs.Marks.{Drained}
 use Rattle.flat_machine.specs.declared.opening.Opening.{Opening}
 use Rattle.flat_machine.specs.Replies.{is_accepted}
 use Rattle.flat_machine.proofs.Answered.{reads_accepted}
+use Rattle.job_commands.specs.Begun.{CopyCmd, cmd_of, copy_job}
 use Rattle.qmp_codec.specs.Lines.{command_at, id_at}
-use Rattle.qmp_codec.specs.declared.command.Command.TheVariants.{BlockdevBackup}
-use Rattle.qmp_codec.specs.declared.jobs.Backup.{Backup}
 use Rattle.qmp_rules.specs.Answers.{line_text, returned, told_none}
-use Rattle.qmp_rules.specs.Edits.{backup_job}
 use Rattle.qmp_rules.specs.Table.{RunTable}
 use Rattle.world_goings.specs.Begun.{CanCopyWhole}
+use Rattle.world_goings.proofs.CopyStarts.{new_copy}
 use Rattle.world_goings.proofs.Starts.{starts_comes}
 use Rattle.world_jobs.specs.Beginning.{BegunJob}
 use Rattle.world_jobs.specs.Started.{begun_world, replied_world}
@@ -42,20 +41,20 @@ last_same : (xs : List Event) (a b : Event) → xs ++ a ∷ [] ≡ xs ++ b ∷ [
 last_same [] a b same = let head : a ≡ b = cc same in head
 last_same (x ∷ xs) a b same = let rest : xs ++ a ∷ [] ≡ xs ++ b ∷ [] = cc same in last_same xs a b rest
 
-module _ (w : WorldSeen) (line : Given) (c : Backup (List ℕ)) (good : command_at line.text ≡ Ok (BlockdevBackup c)) where
+module _ (w : WorldSeen) (line : Given) (c : CopyCmd) (good : command_at line.text ≡ Ok (cmd_of c)) where
   -- ---- refused
 
-  module _ (text : List ℕ) (is : IsCarriedAs w w line.text (BlockdevBackup c) text) (some : IsSome is.refusal) where
-    none_starts : is.refusal ≡ None → StartsNoJob w.table (BlockdevBackup c)
+  module _ (text : List ℕ) (is : IsCarriedAs w w line.text (cmd_of c) text) (some : IsSome is.refusal) where
+    none_starts : is.refusal ≡ None → StartsNoJob w.table (cmd_of c)
     none_starts none = absurd (let bad = subst IsSome none some in let no : ⊥ = cc bad in no)
 
-    pub refused_answers : AnswersLine w (lifted (with_history w (with_bare_entry (Reply line.number line.text (Some (BlockdevBackup c)) text)))) line
-    refused_answers = answered_answers w w line text (BlockdevBackup c) good is none_starts
+    pub refused_answers : AnswersLine w (lifted (with_history w (with_bare_entry (Reply line.number line.text (Some (cmd_of c)) text)))) line
+    refused_answers = answered_answers w w line text (cmd_of c) good is none_starts
 
     pub refused_comes : IsWholeWorld w → IsJoined w.nodes → (o : Opening) → IsNotDone (seen_state w) 0 → Comes o w
-        → Comes o (lifted (with_history w (with_bare_entry (Reply line.number line.text (Some (BlockdevBackup c)) text))))
+        → Comes o (lifted (with_history w (with_bare_entry (Reply line.number line.text (Some (cmd_of c)) text))))
     refused_comes whole joined o not_done comes =
-        answered_comes w w line text (BlockdevBackup c) good is none_starts (λ told. images-sound w joined whole.coherent (whole.tell told)) whole.jobs
+        answered_comes w w line text (cmd_of c) good is none_starts (λ told. images-sound w joined whole.coherent (whole.tell told)) whole.jobs
         (λ told. row_sizes w.table w.nodes whole.coherent.alike joined (whole.tell told)) o not_done comes
 
   -- ---- accepted
@@ -64,17 +63,17 @@ module _ (w : WorldSeen) (line : Given) (c : Backup (List ℕ)) (good : command_
       (sound : IsJobWork new.work)
       (did : IsStarted (seen_state w) line.text c w.bitmaps (start_scene w.table w.nodes w.drains) (start_scene u now drains) text new) where
     abbrev reply : Event
-    reply = Reply line.number line.text (Some (BlockdevBackup c)) text
+    reply = Reply line.number line.text (Some (cmd_of c)) text
 
     replied : IsReplied w (replied_world w u now reply) line
     replied =
-        answered_replied w (record w { table = u; nodes = now }) line text (BlockdevBackup c) good
+        answered_replied w (record w { table = u; nodes = now }) line text (cmd_of c) good
         (start_accepted w line.text c whole joined unfolds u now did.accepted did.calm did.table did.puts after text did.said)
 
     begins : BeginsOne w.table (replied_world w u now reply) (begun_world w u now c reply)
     begins = record {
-      row = backup_job w.table None c;
-      number = refl;
+      row = copy_job w.table c;
+      number = (new_copy w.table c).number;
       started = start_counted w u now c whole joined did.accepted did.table did.puts after new did.new_is sound reply;
       begins = record { there = start_found w u now c whole joined did.accepted did.table did.puts after new did.new_is sound reply; kept = refl };
     }
@@ -90,9 +89,9 @@ module _ (w : WorldSeen) (line : Given) (c : Backup (List ℕ)) (good : command_
         cc one
 
     says : is_accepted (line_text w.table replied.told line.text) ≡ true
-    says = subst (λ (t : List ℕ). is_accepted t ≡ true) text_same (reads_accepted text (id_at line.text) (returned w.table told_none (BlockdevBackup c)) did.said.reads)
+    says = subst (λ (t : List ℕ). is_accepted t ≡ true) text_same (reads_accepted text (id_at line.text) (returned w.table told_none (cmd_of c)) did.said.reads)
 
     -- where its copy can be made
-    pub begun_comes : (o : Opening) → IsNotDone (seen_state w) 0 → CanCopyWhole o w (backup_job w.table None c) → Comes o w → Comes o (begun_world w u now c reply)
+    pub begun_comes : (o : Opening) → IsNotDone (seen_state w) 0 → CanCopyWhole o w (copy_job w.table c) → Comes o w → Comes o (begun_world w u now c reply)
     begun_comes o not_done can comes =
         starts_comes o w (replied_world w u now reply) (begun_world w u now c reply) line c good replied begins whole joined unfolds after can says not_done comes

@@ -1,23 +1,21 @@
--- Where a backup is accepted there are fewer works than may be, and room for its entries.
+-- Where a backup or a mirror is accepted there are fewer works than may be, and room for its entries.
 use Rattle.std.proofs.Common.{◌≡◌, ◌≢◌, ◌⊎◌, ℕ, suc, ◌+◌, ◌<◌, ◌≤◌, ◌==◌, Bool, true, false, cond, not, List, [], ◌∷◌, ◌++◌, length, None, refl, sym, ◌∙◌, ap, arith, inl, inr}
 use Rattle.std.specs.Prelude.{Contains, filter}
 use Rattle.std.proofs.lemmas.Bool.{eq-eqb, leb-false, ne_eqb}
 use Rattle.blk_graph.proofs.Members.{Contains-cases, Contains-here, Contains-nil, Contains-there}
 use Rattle.block_jobs.specs.Work.{JobWork}
-use Rattle.flat_machine.proofs.Asked.{NoneHolds, none-behind, none-holds, not-refused}
+use Rattle.flat_machine.proofs.Asked.{not-refused}
+use Rattle.job_commands.specs.Begun.{CopyCmd, cmd_of}
 use Rattle.job_progress.specs.Belonging.{AreWorksOf}
 use Rattle.job_progress.proofs.Belong.{AreOnce, once_of}
 use Rattle.job_tables.proofs.StartCommands.{accepted_met}
-use Rattle.qmp_asks.specs.CommandAsks.{asks_of}
-use Rattle.qmp_asks.specs.JobAsks.{backup_names, backup_rest, backup_values}
 use Rattle.qmp_asks.specs.declared.ask.Ask.TheVariants as ask
-use Rattle.qmp_codec.specs.declared.command.Command.TheVariants.{BlockdevBackup}
-use Rattle.qmp_codec.specs.declared.jobs.Backup.{Backup}
 use Rattle.qmp_rules.specs.Answers.{refusal_to, told_none}
 use Rattle.qmp_rules.specs.Asks.{holds}
 use Rattle.qmp_rules.specs.Changes.{without_job}
 use Rattle.qmp_rules.specs.Table.{RunTable}
 use Rattle.qmp_rules.specs.declared.rows.JobRecord.{JobRecord}
+use Rattle.world_goings.proofs.CopyStarts.{copy_asked}
 use Rattle.world_parts.specs.Coherent.{IsWholeWorld, entries_owed, entries_owed_by}
 use Rattle.world_parts.specs.Face.{WorldSeen}
 
@@ -85,20 +83,13 @@ few_owed (row ∷ rows) =
 
 -- ---- the world
 
-module _ (w : WorldSeen) (c : Backup (List ℕ)) (whole : IsWholeWorld w) (none : refusal_to w.table told_none (BlockdevBackup c) ≡ None) where
-  asked : NoneHolds w.table told_none (backup_rest c)
-  unfolding asks_of
-  asked =
-      let all : NoneHolds w.table told_none (backup_values c ++ backup_names c ++ backup_rest c)
-      = none-holds w.table told_none (asks_of (BlockdevBackup c)) (accepted_met w.table told_none (BlockdevBackup c) none).1.asks in
-      none-behind w.table told_none (backup_values c ++ backup_names c) (backup_rest c) all
-
+module _ (w : WorldSeen) (c : CopyCmd) (whole : IsWholeWorld w) (none : refusal_to w.table told_none (cmd_of c) ≡ None) where
   by_ask : holds w.table told_none ask.RoomForJob ≡ None → length w.table.jobs < 16
   unfolding holds
   by_ask h = leb-false 16 (length w.table.jobs) (not-refused _ _ h)
 
   few_jobs : length w.table.jobs < 16
-  few_jobs = by_ask asked.1.1.1.1.1.0
+  few_jobs = by_ask (copy_asked w.table told_none c (accepted_met w.table told_none (cmd_of c) none).1).jobs
 
   pub few_works : length w.works < 16
   few_works =

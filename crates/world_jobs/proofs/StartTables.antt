@@ -1,4 +1,4 @@
--- The table behind the start of a backup: its target has no flat disk, and its filter is there, between its source and the source's parents.
+-- The table behind the start of a backup or a mirror: its target has no flat disk, and its filter is there, between its source and the source's parents.
 use Rattle.std.proofs.Common.{◌≡◌, ◌≢◌, ℕ, Bool, true, false, cond, List, [], ◌∷◌, ◌++◌, map, Option, Some, None, refl, sym, ◌∙◌, ap, subst}
 use Rattle.std.specs.Prelude.{◌==◌, IsSome, find, option_map}
 use Rattle.std.proofs.lemmas.Bool.{eq-eqb, eqb-true, ne_eqb}
@@ -7,7 +7,7 @@ use Rattle.blk_graph.specs.declared.edge.Parent.TheVariants.{Job, Node}
 use Rattle.blk_graph.specs.declared.edge.Role.{Role}
 use Rattle.blk_graph.specs.declared.edge.Role.TheVariants.{Between, Filtered}
 use Rattle.blk_graph.specs.declared.kind.JobUse.TheVariants.{CopyTarget}
-use Rattle.blk_graph.specs.declared.kind.Kind.TheVariants as driver
+use Rattle.blk_graph.specs.declared.kind.Kind.{Kind}
 use Rattle.blk_graph.specs.declared.kind.NodeKind.{NodeKind}
 use Rattle.blk_graph.specs.Edits.{IsLone, child_moved, child_of, with_edge}
 use Rattle.blk_graph.specs.Permissions.{idle_uses, job_edge}
@@ -16,11 +16,9 @@ use Rattle.blk_graph.proofs.ChildLemmas.{child-kept}
 use Rattle.blk_graph.proofs.DraftLemmas.{child_filter, children_filter}
 use Rattle.blk_graph.proofs.Members.{find-Some}
 use Rattle.blk_graph.proofs.RefreshLemmas.{child_of-refreshed}
-use Rattle.qmp_codec.specs.declared.event.JobKind.{JobKind}
-use Rattle.qmp_codec.specs.declared.event.JobKind.TheVariants.{Backup}
 use Rattle.qmp_rules.specs.Asks.{is_file}
 use Rattle.qmp_rules.specs.Changes.{all_changed, changed, filtered_edges, node_changed, unsettled, with_unsettled}
-use Rattle.qmp_rules.specs.Edits.{device_uses, edits_by_kind, file_used, file_uses, filter_edits, filter_row, free_id, of_row, start_edits, target_edits, uses_target}
+use Rattle.qmp_rules.specs.Edits.{copy_edits, device_uses, file_used, file_uses, filter_edits, filter_row, free_id, of_row, start_edits, target_edits, uses_target}
 use Rattle.qmp_rules.specs.Table.{RunTable, kinds_of, node_by_id}
 use Rattle.qmp_rules.specs.declared.change.Change.{Change}
 use Rattle.qmp_rules.specs.declared.change.Change.TheVariants as change
@@ -91,12 +89,13 @@ used_same t (Some row) = by_file (is_file row)
 
 -- ---- the start
 
-module _ (t : RunTable) (h : TableStands t) (j : JobsStand t) (row : JobRecord) (b : JobBegins t row) (c : CopyBegins t row) (kind : row.kind ≡ Backup) where
+module _ (t : RunTable) (h : TableStands t) (j : JobsStand t) (row : JobRecord) (b : JobBegins t row) (c : CopyBegins t row) (driver : Kind)
+    (copies : start_edits t row ≡ copy_edits t driver row) where
   pub source_there : IsPlainNode t row.source
   source_there = source_plain t h j row b
 
   abbrev pub own : NodeRecord
-  own = filter_row t driver.BeforeWrite row.id source_there.row
+  own = filter_row t driver row.id source_there.row
 
   abbrev first : RunTable
   first = all_changed t (target_edits t (Some c.target))
@@ -126,19 +125,18 @@ module _ (t : RunTable) (h : TableStands t) (j : JobsStand t) (row : JobRecord) 
   abbrev last : RunTable
   last = changed (changed ready (change.StartJob row)) (change.UseNode row.slot CopyTarget c.target)
 
-  filter_is : filter_edits t driver.BeforeWrite row ≡ change.PutFilter own row.source ∷ []
+  filter_is : filter_edits t driver row ≡ change.PutFilter own row.source ∷ []
   filter_is =
-      ap (of_row (λ r. change.PutFilter (filter_row t driver.BeforeWrite row.id r) r.id ∷ [])) source_there.there
+      ap (of_row (λ r. change.PutFilter (filter_row t driver row.id r) r.id ∷ [])) source_there.there
       ∙ ap (λ n. change.PutFilter own n ∷ []) (eqb-true source_there.row.id row.source (find-Some (λ (r : NodeRecord). r.id == row.source) t.nodes source_there.row source_there.there).1)
 
   pub start_is : all_changed t (start_edits t row) ≡ last
-  unfolding start_edits
   start_is =
-      ap (λ (k : JobKind). all_changed t (edits_by_kind t row k)) kind
-      ∙ ap (λ (o : Option ℕ). all_changed t (target_edits t o ++ filter_edits t driver.BeforeWrite row ++ change.StartJob row ∷ uses_target row o)) c.is_target
-      ∙ all_changed-append t (target_edits t (Some c.target) ++ filter_edits t driver.BeforeWrite row) (change.StartJob row ∷ uses_target row (Some c.target))
+      ap (all_changed t) copies
+      ∙ ap (λ (o : Option ℕ). all_changed t (target_edits t o ++ filter_edits t driver row ++ change.StartJob row ∷ uses_target row o)) c.is_target
+      ∙ all_changed-append t (target_edits t (Some c.target) ++ filter_edits t driver row) (change.StartJob row ∷ uses_target row (Some c.target))
       ∙ ap (λ (x : RunTable). all_changed x (change.StartJob row ∷ uses_target row (Some c.target)))
-      (all_changed-append t (target_edits t (Some c.target)) (filter_edits t driver.BeforeWrite row) ∙ ap (all_changed first) filter_is)
+      (all_changed-append t (target_edits t (Some c.target)) (filter_edits t driver row) ∙ ap (all_changed first) filter_is)
 
   -- ---- its rows
 

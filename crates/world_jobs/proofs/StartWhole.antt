@@ -1,4 +1,4 @@
--- The parts of a world belong together behind the start of a backup.
+-- The parts of a world belong together behind the start of a backup or a mirror.
 use Rattle.std.proofs.Common.{◌≡◌, ℕ, ◌≤◌, ◌+◌, ◌^◌, List, [], ◌∷◌, ◌++◌, Option, Some, None, refl, sym, ◌∙◌, ap, subst}
 use Rattle.blk_bitmaps.specs.declared.row.Bitmap.{Bitmap}
 use Rattle.blk_history.specs.declared.event.Event.{Event}
@@ -10,14 +10,12 @@ use Rattle.flat_machine.specs.Comes.{job_line_of}
 use Rattle.flat_machine.specs.Jobs.{granules_of, target_written}
 use Rattle.flat_machine.specs.State.{Dirty, State}
 use Rattle.flat_machine.proofs.BitmapUses.{begins_sound, dirtied_sound}
+use Rattle.job_commands.specs.Begun.{CopyCmd, cmd_of, copy_job}
 use Rattle.job_progress.specs.Beginning.{begun_by, work_begun}
 use Rattle.job_tables.specs.Accepted.{IsMet, JobsAreDrawn}
 use Rattle.job_tables.proofs.StartCommands.{accepted_met}
-use Rattle.qmp_codec.specs.declared.command.Command.TheVariants.{BlockdevBackup}
-use Rattle.qmp_codec.specs.declared.jobs.Backup.{Backup}
 use Rattle.qmp_rules.specs.Answers.{command_edits, refusal_to, told_none}
 use Rattle.qmp_rules.specs.Changes.{all_changed, busy_by}
-use Rattle.qmp_rules.specs.Edits.{backup_job}
 use Rattle.qmp_rules.specs.Queries.{bytes_of_node}
 use Rattle.qmp_rules.specs.Table.{RunTable, job_at}
 use Rattle.qmp_rules.specs.declared.rows.JobRecord.{JobRecord}
@@ -30,6 +28,7 @@ use Rattle.world_parts.specs.Face.{WorldSeen, seen_state}
 use Rattle.world_parts.specs.Jobs.{PutsFilter, bitmaps_begun, filled_for, frozen_for}
 use Rattle.world_parts.specs.Progress.{with_bare_entry, with_start}
 use Rattle.world_parts.specs.Steps.{lifted, with_history}
+use Rattle.world_parts.proofs.DrainsKept.{asked_pushed, drains_stay}
 use Rattle.world_parts.proofs.DrawnEdges.{drawn_by_nodes}
 
 -- the size of its work
@@ -37,12 +36,12 @@ begun_size : (row : JobRecord) (size : ℕ) (found : Option Dirty) → (begun_by
 begun_size row size None = refl
 begun_size row size (Some d) = refl
 
-module _ (w : WorldSeen) (u : RunTable) (now : Nodes) (c : Backup (List ℕ)) (whole : IsWholeWorld w) (joined : IsJoined w.nodes)
-    (none : refusal_to w.table told_none (BlockdevBackup c) ≡ None) (table_is : u ≡ all_changed w.table (command_edits w.table told_none (BlockdevBackup c)))
-    (puts : PutsFilter u (backup_job w.table None c) w.nodes now) (after : IsJoined now) (new : BegunJob) (is : IsNewJob u w.bitmaps (backup_job w.table None c) new)
+module _ (w : WorldSeen) (u : RunTable) (now : Nodes) (c : CopyCmd) (whole : IsWholeWorld w) (joined : IsJoined w.nodes)
+    (none : refusal_to w.table told_none (cmd_of c) ≡ None) (table_is : u ≡ all_changed w.table (command_edits w.table told_none (cmd_of c)))
+    (puts : PutsFilter u (copy_job w.table c) w.nodes now) (after : IsJoined now) (new : BegunJob) (is : IsNewJob u w.bitmaps (copy_job w.table c) new)
     (sound : IsJobWork new.work) (reply : Event) where
   abbrev row : JobRecord
-  row = backup_job w.table None c
+  row = copy_job w.table c
 
   -- behind the reply
   abbrev then : WorldSeen
@@ -56,8 +55,8 @@ module _ (w : WorldSeen) (u : RunTable) (now : Nodes) (c : Backup (List ℕ)) (w
     progress = with_start row.number (job_line_of (seen_state then) (Some row)) then.progress;
   }
 
-  met : IsMet w.table told_none (BlockdevBackup c)
-  met = (accepted_met w.table told_none (BlockdevBackup c) none).1
+  met : IsMet w.table told_none (cmd_of c)
+  met = (accepted_met w.table told_none (cmd_of c) none).1
 
   drawn : JobsAreDrawn w.table
   drawn =
@@ -94,7 +93,7 @@ module _ (w : WorldSeen) (u : RunTable) (now : Nodes) (c : Backup (List ℕ)) (w
 
   -- ---- all of it
 
-  pub start_found : job_at u (backup_job w.table None c).number ≡ Some (backup_job w.table None c)
+  pub start_found : job_at u (copy_job w.table c).number ≡ Some (copy_job w.table c)
   start_found =
       found_next w.table u told_none told_none c w.works w.progress.aside whole.jobs whole.coherent.table.stands drawn met table_is
       (jobs_are w u now told_none told_none c whole joined none table_is puts after) size_is small
@@ -128,4 +127,6 @@ module _ (w : WorldSeen) (u : RunTable) (now : Nodes) (c : Backup (List ℕ)) (w
         counted = whole.counted;
         bitmaps = bitmaps_then;
         jobs = jobs_kept;
+        drains = drains_stay w.table u last.drains (asked_pushed w.table u row (jobs_are w u now told_none told_none c whole joined none table_is puts after))
+            (record { each = whole.drains.each; once = whole.drains.once });
       }

@@ -1,4 +1,4 @@
--- The nodes with a backup's filter may take the kinds and edges of the table behind its start.
+-- The nodes with a job's filter may take the kinds and edges of the table behind its start.
 use Rattle.std.proofs.Common.{◌≡◌, ◌≢◌, ◌⊎◌, ℕ, ◌<◌, Bool, true, false, cond, List, length, Option, Some, None, refl, sym, ◌∙◌, ap, subst, arith, inl, inr}
 use Rattle.std.specs.Prelude.{◌==◌, IsSome, option_and_then, option_map, slice_set}
 use Rattle.std.proofs.lemmas.Bool.{cases_eq, eq-eqb, eqb-true, ne_eqb}
@@ -18,11 +18,11 @@ use Rattle.blk_graph.proofs.Members.{find-Some}
 use Rattle.blk_history.specs.Fold.{With}
 use Rattle.blk_nodes.specs.Adding.{filtering_row, with_node_row}
 use Rattle.blk_nodes.specs.Joined.{HasBelow, HasSize, IsJoined, IsSized}
-use Rattle.blk_nodes.specs.Nodes.{Nodes, driver_kind, row_at}
+use Rattle.blk_nodes.specs.Nodes.{Nodes, driver_kind, filter_kind, row_at}
 use Rattle.blk_nodes.specs.Rewiring.{IsWiring}
 use Rattle.blk_nodes.specs.declared.row.Driver.{Driver}
 use Rattle.blk_nodes.specs.declared.row.Driver.TheVariants as drivers
-use Rattle.blk_nodes.specs.declared.row.FilterKind.TheVariants.{BeforeWrite}
+use Rattle.blk_nodes.specs.declared.row.FilterKind.{FilterKind}
 use Rattle.blk_nodes.specs.declared.row.Row.{Row}
 use Rattle.flat_machine.specs.Suiting.{IsPlainNode}
 use Rattle.flat_machine.specs.Wiring.{IsDiskOf, LeadsToFile, TableStands}
@@ -37,7 +37,7 @@ use Rattle.world_jobs.proofs.SeenTables.{AreSeen, IsListedSo, IsSeen, edges_fit,
 use Rattle.world_jobs.proofs.StartTables.{IsStartTable}
 use Rattle.world_jobs.proofs.Wirings.{LeadRightly, takes_wiring}
 use Rattle.world_parts.specs.Coherent.{AreAlike, AreNodesOf, IsRowOf}
-use Rattle.world_parts.proofs.JobFilters.{filtered_role}
+use Rattle.world_parts.proofs.JobFilters.{filtered_role, filters_role}
 
 -- ---- what a node reads has its size
 
@@ -78,10 +78,10 @@ between_keeps k is = cc is
 
 module _ (t u : RunTable) (nodes : Nodes) (name : List ℕ) (source : ℕ) (own under : NodeRecord) (h : TableStands t) (alike : AreNodesOf t nodes)
     (joined : IsJoined nodes) (plain : IsPlainNode t source) (at_source : node_by_id t source ≡ Some under) (fresh : node_by_id t own.id ≡ None) (small : own.id < 64)
-    (kind : own.kind ≡ kinds.BeforeWrite) (size : own.size ≡ under.size) (put : IsStartTable t u own.id source own) (stands : TableStands u) (drawn : EdgesAreDrawn u)
-    (after : IsJoined (with_node_row nodes own.id name (filtering_row BeforeWrite own.size own.read_only))) where
+    (kind : FilterKind) (of_kind : own.kind ≡ filter_kind kind) (size : own.size ≡ under.size) (put : IsStartTable t u own.id source own) (stands : TableStands u) (drawn : EdgesAreDrawn u)
+    (after : IsJoined (with_node_row nodes own.id name (filtering_row kind own.size own.read_only))) where
   abbrev own_row : Row
-  own_row = filtering_row BeforeWrite own.size own.read_only
+  own_row = filtering_row kind own.size own.read_only
 
   abbrev now : Nodes
   now = with_node_row nodes own.id name own_row
@@ -99,7 +99,7 @@ module _ (t u : RunTable) (nodes : Nodes) (name : List ℕ) (source : ℕ) (own 
     | inl same ↦
         subst (λ (m : ℕ). AreSeen (node_by_id u m) (row_at now m)) (sym same)
         (subst (λ (r : Option Row). AreSeen (node_by_id u own.id) r) (sym row_new)
-        (subst (λ (r : Option NodeRecord). AreSeen r (Some own_row)) (sym put.new) (record { kind = kind; size = refl })))
+        (subst (λ (r : Option NodeRecord). AreSeen r (Some own_row)) (sym put.new) (record { kind = of_kind; size = refl })))
     | inr apart ↦
         subst (AreSeen (node_by_id u n)) (sym (row_old n apart))
         (subst (λ (r : Option NodeRecord). AreSeen r (row_at nodes n)) (sym (put.found n apart)) (before (node_by_id t n) (row_at nodes n) (alike.rows n)))
@@ -116,7 +116,7 @@ module _ (t u : RunTable) (nodes : Nodes) (name : List ℕ) (source : ℕ) (own 
   not_own : (n : ℕ) (row : Row) → row_at now n ≡ Some row → filter_role (driver_kind row.driver) ≡ None → n ≢ own.id
   not_own n row there format same =
       let is : own_row ≡ row = same_Some own_row row (sym row_new ∙ ap (row_at now) (sym same) ∙ there) in
-      let bad : Some Filtered ≡ None = ap (λ (r : Row). filter_role (driver_kind r.driver)) is ∙ format in
+      let bad : Some Filtered ≡ None = sym (filters_role kind) ∙ ap (λ (r : Row). filter_role (driver_kind r.driver)) is ∙ format in
       cc bad
 
   -- no format node is over the source
@@ -213,10 +213,6 @@ module _ (t u : RunTable) (nodes : Nodes) (name : List ℕ) (source : ℕ) (own 
   own_sized : (s : ℕ) → s ≡ own.size → HasSize now own.id s
   own_sized s is = record { row = own_row; there = row_new; is = sym is }
 
-  filter_roles : (role : Role) → has_role kinds.BeforeWrite role ≡ true → role ≡ Filtered
-  filter_roles Filtered may = refl
-  filter_roles role may = absurd cc
-
   sizes : (n : ℕ) (row : Row) (role : Role) (below : ℕ) → row_at now n ≡ Some row → child_of (Node n) role u.edges ≡ Some below
       → keeps_size (driver_kind row.driver) role ≡ true → HasSize now below row.size
   sizes n row role below there is keeps = elim (cases_eq n own.id) [
@@ -231,7 +227,7 @@ module _ (t u : RunTable) (nodes : Nodes) (name : List ℕ) (source : ℕ) (own 
           let here = find-Some (λ (r : NodeRecord). r.id == own.id) u.nodes own put.new in
           let may : has_role own.kind e.edge.role ≡ true = stands.roles e.edge own e.there here.0 (e.from ∙ ap Node same) in
           let role_is : role ≡ Filtered
-          = sym e.role_is ∙ filter_roles e.edge.role (subst (λ (k : Kind). has_role k e.edge.role ≡ true) kind may) in
+          = sym e.role_is ∙ filtered_role kind e.edge.role (subst (λ (k : Kind). has_role k e.edge.role ≡ true) of_kind may) in
           let leads : below ≡ source
           = same_Some below source (sym is ∙ ap (λ (m : ℕ). child_of (Node m) role u.edges) same ∙ ap (λ (r : Role). child_of (Node own.id) r u.edges) role_is ∙ put.over) in
           subst (λ (m : ℕ). HasSize now m row.size) (sym leads)

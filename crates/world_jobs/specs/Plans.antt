@@ -62,6 +62,9 @@ IsPlanOf _ _ = ⊥
 -- ---- what it drains
 
 -- the start of a backup marks its source, and that of a mirror nothing
-abbrev pub drained_node : RunTable → Plan → JobKind → Option ℕ
-drained_node t plan Backup = id_named t plan.device
-drained_node t plan kind = None
+abbrev pub drained_by_kind : RunTable → Plan → JobKind → Option ℕ
+drained_by_kind t plan Backup = id_named t plan.device
+drained_by_kind t plan kind = None
+
+abbrev pub drained_node : RunTable → Plan → Option ℕ
+drained_node t plan = drained_by_kind t plan plan.kind

@@ -55,7 +55,7 @@ fn listed(alloc: Global, node: Option<NodeId>) -> Result<Vec<NodeId>, NoMemory>
 
 /// The node that a start drains: a backup its source, and a mirror none.
 fn drained_node(names: &Names, plan: CopyPlan<'_>) -> Option<NodeId>
-    ensures { result ≡ drained_node names.now.table (seen_plan plan) plan.kind }
+    ensures { result ≡ drained_node names.now.table (seen_plan plan.entry) }
 {
     match plan.kind {
         JobKind::Backup => names.id_named(plan.device),
@@ -74,9 +74,9 @@ fn drain(
     requires few { (g : ℕ) → IsSome (drive_of names.now.table g) → g < 80 }
     ensures first { IfOk result
         (λ found. (s : State) → s.table ≡ names.now.table → s.guests ≡ progress.now.guests
-        → IsFirstOf s (ids_of (drained_node names.now.table (seen_plan plan) plan.kind)) found) }
+        → IsFirstOf s (ids_of (drained_node names.now.table (seen_plan plan.entry))) found) }
     ensures held { IfOk result (λ found. drained.new ≡ held_if found
-        (ids_of (drained_node names.now.table (seen_plan plan) plan.kind)) drained.old) }
+        (ids_of (drained_node names.now.table (seen_plan plan.entry))) drained.old) }
     ensures back { OnErr result (drained.new ≡ drained.old) }
 {
     let disks = listed(alloc, drained_node(names, plan))?;
@@ -105,7 +105,7 @@ fn node_named<'x>(names: &'x Names, name: &str) -> &'x NodeRecord
 
 /// The bitmap that is copied by.
 fn bitmap_by<'x>(bitmaps: &'x Bitmaps, source: NodeId, name: Option<&str>) -> Option<&'x Bitmap>
-    ensures { option_copied result ≡ bitmap_by bitmaps.now source (seen_text name) }
+    ensures { option_copied result ≡ bitmap_by bitmaps.now source (seen_text name.entry) }
 {
     match name {
         Some(name) => bitmaps.find(source, name),
@@ -184,7 +184,7 @@ fn new_aside(
     name: Option<&str>,
 ) -> Result<Option<Aside>, NoMemory>
     requires { IsUsable bitmaps.now source (seen_text name) }
-    ensures { IfOk result (λ aside. IsAsideFor bitmaps.now source (seen_text name)
+    ensures { IfOk result (λ aside. IsAsideFor bitmaps.now source (seen_text name.entry)
         (option_map aside_of aside)) }
 {
     match name {
@@ -205,7 +205,7 @@ fn new_job(
     plan: CopyPlan<'_>,
 ) -> Result<NewJob, NoMemory>
     requires { CanStart names.now.table bitmaps.now (seen_plan plan) }
-    ensures { IfOk result (λ new. (c : CopyCmd) → seen_plan plan ≡ plan_of c
+    ensures { IfOk result (λ new. (c : CopyCmd) → seen_plan plan.entry ≡ plan_of c
         → IsNewJob names.now.table bitmaps.now (copy_job names.now.table c) new) }
 {
     let source = node_named(names, plan.device);
@@ -247,8 +247,9 @@ fn filter_name(alloc: Global, kind: JobKind, id: &str) -> Result<Text, NoMemory>
 
 /// The same, which no node has: filters have the ids of their jobs, and no other name has a colon.
 fn fresh_name(alloc: Global, names: &Names, plan: CopyPlan<'_>) -> Result<Text, NoMemory>
-    ensures name { IfOk result (λ name. name.bytes ≡ name_of (seen_plan plan)) }
-    ensures fresh { OnOk result (node_named names.now.table (name_of (seen_plan plan)) ≡ None) }
+    ensures name { IfOk result (λ name. name.bytes ≡ name_of (seen_plan plan.entry)) }
+    ensures fresh { OnOk result
+        (node_named names.now.table (name_of (seen_plan plan.entry)) ≡ None) }
 {
     let name = filter_name(alloc, plan.kind, plan.job_id)?;
     if names.node_named(name.as_str()).is_some() {
@@ -327,12 +328,14 @@ fn start_memory(
     ensures text { IfOk result (λ m. IsSaid given.now
         (Ok (returned names.now.table told_none (seen_command command.now)))
         (string_bytes m.text)) }
-    ensures new { IfOk result (λ m. (c : CopyCmd) → seen_plan plan ≡ plan_of c
+    ensures new { IfOk result (λ m. (c : CopyCmd) → seen_plan plan.entry ≡ plan_of c
         → IsNewJob names.now.table bitmaps.now (copy_job names.now.table c) m.new) }
-    ensures filter { IfOk result (λ m. m.filter.bytes ≡ name_of (seen_plan plan)) }
-    ensures fresh { OnOk result (node_named names.now.table (name_of (seen_plan plan)) ≡ None) }
-    ensures shape { IfOk result (λ m. IfSome (node_named names.now.table (seen_plan plan).device)
-        (λ row. m.shape ≡ shape_over plan.kind row)) }
+    ensures filter { IfOk result (λ m. m.filter.bytes ≡ name_of (seen_plan plan.entry)) }
+    ensures fresh { OnOk result
+        (node_named names.now.table (name_of (seen_plan plan.entry)) ≡ None) }
+    ensures shape { IfOk result
+        (λ m. IfSome (node_named names.now.table (seen_plan plan.entry).device)
+        (λ row. m.shape ≡ shape_over plan.entry.kind row)) }
 {
     let shape = filter_shape(names, plan.kind, plan.device);
     let filter = fresh_name(alloc, names, plan)?;
@@ -383,14 +386,16 @@ fn accept<D: Device>(
     plan: CopyPlan<'_>,
     edits: Edits,
 ) -> Result<Started, NoMemory>
+    requires command { (c : CopyCmd) × (seen_command command.now ≡ cmd_of c)
+        × (seen_plan plan ≡ plan_of c) }
     requires can { CanStart names.old.table bitmaps.now (seen_plan plan) }
-    requires fits { (c : CopyCmd) → seen_plan plan ≡ plan_of c
-        → StartFits names.old.table nodes.old c (seen_plan plan) }
+    requires fits { (c : CopyCmd) → seen_command command.now ≡ cmd_of c
+        → seen_plan plan ≡ plan_of c → StartFits names.old.table nodes.old c (seen_plan plan) }
     requires edits { edits ≡ command_edits names.old.table told_none (seen_command command.now) }
     requires room { HasRoomForChanges (length edits) names.old }
     requires fit { AllChangesFit names.old.table edits }
     ensures ok { IfOk result (λ started. (c : CopyCmd) → seen_command command.now ≡ cmd_of c
-        → seen_plan plan ≡ plan_of c → BeginsBehind given.now c bitmaps.now names.old.table
+        → seen_plan plan.entry ≡ plan_of c → BeginsBehind given.now c bitmaps.now names.old.table
         nodes.old names.new.table nodes.new started) }
     ensures table_kept { OnErr result (names.new.table ≡ names.old.table) }
     ensures nodes_kept { OnErr result (nodes.new ≡ nodes.old) }
@@ -414,16 +419,18 @@ fn start_or_wait<D: Device>(
 ) -> Result<Started, NoMemory>
     requires few { (g : ℕ) → IsSome (drive_of names.old.table g) → g < 80 }
     requires accepted { refusal_to names.old.table told_none (seen_command command.now) ≡ None }
+    requires command { (c : CopyCmd) × (seen_command command.now ≡ cmd_of c)
+        × (seen_plan plan ≡ plan_of c) }
     requires can { CanStart names.old.table bitmaps.now (seen_plan plan) }
-    requires fits { (c : CopyCmd) → seen_plan plan ≡ plan_of c
-        → StartFits names.old.table nodes.old c (seen_plan plan) }
+    requires fits { (c : CopyCmd) → seen_command command.now ≡ cmd_of c
+        → seen_plan plan ≡ plan_of c → StartFits names.old.table nodes.old c (seen_plan plan) }
     requires edits { edits ≡ command_edits names.old.table told_none (seen_command command.now) }
     requires room { HasRoomForChanges (length edits) names.old }
     requires fit { AllChangesFit names.old.table edits }
     ensures ok { IfOk result
         (λ started. (s : State) (c : CopyCmd) → s.table ≡ names.old.table
         → s.guests ≡ progress.now.guests → seen_command command.now ≡ cmd_of c
-        → seen_plan plan ≡ plan_of c → IsStartOf s given.now c bitmaps.now
+        → seen_plan plan.entry ≡ plan_of c → IsStartOf s given.now c bitmaps.now
         (start_scene names.old.table nodes.old drained.old)
         (start_scene names.new.table nodes.new drained.new) started) }
     ensures back { OnErr result (start_scene names.new.table nodes.new drained.new
@@ -461,7 +468,7 @@ pub fn carry_start<D: Device>(
     ensures ok { IfOk result
         (λ started. (s : State) (c : CopyCmd) → s.table ≡ names.old.table
         → s.guests ≡ progress.now.guests → seen_command command.now ≡ cmd_of c
-        → seen_plan plan ≡ plan_of c → IsStartOf s given.now c bitmaps.now
+        → seen_plan plan.entry ≡ plan_of c → IsStartOf s given.now c bitmaps.now
         (start_scene names.old.table nodes.old drained.old)
         (start_scene names.new.table nodes.new drained.new) started) }
     ensures back { OnErr result (start_scene names.new.table nodes.new drained.new
