@@ -44,7 +44,7 @@ use Rattle.qblk_run.proofs.Closing.{all-back, behind-back, licensed-later, quiet
 use Rattle.qblk_run.proofs.Flushes.{same-places, all-stand, first-stand, first-above, both-at}
 use Rattle.qblk_run.specs.Devices.{HaveDevices}
 use Rattle.qblk_run.specs.Worlds.{AreStartsBehind, GoesThrough, IsLast, IsLeftAlone, IsLeftBy, MakesEvent}
-use Rattle.qblk_run.proofs.Ending.{is-stuck, is-whole, idle-at}
+use Rattle.qblk_run.proofs.Ending.{is-stuck, is-whole, idle-at, no-jobs}
 use Rattle.qblk_run.proofs.History.{course-ended}
 use Rattle.qblk_run.proofs.Lists.{at-get}
 
@@ -229,7 +229,7 @@ module _ (old : StoreSeen) (guests : List (List ℕ)) (w v : WorldSeen) (store :
     all-idle rows each = λ k d below. each k (get_or rows k d) (at-get rows k d below)
 
     pub ends-done : AllRest v after → AreDone after → EndsDone (is_some old.files) work account
-    ends-done rest done = (
+    ends-done rest done = let none = no-jobs v after work.script work.traces can keeps rest done (λ row there. (comes.jobs.stand.each row there).slot) in (
       record {
         done = record {
           guests = count;
@@ -237,9 +237,9 @@ module _ (old : StoreSeen) (guests : List (List ℕ)) (w v : WorldSeen) (store :
           idle = rw comes.requests at (all-idle v.progress.guests (idle-at v after work.script work.traces can keeps done));
         };
         history = λ told. comes.history.history (told-as told);
-        jobs = λ told. ap (λ (t : RunTable). t.jobs) (comes.shows (told-as told)).table.table_is ∙ rest.jobs;
+        jobs = λ told. ap (λ (t : RunTable). t.jobs) (comes.shows (told-as told)).table.table_is ∙ none;
       },
-      record { table = v.table; dirty = dirty_of v; after = comes.table; none = rest.jobs },
+      record { table = v.table; dirty = dirty_of v; after = comes.table; none = none },
     )
 
     -- what is asked of a state is asked of its table, its guests and the actors that are done
@@ -262,7 +262,7 @@ module _ (old : StoreSeen) (guests : List (List ℕ)) (w v : WorldSeen) (store :
     ends-stuck devices rest actor what first' = by_told (is_some old.files) refl
       where
         stuck : IsStuck (seen_state v) (course_in work account) actor what
-        stuck = is-stuck v after work.script work.traces can keeps rest.jobs rest actor what first'
+        stuck = is-stuck v after work.script work.traces can keeps rest actor what first'
 
         ended : (course_in work account).ended ≡ ended_in v.progress.log.events
         ended = course-ended (course_of work.script work.traces) v.progress.log.events
@@ -272,7 +272,6 @@ module _ (old : StoreSeen) (guests : List (List ℕ)) (w v : WorldSeen) (store :
           state = seen_state v;
           table = comes.table;
           devices = devices;
-          jobs = rest.jobs;
           told = λ bad. absurd (false≢true bad);
           guests = comes.requests;
           ended = sym ended;
@@ -287,7 +286,6 @@ module _ (old : StoreSeen) (guests : List (List ℕ)) (w v : WorldSeen) (store :
                   subst (λ (t : RunTable). IsTableAfter guests v.progress.log.events t s.dirty) (sym shows.table.table_is)
                   (subst (IsTableAfter guests v.progress.log.events v.table) (sym shows.dirty) comes.table);
               devices = subst (HaveDevices guests v.progress.log.events) (sym shows.table.table_is) devices;
-              jobs = ap (λ (t : RunTable). t.jobs) shows.table.table_is ∙ rest.jobs;
               told = λ is. refl;
               guests = shows.guests.guests_are ∙ comes.requests;
               ended = shows.guests.ended_are ∙ sym ended;

@@ -100,7 +100,7 @@ step-waits all_done row work none is = by_stop (stop_of row work) is
   where
     by_ready : (c : Bool) → row.is_ready ≡ c → (if c then ready_end all_done row.asked else step.GetReady) ≡ step.Wait
         → (row.is_ready ≡ true) × (row.asked ≡ asked.Nothing) × (all_done ≡ false)
-    by_ready true e is = (e, ready-waits all_done row.asked is)
+    by_ready true e is = let waits = ready-waits all_done row.asked is in (e, waits.0, waits.1)
     by_ready false e is = let bad : ⊥ = cc is in absurd bad
 
     by_can : (b : Bool) → (if not b then step.Finish Completed else if row.is_ready then ready_end all_done row.asked else step.GetReady) ≡ step.Wait

@@ -1,6 +1,6 @@
 -- How many parts are left of works, and that no copy of them is in flight.
-use Rattle.std.proofs.Common.{◌≡◌, ◌≢◌, ◌⊎◌, ℕ, zero, suc, ◌+◌, ◌*◌, ◌<◌, ◌≤◌, Bool, true, false, cond, not, List, [], ◌∷◌, ◌++◌, length, map, replicate, refl, sym, ◌∙◌, ap, subst, arith, Some, Result, Ok, Err, inl, inr}
-use Rattle.std.specs.Prelude.{◌==◌, ◌&&◌, get_or, slice_index_or}
+use Rattle.std.proofs.Common.{◌≡◌, ◌≢◌, ◌⊎◌, ℕ, zero, suc, ◌+◌, ◌*◌, ◌<◌, ◌≤◌, Bool, true, false, cond, not, List, [], ◌∷◌, ◌++◌, length, map, replicate, refl, sym, ◌∙◌, ap, subst, arith, Option, Some, None, Result, Ok, Err, inl, inr}
+use Rattle.std.specs.Prelude.{◌==◌, ◌&&◌, get_or, is_some, slice_index_or}
 use Rattle.std.specs.List.{range_with_len, list_any}
 use Rattle.std.proofs.lemmas.Bool.{false≢true, eq-eqb, le-leb, lt-ltb}
 use Rattle.std.proofs.lemmas.List.Sums.{sum_by-cons}
@@ -8,13 +8,21 @@ use Rattle.std.proofs.lemmas.List.FromFn.{fill_by_all}
 use Rattle.blk_bits.specs.Granules.{contains, in_span, member_count, those_below, without_span}
 use Rattle.blk_copy.specs.Rows.{is_in_flight}
 use Rattle.blk_copy.specs.declared.transfers.Transfer.{Transfer}
-use Rattle.block_jobs.specs.Work.{JobWork, after_settle, block_count, failed_by, has_left, is_next, next_block, parts_a_block, with_transfer, without_block}
+use Rattle.block_jobs.specs.Work.{JobWork, after_settle, block_count, failed_by, has_left, is_next, left_again, next_block, parts_a_block, with_transfer, without_block}
 use Rattle.qmp_codec.specs.declared.event.JobKind.TheVariants.{Backup}
 use Rattle.block_jobs.proofs.PartLemmas.{find_found}
 use Rattle.blk_base.specs.declared.fault.Fault.{Fault}
 use Rattle.blk_nodes.specs.Nodes.{Nodes}
 use Rattle.job_copies.specs.Guarding.{Guards, after_guard}
-use Rattle.job_works.specs.Works.{with_work, without_work, work_of}
+use Rattle.blk_base.specs.Pieces.{Extent}
+use Rattle.blk_base.specs.declared.fault.Outcome.{Outcome}
+use Rattle.flat_machine.specs.Machine.{is_noted}
+use Rattle.job_progress.specs.Piecing.{marked_by, marked_for, marked_if, mirror_of}
+use Rattle.qmp_rules.specs.Table.{RunTable}
+use Rattle.qmp_rules.specs.declared.rows.JobRecord.{JobRecord}
+use Rattle.trace_codec.specs.declared.op.Op.{Op}
+use Rattle.trace_codec.specs.declared.op.Op.TheVariants.{Read, Write, Zero, Flush, Discard}
+use Rattle.job_works.specs.Works.{marked_again, with_changed, with_work, without_work, work_of}
 use Rattle.qblk_run.specs.Slots.{NoneFlies, parts_left}
 use Rattle.qblk_run.proofs.Lists.{same_or_not}
 
@@ -196,13 +204,17 @@ flights-found (w ∷ works) job work none is = by_test (w.job == job) is (flight
     by_test true e rest = let same : w ≡ work = cc e in rw (← same) none.0
     by_test false e rest = rest e
 
-pub flights-with : (now : JobWork) (works : List JobWork) → now.rows ≡ [] → NoneFlies works → NoneFlies (with_work now works)
-flights-with now [] own none = tt
-flights-with now (work ∷ works) own none = by_test (work.job == now.job) (flights-with now works own none.1)
+flights-changed : (job : ℕ) (change : JobWork → JobWork) (works : List JobWork) → ((work : JobWork) → work.rows ≡ [] → (change work).rows ≡ []) → NoneFlies works
+    → NoneFlies (with_changed job change works)
+flights-changed job change [] keeps none = tt
+flights-changed job change (work ∷ works) keeps none = by_test (work.job == job) (flights-changed job change works keeps none.1)
   where
-    by_test : (b : Bool) → NoneFlies (with_work now works) → NoneFlies (cond b (now ∷ works) (work ∷ with_work now works))
-    by_test true rest = (own, none.1)
+    by_test : (b : Bool) → NoneFlies (with_changed job change works) → NoneFlies (cond b (change work ∷ works) (work ∷ with_changed job change works))
+    by_test true rest = (keeps work none.0, none.1)
     by_test false rest = (none.0, rest)
+
+pub flights-with : (now : JobWork) (works : List JobWork) → now.rows ≡ [] → NoneFlies works → NoneFlies (with_work now works)
+flights-with now works own none = flights-changed now.job (λ work. now) works (λ work was. own) none
 
 -- one that had been changed before
 pub flights-again : (first now : JobWork) (works : List JobWork) → now.rows ≡ [] → now.job ≡ first.job → NoneFlies works → NoneFlies (with_work now (with_work first works))
@@ -226,3 +238,37 @@ flights-without job (work ∷ works) none = by_test (work.job == job) (flights-w
     by_test : (b : Bool) → NoneFlies (without_work job works) → NoneFlies (cond b works (work ∷ without_work job works))
     by_test true rest = none.1
     by_test false rest = (none.0, rest)
+
+-- ---- what a mirror has to copy again
+
+-- its first fault and its copies in flight stay
+pub record IsSameAgain (was now : JobWork) : Type 0 where
+  pub met : now.met ≡ was.met
+  pub rows : now.rows ≡ was.rows
+
+pub again-same : (span : Extent) (work : JobWork) → IsSameAgain work (left_again span work)
+again-same span work = by_met (is_some work.met) _
+  where
+    by_met : (b : Bool) (left : List Bool) → IsSameAgain work (cond b work (record work { left = left }))
+    by_met true left = record { met = refl; rows = refl }
+    by_met false left = record { met = refl; rows = refl }
+
+pub flights-marked : (job : ℕ) (span : Extent) (works : List JobWork) → NoneFlies works → NoneFlies (marked_again job span works)
+flights-marked job span works none = flights-changed job (left_again span) works (λ work was. (again-same span work).rows ∙ was) none
+
+-- so it is behind a piece with what stays of works where one has to copy again
+module _ (P : List JobWork → Type 0) (again : (job : ℕ) (span : Extent) (works : List JobWork) → P works → P (marked_again job span works)) where
+  keeps-found : (found : Option JobRecord) (part : Extent) (works : List JobWork) → P works → P (marked_for found part works)
+  keeps-found None part works so = so
+  keeps-found (Some row) part works so = again row.number part works so
+
+  keeps-noted : (noted : Bool) (t : RunTable) (node : ℕ) (part : Extent) (works : List JobWork) → P works → P (marked_if noted t node part works)
+  keeps-noted true t node part works so = keeps-found (mirror_of t node) part works so
+  keeps-noted false t node part works so = so
+
+  pub marked-keeps : (op : Op) (outcome : Outcome) (t : RunTable) (node : ℕ) (part : Extent) (works : List JobWork) → P works → P (marked_by op outcome t node part works)
+  marked-keeps (Write span payload) outcome t node part works so = keeps-noted (is_noted outcome) t node part works so
+  marked-keeps (Zero span) outcome t node part works so = keeps-noted (is_noted outcome) t node part works so
+  marked-keeps (Read span) outcome t node part works so = so
+  marked-keeps Flush outcome t node part works so = so
+  marked-keeps (Discard span) outcome t node part works so = so

@@ -49,7 +49,7 @@ use Rattle.world_parts.specs.Face.{WorldSeen}
 use Rattle.world_parts.specs.Piecing.{table_after}
 use Rattle.world_parts.specs.Steps.{StoreSeen, new_world}
 use Rattle.qblk_run.specs.Worlds.{AreStartsBehind, GoesThrough, IsLeftAlone, IsLeftBy, MakesEvent}
-use Rattle.qblk_run.proofs.EndsLeave.{end-leaves}
+use Rattle.qblk_run.proofs.EndsLeave.{end-leaves, ready-leaves}
 use Rattle.qblk_run.proofs.Falling.{uneventful-kept}
 use Rattle.qblk_run.proofs.Worlds.{guarded-kept}
 use Rattle.qblk_run.proofs.LeftDevices.{IsOfDevice, SameDevices, all-leave, leave-command, leave-device-uses, leave-left}
@@ -467,7 +467,9 @@ leaves-alone w v (End job why offset) left =
     let leaves = end-leaves w.table left.row (outcome_of why) in
     subst (SameDevices w.table) (sym (ap (λ (u : WorldSeen). u.table) left.ends.kept)) (record { devices = leaves.devices; guests = leaves.guests })
 leaves-alone w v (Start job) left = absurd left
-leaves-alone w v (Ready job) left = absurd left
+leaves-alone w v (Ready job) left =
+    let leaves = ready-leaves w.table left.row in
+    subst (SameDevices w.table) (sym (ap (λ (u : WorldSeen). u.table) left.readies.kept)) (record { devices = leaves.devices; guests = leaves.guests })
 leaves-alone w v (Reply line given command' text) left = absurd left
 
 -- nor does the start of a job

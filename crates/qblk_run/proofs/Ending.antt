@@ -1,12 +1,15 @@
 -- How a run ends: all is done, or each actor that isn't is blocked.
 use Rattle.std.proofs.Common.{◌≡◌, ℕ, zero, suc, ◌+◌, ◌<◌, true, false, Bool, List, [], length, refl, sym, ◌∙◌, ap, subst, arith, add-one, Option, Some, None, inl, inr}
 use Rattle.std.specs.Prelude.{slice_get, Contains}
-use Rattle.std.proofs.lemmas.Bool.{false≢true}
+use Rattle.std.proofs.lemmas.Bool.{eq-eqb, false≢true}
 use Rattle.trace_codec.specs.declared.wish.Wish.{Wish}
 use Rattle.trace_codec.specs.declared.waits.Waits.{Waits}
 use Rattle.trace_codec.specs.Script.{Order}
 use Rattle.flat_machine.specs.State.{Guest, guest_at}
-use Rattle.flat_machine.specs.Blocked.{ScriptWaits, TraceWaits, ActorWaits, IsUnfinished, IsStuck, SlotWaits}
+use Rattle.flat_machine.specs.Blocked.{ScriptWaits, TraceWaits, ActorWaits, IsUnfinished, IsStuck, JobWaits}
+use Rattle.flat_machine.specs.Legal.{AllDone}
+use Rattle.qmp_rules.specs.Table.{job_in}
+use Rattle.qmp_rules.specs.declared.rows.JobRecord.{JobRecord}
 use Rattle.flat_machine.specs.Courses.{Course, course_of, course_after, past_waits, rest_of, IsTraceUsedUp, AreAllDone, IsWhole}
 use Rattle.world_parts.specs.Face.{WorldSeen, seen_state}
 use Rattle.world_parts.specs.Progress.{ended_in, answered_in}
@@ -101,35 +104,32 @@ module _ (w : WorldSeen) (tasks : Tasks) (orders : List Order) (traces : List (L
           subst (λ (n : ℕ). (what : Waits (List ℕ)) × ActorWaits (seen_state w) c n what) (add-one g)
           (blocked-guest g task there e (rest.guests g task (below-get tasks.guests g task there) there))
 
-  slots-blocked : w.table.jobs ≡ [] → (slot : ℕ) → slot < 16 → SlotWaits (seen_state w) slot
-  slots-blocked none slot below = rw none tt
-
   -- ---- the first of them
 
-  stuck-script : w.table.jobs ≡ [] → AllRest w tasks → (what : Waits (List ℕ)) → tasks.script.is_done ≡ false → ScriptWaits (seen_state w) tasks.script.orders what
+  stuck-script : AllRest w tasks → (what : Waits (List ℕ)) → tasks.script.is_done ≡ false → ScriptWaits (seen_state w) tasks.script.orders what
       → IsStuck (seen_state w) c 0 what
-  stuck-script none rest what going waits = record {
+  stuck-script rest what going waits = record {
     unfinished = script-goes-on going;
     waiting = script-blocked what waits;
     first = λ other below unfinished. absurd (omega arith);
     others = others-blocked rest;
-    slots = slots-blocked none;
+    slots = rest.slots;
   }
 
   rests-task : (g : ℕ) (task : Task) → slice_get tasks.guests g ≡ Some task → task.is_done ≡ false → Rests w g task → TaskWaits w g task
   rests-task g task there going (inl done) = absurd (false≢true (sym going ∙ done))
   rests-task g task there going (inr waits) = waits
 
-  stuck-guest : w.table.jobs ≡ [] → AllRest w tasks → (g : ℕ) (what : Waits (List ℕ)) → tasks.script.is_done ≡ true → IsFirstGuest w tasks.guests g what
+  stuck-guest : AllRest w tasks → (g : ℕ) (what : Waits (List ℕ)) → tasks.script.is_done ≡ true → IsFirstGuest w tasks.guests g what
       → IsStuck (seen_state w) c (g + 1) what
-  stuck-guest none rest g what done first =
+  stuck-guest rest g what done first =
       let waits = rests-task g first.task first.there first.runs (rest.guests g first.task (below-get tasks.guests g first.task first.there) first.there) in
       record {
         unfinished = guest-goes-on g first.task first.there first.runs;
         waiting = guest-blocked g first.task what first.there waits first.waits;
         first = earlier;
         others = others-blocked rest;
-        slots = slots-blocked none;
+        slots = rest.slots;
       }
     where
       before : (k : ℕ) → k < g → Contains c.ended (k + 1)
@@ -142,11 +142,30 @@ module _ (w : WorldSeen) (tasks : Tasks) (orders : List Order) (traces : List (L
       earlier zero less unfinished = unfinished.1 (script-has-ended done)
       earlier (suc k) less unfinished = unfinished.1 (subst (λ (n : ℕ). Contains c.ended n) (add-one k) (before k (omega arith)))
 
-  pub is-stuck : w.table.jobs ≡ [] → AllRest w tasks → (actor : ℕ) (what : Waits (List ℕ)) → IsFirstUndone w tasks actor what → IsStuck (seen_state w) c actor what
-  is-stuck none rest actor what (inl first) = rw first.0 (stuck-script none rest what first.1 first.2)
-  is-stuck none rest actor what (inr first) = rw first.1.1 (stuck-guest none rest first.1.0 what first.0 first.1.2)
+  pub is-stuck : AllRest w tasks → (actor : ℕ) (what : Waits (List ℕ)) → IsFirstUndone w tasks actor what → IsStuck (seen_state w) c actor what
+  is-stuck rest actor what (inl first) = rw first.0 (stuck-script rest what first.1 first.2)
+  is-stuck rest actor what (inr first) = rw first.1.1 (stuck-guest rest first.1.0 what first.0 first.1.2)
 
   -- ---- all is done
+
+  all-done : AreDone tasks → AllDone (seen_state w)
+  all-done done zero below = some-has (ended_in w.progress.log.events) 0 tasks.script.is_done can.script.ended done.script
+  all-done done (suc g) below =
+      let count = can.count in
+      let task = get-below tasks.guests g (omega arith) in
+      subst (λ (n : ℕ). Contains (ended_in w.progress.log.events) n) (add-one g)
+      (some-has (ended_in w.progress.log.events) (g + 1) task.0.is_done (can.guests g task.0 task.1).ended (done.guests g task.0 task.1))
+
+  -- then no job waits, and so none is there
+  pub no-jobs : AllRest w tasks → AreDone tasks → ((row : JobRecord) → Contains w.table.jobs row → row.slot < 16) → w.table.jobs ≡ []
+  no-jobs rest done small = by_rows w.table.jobs refl
+    where
+      by_rows : (rows : List JobRecord) → w.table.jobs ≡ rows → w.table.jobs ≡ []
+      by_rows [] is = is
+      by_rows (row ∷ rows) is =
+          let first : Contains w.table.jobs row = subst (λ (all : List JobRecord). Contains all row) (sym is) (zero, omega arith, refl) in
+          let found : job_in w.table row.slot ≡ Some row = rw (is, eq-eqb row.slot row.slot refl) refl in
+          absurd ((subst (JobWaits (seen_state w)) found (rest.slots row.slot (small row first))).2 (all-done done))
 
   pub is-whole : AreDone tasks → IsWhole orders traces w.progress.log.events
   is-whole done = record {

@@ -1,9 +1,9 @@
--- What the end of a job leaves of the table as it is: which guests have a device, and how many jobs began.
+-- What readiness and the end of a job leave of the table as it is: which guests have a device, and how many jobs began.
 use Rattle.std.proofs.Common.{◌≡◌, true, false, List, [], ◌∷◌, refl, ◌∙◌}
 use Rattle.std.specs.List.{list_all}
 use Rattle.std.proofs.lemmas.Bool.{false≢true}
 use Rattle.qmp_rules.specs.Changes.{all_changed, changed}
-use Rattle.qmp_rules.specs.Ends.{end_edits, is_of_event}
+use Rattle.qmp_rules.specs.Ends.{end_edits, is_of_event, ready_edits}
 use Rattle.qmp_rules.specs.Table.{RunTable}
 use Rattle.qmp_rules.specs.declared.change.Change.{Change}
 use Rattle.qmp_rules.specs.declared.change.Change.TheVariants as change
@@ -34,6 +34,9 @@ events-leave (c ∷ changes) t all =
     let one = event-leaves t c (event_here c changes all) in
     let rest = events-leave changes (changed t c) (events_then c changes all) in
     record { devices = rest.devices ∙ one.devices; guests = rest.guests ∙ one.guests; started = rest.started ∙ one.started }
+
+pub ready-leaves : (t : RunTable) (row : JobRecord) → LeavesGuests t (all_changed t (ready_edits row))
+ready-leaves t row = event-leaves t (change.ReadyJob row.number) refl
 
 pub end-leaves : (t : RunTable) (row : JobRecord) (outcome : JobOutcome) → LeavesGuests t (all_changed t (end_edits t row outcome))
 end-leaves t row outcome = events-leave (end_edits t row outcome) t (ends_are_events t row outcome)

@@ -50,7 +50,7 @@ told-alone w v (Reached line what) left = ap (λ (u : WorldSeen). is_some u.file
 told-alone w v (End job why offset) left = ap (λ (u : WorldSeen). is_some u.files) left.ends.kept
 told-alone w v (Done actor) left = ap (λ (u : WorldSeen). is_some u.files) left
 told-alone w v (Start job) left = absurd left
-told-alone w v (Ready job) left = absurd left
+told-alone w v (Ready job) left = ap (λ (u : WorldSeen). is_some u.files) left.readies.kept
 told-alone w v (Reply line given command text) left = absurd left
 
 told-starts : (t : RunTable) (w v : WorldSeen) (es : List Event) → AreStartsBehind t w v es → is_some v.files ≡ is_some w.files
@@ -82,7 +82,8 @@ told-by w v (Done actor) es left = told-alone w v (Done actor) left.1
 pub uneventful-kept : (orders : List Order) (w v : WorldSeen) → IsUneventful orders w v → v ≡ record w { nodes = v.nodes; works = v.works; drains = v.drains }
 uneventful-kept orders w v (inl off) = rw (put-off-left orders w v off) refl
 uneventful-kept orders w v (inr (inl took)) = rw took.takes.copies.kept refl
-uneventful-kept orders w v (inr (inr settled)) = rw settled.settles.copies.kept refl
+uneventful-kept orders w v (inr (inr (inl settled))) = rw settled.settles.copies.kept refl
+uneventful-kept orders w v (inr (inr (inr drains))) = rw drains.kept refl
 
 pub told-made : (orders : List Order) (w v : WorldSeen) (es : List Event) → MakesEvent orders w v es → is_some v.files ≡ is_some w.files
 told-made orders w v [] made = ap (λ (u : WorldSeen). is_some u.files) (uneventful-kept orders w v made)
@@ -213,7 +214,7 @@ module _ (o : Opening) (w x : WorldSeen) (comes : Comes o w) (told : is_some w.f
   one-event (Retire g r) es left adds same = left.0
   one-event (Reached line what) es left adds same = left.0
   one-event (Start job) es left adds same = absurd left.1
-  one-event (Ready job) es left adds same = absurd left.1
+  one-event (Ready job) es left adds same = left.0
   one-event (End job why offset) es left adds same = end-alone job why offset es left.0 left.1
   one-event (Done actor) es left adds same = left.0
 

@@ -30,7 +30,7 @@ use Rattle.flat_machine.specs.Blocked.{TraceWaits}
 use Rattle.flat_machine.specs.Marks.{is_guest_held}
 use Rattle.world_parts.specs.declared.admission.Admission.TheVariants.{Admitted, Refused as NotAdmitted, Away}
 use Rattle.world_parts.specs.Face.{WorldSeen, seen_state}
-use Rattle.world_parts.specs.Piecing.{shown_in_flight, table_after}
+use Rattle.world_parts.specs.Piecing.{part_of, shown_in_flight, table_after}
 use Rattle.world_parts.specs.Progress.{Progress, ended_in, answered_in, requests_done, flight_at, with_piece_entry, with_retirement, IsFree, HasNext, CanShow, HasRoomFor}
 use Rattle.world_parts.specs.Steps.{with_history, after_admission, after_actor_end, IsAnswered, IsActorIdle}
 use Rattle.qblk_inputs.specs.Room.{entries_for, bytes_for, HaveNumbers}
@@ -38,7 +38,7 @@ use Rattle.qblk_run.specs.Tasks.{Task, IsTaskOf, IsTaskIn, HasPiecesLeft, IsFlyi
 use Rattle.qblk_run.specs.Slots.{NoneFlies}
 use Rattle.qblk_run.specs.Turns.{IsOwnMove, KeepsBeside, MakesMove, IsTurn}
 use Rattle.qblk_run.specs.Worlds.{IsGuardedFor, MakesPiece}
-use Rattle.qblk_run.proofs.Counts.{flights-found, flights-with, guard-lands}
+use Rattle.qblk_run.proofs.Counts.{flights-found, flights-marked, flights-with, guard-lands, marked-keeps}
 use Rattle.qblk_run.proofs.Worlds.{guarded-kept}
 use Rattle.qblk_run.proofs.Lists.{with-at, at-with, with-some, get-change, none-has, below-get}
 use Rattle.qblk_run.proofs.Waits.{through, grows-same, entries-past, bytes-past}
@@ -184,7 +184,8 @@ piece-beside w v g f outcome makes =
     record {
       drains = ap (λ (u : WorldSeen). u.drains) made.kept ∙ ap (λ (u : WorldSeen). u.drains) before;
       started = ap (λ (u : WorldSeen). u.table.started) made.kept ∙ started-after f.op (disk_node x.table made.drive) x.table ∙ ap (λ (u : WorldSeen). u.table.started) before;
-      flights = λ none. subst NoneFlies (sym (ap (λ (u : WorldSeen). u.works) made.kept)) (guard-flights w x g f makes.guarded none);
+      flights = λ none. subst NoneFlies (sym (ap (λ (u : WorldSeen). u.works) made.kept))
+          (marked-keeps NoneFlies flights-marked f.op outcome x.table (disk_node x.table made.drive) (part_of f) x.works (guard-flights w x g f makes.guarded none));
     }
 
 -- ---- each event

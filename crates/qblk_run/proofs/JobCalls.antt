@@ -1,5 +1,5 @@
 -- What a job's turn leaves, as a slot's turn and as an event of the run.
-use Rattle.std.proofs.Common.{◌≡◌, ℕ, ◌==◌, Bool, true, false, sym, ◌∙◌, ap, subst, Some, inl, inr}
+use Rattle.std.proofs.Common.{◌≡◌, ℕ, ◌==◌, Bool, true, false, refl, sym, ◌∙◌, ap, subst, Some, inl, inr}
 use Rattle.std.specs.Prelude.{◌⊎◌, if◌then◌else◌}
 use Rattle.blk_graph.proofs.Members.{find-Some}
 use Rattle.flat_machine.specs.Marks.{after_turn, must_drain}
@@ -32,14 +32,14 @@ module _ (w v : WorldSeen) (slot : ℕ) where
       pub stays-comes : (is : Step) → SlotStays w v slot is → ComesOnBeside w v
       stays-comes is stays orders o c first has = by_asked (must_drain stays.has.row) refl
         where
-          as : (b : Bool) → must_drain stays.has.row ≡ b → v ≡ record w { drains = if b then after_turn stays.has.row.number w.drains else w.drains }
-          as b e = stays.kept ∙ ap (λ (x : Bool). record w { drains = if x then after_turn stays.has.row.number w.drains else w.drains }) e
+          left : (b : Bool) → must_drain stays.has.row ≡ b → v ≡ record w { drains = if b then after_turn stays.has.row.number w.drains else w.drains }
+          left b e = stays.kept ∙ ap (λ (x : Bool). record w { drains = if x then after_turn stays.has.row.number w.drains else w.drains }) e
 
           by_asked : (b : Bool) → must_drain stays.has.row ≡ b → HasCome o c first v orders
           by_asked true e =
               come-drained o c first w v orders has (comes o)
-              (record { row = stays.has.row; there = by-number stays.has.row stays.has.there; asked = e; kept = as true e })
-          by_asked false e = subst (λ (u : WorldSeen). HasCome o c first u orders) (sym (as false e)) has
+              (record { row = stays.has.row; there = by-number stays.has.row stays.has.there; asked = e; kept = left true e })
+          by_asked false e = subst (λ (u : WorldSeen). HasCome o c first u orders) (sym (left false e)) has
 
       pub put-off-comes : (g r : ℕ) → SlotPutsOff w v slot g r → ComesOnBeside w v
       put-off-comes g r off orders o c first has =

@@ -3,17 +3,16 @@ use Rattle.std.proofs.Common.{◌≡◌, ℕ, true, List, [], refl, sym, ◌∙�
 use Rattle.std.specs.Prelude.{◌⊎◌, IfOk, OnErr, Result}
 use Rattle.std.proofs.lemmas.Bool.{not-false}
 use Rattle.qmp_asks.specs.CommandAsks.{asks_of}
-use Rattle.qmp_asks.specs.JobAsks.{backup_names, backup_rest, backup_values}
+use Rattle.qmp_asks.specs.JobAsks.{backup_names, backup_rest, backup_values, mirror_names, mirror_rest, mirror_values}
 use Rattle.qmp_asks.specs.Naming.{is_name}
 use Rattle.qmp_asks.specs.declared.ask.Ask.TheVariants as ask
 use Rattle.qmp_codec.specs.Commands.{Cmd}
 use Rattle.qmp_codec.specs.Lines.{Stop, command_at}
 use Rattle.qmp_codec.specs.declared.command.Command.TheVariants as command
-use Rattle.qmp_codec.specs.declared.jobs.Backup.{Backup}
-use Rattle.qmp_rules.specs.Answers.{Answer, accepted, answer, answer_by, answer_for, line_answer, line_refusal, refusal_to, refused_so}
+use Rattle.qmp_rules.specs.Answers.{Answer, accepted, answer, answer_by, answer_for, command_edits, line_answer, line_refusal, refusal_to, refused_so}
 use Rattle.qmp_rules.specs.Asks.{holds}
 use Rattle.qmp_rules.specs.Changes.{all_changed}
-use Rattle.qmp_rules.specs.Edits.{backup_job, edits_of}
+use Rattle.qmp_rules.specs.Edits.{edits_of}
 use Rattle.qmp_rules.specs.Table.{RunTable, job_at}
 use Rattle.qmp_rules.specs.declared.refusal.Refusal.{Refusal}
 use Rattle.qmp_rules.specs.declared.rows.JobRecord.{JobRecord}
@@ -21,6 +20,7 @@ use Rattle.qmp_rules.specs.declared.told.Told.{Told}
 use Rattle.serde_json.specs.Data.{object, no_members}
 use Rattle.blk_nodes.specs.Joined.{IsJoined}
 use Rattle.flat_machine.proofs.Asked.{NoneHolds, none-behind, not-refused}
+use Rattle.job_commands.specs.Begun.{CopyCmd, OfBackup, OfMirror, cmd_of, copy_job, job_begun}
 use Rattle.job_commands.proofs.Copies.{command_found, number_is_new}
 use Rattle.job_ends.proofs.Others.{at_number}
 use Rattle.job_progress.specs.Belonging.{HasWork, IsOfJob}
@@ -39,17 +39,32 @@ use Rattle.world_parts.proofs.Accepted.{asked}
 use Rattle.world_parts.proofs.JobsAnswered.{jobs_kept}
 use Rattle.blk_world.proofs.KeptJobs.{starts_no_job}
 
--- ---- a backup that nothing refuses
+-- ---- a backup or a mirror that nothing refuses
 
 name_said : (t : RunTable) (told : Told) (member name : List ℕ) → holds t told (ask.Named member (Some name)) ≡ None → is_name name ≡ true
 unfolding holds
 name_said t told member name none = not-false _ (not-refused _ _ none)
 
-backup_named : (t : RunTable) (told : Told) (c : Backup (List ℕ)) → refusal_to t told (command.BlockdevBackup c) ≡ None → is_name c.job_id ≡ true
+copy_named : (t : RunTable) (told : Told) (c : CopyCmd) → refusal_to t told (cmd_of c) ≡ None → is_name (copy_job t c).id ≡ true
 unfolding asks_of
-backup_named t told c none =
+copy_named t told (OfBackup c) none =
     let all : NoneHolds t told (backup_values c ++ backup_names c ++ backup_rest c) = asked t told (command.BlockdevBackup c) none in
     name_said t told _ c.job_id (none-behind t told (backup_values c) (backup_names c ++ backup_rest c) all).0
+copy_named t told (OfMirror c) none =
+    let all : NoneHolds t told (mirror_values c ++ mirror_names c ++ mirror_rest c) = asked t told (command.BlockdevMirror c) none in
+    name_said t told _ c.job_id (none-behind t told (mirror_values c) (mirror_names c ++ mirror_rest c) all).0
+
+begins_copy : (t : RunTable) (c : CopyCmd) → job_begun t (cmd_of c) ≡ Some (copy_job t c)
+begins_copy t (OfBackup c) = refl
+begins_copy t (OfMirror c) = refl
+
+copy_edits : (t : RunTable) (told : Told) (c : CopyCmd) → command_edits t told (cmd_of c) ≡ edits_of t told (cmd_of c)
+copy_edits t told (OfBackup c) = refl
+copy_edits t told (OfMirror c) = refl
+
+copy_number : (t : RunTable) (c : CopyCmd) → (copy_job t c).number ≡ t.started
+copy_number t (OfBackup c) = refl
+copy_number t (OfMirror c) = refl
 
 -- ---- a line that is no command
 
@@ -72,25 +87,27 @@ module _ (w : WorldSeen) (whole : IsWholeWorld w) (joined : IsJoined w.nodes) (u
       = sym (at_number w.table whole.jobs.stand own.row own.there) ∙ number_is_new w.table whole.jobs.run own.row.number same in
       absurd (let bad : Some own.row ≡ None = none in cc bad)
 
-  backup_begun : (told : Told) (c : Backup (List ℕ)) (first : Option Refusal) → refusal_to w.table told (command.BlockdevBackup c) ≡ first
-      → u ≡ all_changed w.table (answer w.table told (command.BlockdevBackup c)).changes → is_name row.id ≡ true
-  unfolding answer edits_of
-  backup_begun told c None none table =
-      let met = (accepted_met w.table told (command.BlockdevBackup c) none).1 in
-      let changed : u ≡ all_changed w.table (answer_by w.table told (command.BlockdevBackup c) None).changes
-      = table ∙ ap (λ (first : Option Refusal). all_changed w.table (answer_by w.table told (command.BlockdevBackup c) first).changes) none in
-      let found : job_at u (backup_job w.table None c).number ≡ Some (backup_job w.table None c)
-      = subst (λ (x : RunTable). job_at x (backup_job w.table None c).number ≡ Some (backup_job w.table None c)) (sym changed)
-      (command_found w.table told told (command.BlockdevBackup c) (backup_job w.table None c) whole.jobs.stand whole.jobs.run met refl) in
-      let both : Some row ≡ Some (backup_job w.table None c) = sym there ∙ ap (job_at u) number ∙ found in
-      let same : row ≡ backup_job w.table None c = cc both in
-      ap (λ (r : JobRecord). is_name r.id) same ∙ backup_named w.table told c none
-  backup_begun told c (Some cause) some table =
-      was_there
-      (jobs_kept w whole joined (command.BlockdevBackup c) told u (λ none. absurd (let bad : None ≡ Some cause = sym none ∙ some in cc bad)) table)
+  copy_begun : (told : Told) (c : CopyCmd) (first : Option Refusal) → refusal_to w.table told (cmd_of c) ≡ first
+      → u ≡ all_changed w.table (answer w.table told (cmd_of c)).changes → is_name row.id ≡ true
+  unfolding answer
+  copy_begun told c None none table =
+      let job = copy_job w.table c in
+      let met = (accepted_met w.table told (cmd_of c) none).1 in
+      let changed : u ≡ all_changed w.table (edits_of w.table told (cmd_of c))
+      = table ∙ ap (λ (first : Option Refusal). all_changed w.table (answer_by w.table told (cmd_of c) first).changes) none
+      ∙ ap (all_changed w.table) (copy_edits w.table told c) in
+      let found : job_at u job.number ≡ Some job
+      = subst (λ (x : RunTable). job_at x job.number ≡ Some job) (sym changed)
+      (command_found w.table told told (cmd_of c) job whole.jobs.stand whole.jobs.run met (begins_copy w.table c)) in
+      let both : Some row ≡ Some job = sym there ∙ ap (job_at u) (number ∙ sym (copy_number w.table c)) ∙ found in
+      let same : row ≡ job = cc both in
+      ap (λ (r : JobRecord). is_name r.id) same ∙ copy_named w.table told c none
+  copy_begun told c (Some cause) some table =
+      was_there (jobs_kept w whole joined (cmd_of c) told u (λ none. absurd (let bad : None ≡ Some cause = sym none ∙ some in cc bad)) table)
 
   begun_by : (told : Told) (c : Cmd) → u ≡ all_changed w.table (answer w.table told c).changes → is_name row.id ≡ true
-  begun_by told (command.BlockdevBackup c) table = backup_begun told c (refusal_to w.table told (command.BlockdevBackup c)) refl table
+  begun_by told (command.BlockdevBackup c) table = copy_begun told (OfBackup c) (refusal_to w.table told (command.BlockdevBackup c)) refl table
+  begun_by told (command.BlockdevMirror c) table = copy_begun told (OfMirror c) (refusal_to w.table told (command.BlockdevMirror c)) refl table
   begun_by told c table = was_there (jobs_kept w whole joined c told u (λ none. starts_no_job w.table told c (refusal_to w.table told c) refl refl none) table)
 
   begun_behind : (told : Told) (line : List ℕ) (read : Result Cmd Stop) → u ≡ all_changed w.table (answer_for w.table told line read).changes

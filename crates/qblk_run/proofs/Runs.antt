@@ -56,7 +56,7 @@ play-can store guests its names script traces actors room world ready count few 
 
 -- and no drain stands
 pub play-drains : (store : StoreSeen) (guests : List (List ℕ)) (room : Room) (world : WorldSeen) (script : ScriptTask) → world ≡ new_world store guests room → AreDrainsOf world script
-play-drains store guests room world script is = subst (λ (w : WorldSeen). AreDrainsOf w script) (sym is) (record { jobs = refl; command = inl refl })
+play-drains store guests room world script is = subst (λ (w : WorldSeen). AreDrainsOf w script) (sym is) (record { jobs = record { each = λ k d below. absurd (omega arith); once = λ i j d less below. absurd (omega arith) }; command = inl refl })
 
 -- it comes of an opening, and no copy is in flight
 pub play-stands : (store : StoreSeen) (guests : List (List ℕ)) (room : Room) (world : WorldSeen) → world ≡ new_world store guests room

@@ -1,5 +1,5 @@
 -- What a slot's turn makes of a run, and what several do.
-use Rattle.std.proofs.Common.{◌≡◌, ◌≢◌, ◌⊎◌, ℕ, zero, suc, ◌+◌, ◌-◌, ◌<◌, ◌≤◌, Bool, true, false, cond, List, [], ◌∷◌, ◌++◌, length, refl, sym, ◌∙◌, ap, arith, Some, None, inl, inr}
+use Rattle.std.proofs.Common.{◌≡◌, ◌≢◌, ◌⊎◌, ℕ, zero, suc, ◌+◌, ◌-◌, ◌<◌, ◌≤◌, Bool, true, false, cond, List, [], ◌∷◌, ◌++◌, length, refl, sym, ◌∙◌, ap, subst, arith, Some, None, inl, inr}
 use Rattle.std.specs.Prelude.{◌==◌, ◌||◌, Contains, IsSome, find, if◌then◌else◌, slice_get, slice_index_or}
 use Rattle.trace_codec.specs.declared.wish.Wish.{Wish}
 use Rattle.trace_codec.specs.Script.{Order}
@@ -105,7 +105,7 @@ module _ (w v : WorldSeen) (row : JobRecord) (entry : Event) (n : ℕ) (stands :
       → KeepsTo orders traces w.progress.log.events tasks → KeepsTo orders traces v.progress.log.events tasks
   entry-order tasks orders traces keeps =
       rw entry-events (record {
-        order = each-push onward IsOwn (course_of orders traces) w.progress.log.events entry keeps.order (is.own _);
+        order = each-push onward IsOwn (course_of orders traces) w.progress.log.events entry keeps.order (is.own (course_after (course_of orders traces) w.progress.log.events));
         rests = rw (course-push (course_of orders traces) w.progress.log.events entry, is.onwards (course_after (course_of orders traces) w.progress.log.events)) keeps.rests;
       })
 

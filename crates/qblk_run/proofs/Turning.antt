@@ -1,6 +1,6 @@
 -- What a world's calls say of jobs and pieces, as rounds ask for it.
-use Rattle.std.proofs.Common.{◌≡◌, ℕ, true, List, refl, subst, inl, inr, Option, Some, None}
-use Rattle.std.specs.Prelude.{Bool, IfSome, Result, Ok, Err, option_and_then}
+use Rattle.std.proofs.Common.{◌≡◌, ◌∙◌, ℕ, true, List, ap, refl, subst, inl, inr, Option, Some, None}
+use Rattle.std.specs.Prelude.{Bool, if◌then◌else◌, IfSome, Result, Ok, Err, option_and_then}
 use Rattle.blk_base.specs.declared.fault.Fault.{Fault}
 use Rattle.blk_base.specs.declared.fault.Outcome.{Outcome}
 use Rattle.blk_copy.specs.declared.transfers.Transfer.{Transfer}
@@ -11,6 +11,7 @@ use Rattle.blk_history.specs.declared.entry.JobEnd.{JobEnd}
 use Rattle.blk_history.specs.declared.entry.JobEnd.TheVariants.{Failed}
 use Rattle.block_jobs.specs.Work.{JobWork, block_at}
 use Rattle.flat_machine.specs.EventLicence.{EndsAsMet}
+use Rattle.flat_machine.specs.Marks.{after_turn, must_drain}
 use Rattle.flat_machine.specs.State.{drive_of}
 use Rattle.job_turns.specs.Turns.{step_of}
 use Rattle.job_turns.specs.declared.step.Step.{Step}
@@ -36,8 +37,9 @@ use Rattle.world_parts.specs.Jobs.{GuardsBlock}
 use Rattle.world_parts.specs.Piecing.{part_of}
 use Rattle.world_parts.specs.Progress.{flight_at}
 use Rattle.blk_world.specs.Pieces.{GuardsBy, GuardsNext, GuardsPart, IsPieceBehind}
-use Rattle.qblk_run.specs.Slots.{HasSettled, HasStep, HasTaken, IsTurned, front_of, given_of}
+use Rattle.qblk_run.specs.Slots.{HasSettled, HasTaken, IsTurned, SlotStays, front_of, given_of}
 use Rattle.qblk_run.specs.Worlds.{IsGuardedFor, MakesPiece, NeedsNoGuard}
+use Rattle.qblk_run.proofs.Lists.{with-some}
 
 -- ---- the turn of the job in a slot
 
@@ -57,32 +59,39 @@ end_small : (w : WorldSeen) (slot : ℕ) (row : JobRecord) (why : JobEnd) → jo
 end_small w slot row (Failed fault) there small met = fault_small (work_of w.works row.number) fault (λ work is. small row work there is) met
 end_small w slot row _ there small met = tt
 
-has_step : (w : WorldSeen) (slot : ℕ) (is : Turn) (s : Step) → ((x : Step) → turning.IsStepFor x is → x ≡ s) → turning.HasTurn w slot is → HasStep w slot s
-has_step w slot is s same has = by_work (work_of w.works has.row.number) refl has.step
-  where
-    by_work : (found : Option JobWork) → work_of w.works has.row.number ≡ found → With found (λ work. turning.IsTurnOf has.all_done has.row work is) → HasStep w slot s
-    by_work None e of_none = absurd of_none
-    by_work (Some work) e does = record {
-      row = has.row;
-      work = work;
-      all_done = has.all_done;
-      there = has.there;
-      copies = e;
-      is = same (step_of has.all_done has.row work) does;
+slot_stays : (w v : WorldSeen) (slot : ℕ) (is : Turn) (s : Step) → ((x : Step) → turning.IsStepFor x is → x ≡ s) → ((row : JobRecord) → turning.waits_first is row ≡ must_drain row)
+    → turning.StaysAsTurn w v slot is → SlotStays w v slot s
+slot_stays w v slot is s same drains did =
+    let has = did.has in
+    let work = with-some (work_of w.works has.row.number) (λ work. turning.IsTurnOf has.all_done has.row work is) has.step in
+    record {
+      has = record {
+        row = has.row;
+        work = work.0;
+        all_done = has.all_done;
+        done = has.done;
+        there = has.there;
+        copies = work.1;
+        is = same (step_of has.all_done has.row work.0) work.2;
+      };
+      calm = λ asked. did.calm (drains has.row ∙ asked);
+      kept = did.kept ∙ ap (λ (b : Bool). record w { drains = if b then after_turn has.row.number w.drains else w.drains }) (drains has.row);
     }
 
 pub is_turned : (w v : WorldSeen) (slot : ℕ) (t : Turned) → turning.IsTurned w v slot t → HasSmallFaults w slot → IsTurned w v slot t
 is_turned w v slot turned.Empty did small = did
-is_turned w v slot turned.Copy did small = (has_step w slot turn.Copy step.Copy (λ x is. is) did.has, did.kept)
-is_turned w v slot turned.Idle did small = (has_step w slot turn.Wait step.Wait (λ x is. is) did.has, did.kept)
-is_turned w v slot turned.Became did small = record {
+is_turned w v slot turned.Copy did small = slot_stays w v slot turn.Copy step.Copy (λ x is. is) (λ row. refl) did
+is_turned w v slot turned.Idle did small = slot_stays w v slot turn.Wait step.Wait (λ x is. is) (λ row. refl) did
+is_turned w v slot (turned.Later g r) did small = record { row = did.has.row; there = did.has.there; waits = did.waits; kept = did.kept }
+is_turned w v slot turned.Became (inl did) small = inl (record {
   row = did.has.row;
   why = did.why;
   offset = did.offset;
   there = did.has.there;
   ends = did.ends;
   fits = end_small w slot did.has.row did.why did.has.there small did.ends.met;
-}
+})
+is_turned w v slot turned.Became (inr did) small = inr (record { row = did.has.row; there = did.has.there; readies = did.readies })
 
 -- ---- a block that is read, and one that is written
 

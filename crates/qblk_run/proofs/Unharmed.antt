@@ -4,6 +4,7 @@ use Rattle.std.specs.Prelude.{◌==◌, All, option_and_then, slice_get, unwrap_
 use Rattle.std.specs.List.{filter_map}
 use Rattle.std.proofs.lemmas.List.Elements.{filter_map-append}
 use Rattle.blk_base.specs.Counts.{HasFailedSince, Rose}
+use Rattle.blk_base.specs.Pieces.{Extent}
 use Rattle.blk_base.specs.declared.fault.DevNo.{DevNo}
 use Rattle.blk_base.specs.declared.fault.Fault.{Fault}
 use Rattle.blk_base.specs.declared.fault.Fault.TheVariants as faults
@@ -19,19 +20,20 @@ use Rattle.blk_history.specs.declared.event.Event.{Event}
 use Rattle.blk_history.specs.declared.event.Event.TheVariants.{Admit, Refuse, Piece, Retire, Reply, Reached, Start, Ready, End, Done as Ended}
 use Rattle.blk_nodes.specs.Nodes.{Nodes, node_size}
 use Rattle.blk_nodes.specs.Reading.{IsReadBelow}
-use Rattle.block_jobs.specs.Work.{JobWork, after_settle, after_take, failed_by, sectors_left}
+use Rattle.block_jobs.specs.Work.{JobWork, after_settle, after_take, failed_by, left_again, sectors_left}
 use Rattle.node_copies.specs.Putting.{CopiesBehind, CopiesBlock, PutsRuns, answer_of}
 use Rattle.node_copies.specs.Sectors.{block_of, runs_of}
 use Rattle.job_copies.specs.Guarding.{Guards, after_guard}
 use Rattle.job_copies.specs.Settling.{Settles, after_write, settled_sectors}
 use Rattle.job_copies.specs.Taking.{Takes}
 use Rattle.job_progress.specs.Beginning.{begun_by, work_begun}
-use Rattle.job_works.specs.Works.{with_work, without_work, work_of}
+use Rattle.job_works.specs.Works.{marked_again, with_changed, with_work, without_work, work_of}
 use Rattle.trace_codec.specs.Script.{Order}
 use Rattle.qmp_codec.specs.Commands.{Cmd}
 use Rattle.qmp_codec.specs.Lines.{command_at}
 use Rattle.qmp_codec.specs.declared.event.JobKind.{JobKind}
 use Rattle.qmp_codec.specs.declared.event.JobKind.TheVariants as kinds
+use Rattle.qmp_rules.specs.Chains.{disk_node}
 use Rattle.qmp_rules.specs.Queries.{bytes_of_node}
 use Rattle.qmp_rules.specs.Table.{RunTable}
 use Rattle.qmp_rules.specs.declared.rows.JobRecord.{JobRecord}
@@ -46,6 +48,7 @@ use Rattle.world_parts.specs.Carrying.{FitsAll, would_pass}
 use Rattle.world_parts.specs.Counting.{seen_sources}
 use Rattle.world_parts.specs.Face.{WorldSeen, counts_now, seen_state}
 use Rattle.world_parts.specs.Jobs.{EndsJob}
+use Rattle.world_parts.specs.Piecing.{part_of}
 use Rattle.qblk_core.specs.declared.status.Status.{Status}
 use Rattle.qblk_core.specs.declared.status.Status.TheVariants.{Done, Usage, Input, Fault as Faulty, Stuck, NoMemory}
 use Rattle.qblk_words.specs.Words.{Cast}
@@ -54,6 +57,7 @@ use Rattle.world_files.specs.Closing.{IsBackAfterFlush}
 use Rattle.qblk_run.specs.Completeness.{BlockHasSpace, EventHasSpace, GuardHasSpace, HasSpaceFor, HaveSpace, NamesNoFault, NoneHasRisen, PieceHasSpace, StepHasSpace, full_at_end, full_in}
 use Rattle.qblk_run.specs.Run.{Setting, Answers, IsFaulty}
 use Rattle.qblk_run.specs.Worlds.{AreStartsBehind, GoesThrough, IsGuardedFor, IsLeftBy, IsPieceEvent, IsReplyOf, IsUneventful, MakesEvent}
+use Rattle.qblk_run.proofs.Counts.{again-same, marked-keeps}
 use Rattle.qblk_run.proofs.Lists.{is-get, below-get, with-at, with-some}
 use Rattle.qblk_run.proofs.Worlds.{put-off-left}
 
@@ -96,13 +100,22 @@ full-found (w ∷ works) job work none is = by_test (w.job == job) is (full-foun
     by_test true e rest = let same : w ≡ work = cc e in subst (λ (x : JobWork). full_met x.met ≡ None) same none.0
     by_test false e rest = rest e
 
-full-with : (now : JobWork) (works : List JobWork) → full_met now.met ≡ None → NoneAreFull works → NoneAreFull (with_work now works)
-full-with now [] own none = tt
-full-with now (work ∷ works) own none = by_test (work.job == now.job) (full-with now works own none.1)
+full-changed : (job : ℕ) (change : JobWork → JobWork) (works : List JobWork) → ((work : JobWork) → full_met work.met ≡ None → full_met (change work).met ≡ None)
+    → NoneAreFull works → NoneAreFull (with_changed job change works)
+full-changed job change [] keeps none = tt
+full-changed job change (work ∷ works) keeps none = by_test (work.job == job) (full-changed job change works keeps none.1)
   where
-    by_test : (b : Bool) → NoneAreFull (with_work now works) → NoneAreFull (cond b (now ∷ works) (work ∷ with_work now works))
-    by_test true rest = (own, none.1)
+    by_test : (b : Bool) → NoneAreFull (with_changed job change works) → NoneAreFull (cond b (change work ∷ works) (work ∷ with_changed job change works))
+    by_test true rest = (keeps work none.0, none.1)
     by_test false rest = (none.0, rest)
+
+full-with : (now : JobWork) (works : List JobWork) → full_met now.met ≡ None → NoneAreFull works → NoneAreFull (with_work now works)
+full-with now works own none = full-changed now.job (λ work. now) works (λ work was. own) none
+
+-- a job that has to copy again has met the same
+full-again : (job : ℕ) (span : Extent) (works : List JobWork) → NoneAreFull works → NoneAreFull (marked_again job span works)
+full-again job span works none =
+    full-changed job (left_again span) works (λ work was. subst (λ (m : Option Fault). full_met m ≡ None) (sym (again-same span work).met) was) none
 
 full-push : (works : List JobWork) (work : JobWork) → full_met work.met ≡ None → NoneAreFull works → NoneAreFull (works ++ work ∷ [])
 full-push [] work own none = (own, tt)
@@ -278,15 +291,20 @@ event-unharmed w v (Admit g r op) es left space none =
     same-unharmed w v (Admit g r op) es left.0 refl (ap (λ (u : WorldSeen). u.works) left.1.1) none
 event-unharmed w v (Refuse g r op why) es left space none =
     same-unharmed w v (Refuse g r op why) es left.0 refl (ap (λ (u : WorldSeen). u.works) left.1.1) none
-event-unharmed w v (Piece g r k outcome got) es left space none = record {
-  entries = rw (left.0, piece-full w v g r k outcome got left.1 space.own) refl;
-  works = subst NoneAreFull (sym (ap (λ (u : WorldSeen). u.works) left.1.makes.made.kept))
-      (guarded-full w left.1.makes.between g left.1.flight left.1.makes.guarded space.guard none);
-}
+event-unharmed w v (Piece g r k outcome got) es left space none =
+    let f = left.1.flight in
+    let x = left.1.makes.between in
+    let made = left.1.makes.made in
+    record {
+      entries = rw (left.0, piece-full w v g r k outcome got left.1 space.own) refl;
+      works = subst NoneAreFull (sym (ap (λ (u : WorldSeen). u.works) made.kept))
+          (marked-keeps NoneAreFull full-again f.op outcome x.table (disk_node x.table made.drive) (part_of f) x.works
+          (guarded-full w x g f left.1.makes.guarded space.guard none));
+    }
 event-unharmed w v (Retire g r) es left space none = same-unharmed w v (Retire g r) es left.0 refl (ap (λ (u : WorldSeen). u.works) left.1) none
 event-unharmed w v (Reached line what) es left space none = same-unharmed w v (Reached line what) es left.0 refl (ap (λ (u : WorldSeen). u.works) left.1) none
 event-unharmed w v (Start job) es left space none = absurd left.1
-event-unharmed w v (Ready job) es left space none = absurd left.1
+event-unharmed w v (Ready job) es left space none = same-unharmed w v (Ready job) es left.0 refl (ap (λ (u : WorldSeen). u.works) left.1.readies.kept) none
 event-unharmed w v (End job outcome offset) es left space none = record {
   entries = rw (left.0, end-full w v left.1.row outcome offset left.1.ends none) refl;
   works = subst NoneAreFull (sym (ap (λ (u : WorldSeen). u.works) left.1.ends.kept)) (full-without left.1.row.number w.works none);
@@ -300,11 +318,12 @@ still-unharmed orders w v (inr (inl took)) space none =
     let own = take-full took.row.kind w.nodes v.nodes change.was change.now took.row.source _ took.buffer took.answer change.done.takes
     (full-found w.works took.row.number change.was none change.there) in
     subst NoneAreFull (sym change.kept) (full-with change.now w.works own none)
-still-unharmed orders w v (inr (inr settled)) space none =
+still-unharmed orders w v (inr (inr (inl settled))) space none =
     let change = settled.settles.settles in
     let own = settle-full settled.row.kind w.nodes v.nodes change.was change.now settled.target settled.transfer settled.bytes settled.answer change.done.settles space
     (full-found w.works settled.row.number change.was none change.there) in
     subst NoneAreFull (sym change.kept) (full-with change.now w.works own none)
+still-unharmed orders w v (inr (inr (inr drains))) space none = subst NoneAreFull (sym (ap (λ (u : WorldSeen). u.works) drains.kept)) none
 
 made-unharmed : (orders : List Order) (w v : WorldSeen) (es : List Event) (made : MakesEvent orders w v es) → HasSpaceFor orders w v es made → NoneAreFull w.works → IsUnharmed v es
 made-unharmed orders w v [] made space none = record { entries = refl; works = still-unharmed orders w v made space none }

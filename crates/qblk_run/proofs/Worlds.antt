@@ -7,7 +7,7 @@ use Rattle.blk_history.specs.Small.{IsSmallEnd}
 use Rattle.blk_history.specs.declared.entry.JobEnd.{JobEnd}
 use Rattle.blk_history.specs.declared.entry.Refused.{Refused}
 use Rattle.blk_history.specs.declared.event.Event.{Event}
-use Rattle.blk_history.specs.declared.event.Event.TheVariants.{Admit, Refuse, Retire, Reached, Start, End, Done}
+use Rattle.blk_history.specs.declared.event.Event.TheVariants.{Admit, Refuse, Retire, Reached, Start, Ready, End, Done}
 use Rattle.trace_codec.specs.declared.awaiting.Await.{Await}
 use Rattle.trace_codec.specs.declared.op.Op.{Op}
 use Rattle.trace_codec.specs.declared.order.Order.TheVariants.{Give, Watch}
@@ -26,17 +26,18 @@ use Rattle.world_parts.specs.declared.admission.Admission.TheVariants.{Admitted,
 use Rattle.world_parts.specs.declared.executed.Executed.{Executed}
 use Rattle.world_parts.specs.declared.executed.Executed.TheVariants.{Replied, Later}
 use Rattle.world_parts.specs.Carrying.{AnswersLine, IsExecuted, IsPutBack, IsPutBackIn, IsPutOff, reply_entry}
+use Rattle.world_parts.specs.Coherent.{AreDrainsKept}
 use Rattle.world_parts.specs.Comes.{Comes}
 use Rattle.world_parts.specs.Counting.{RunsOn}
 use Rattle.world_parts.specs.Face.{WorldSeen, seen_state}
-use Rattle.world_parts.specs.Jobs.{BeginsNone, BeginsOne, EndsJob}
+use Rattle.world_parts.specs.Jobs.{BeginsNone, BeginsOne, EndsJob, ReadiesJob}
 use Rattle.world_pieces.specs.Pieces.{piece_entry}
 use Rattle.world_parts.specs.Progress.{Progress, HasNext, flight_at, requests_done, with_retirement}
 use Rattle.world_parts.specs.Saying.{Given, given_line}
 use Rattle.world_parts.specs.Steps.{with_history, after_admission, IsAnswered, IsActorIdle, after_wait, after_actor_end}
 use Rattle.qblk_run.specs.Tasks.{IsGiving}
 use Rattle.qblk_run.specs.Turns.{StaysIn}
-use Rattle.qblk_run.specs.Worlds.{GoesThrough, HasCome, IsEventOf, IsGuardedFor, IsPutOffBy, IsSettleStep, IsTakeStep, IsUndoneBy, IsUneventful, MakesEvent, MakesPiece}
+use Rattle.qblk_run.specs.Worlds.{GoesThrough, HasCome, IsDrainStep, IsEventOf, IsGuardedFor, IsPutOffBy, IsSettleStep, IsTakeStep, IsUndoneBy, IsUneventful, MakesEvent, MakesPiece}
 use Rattle.qblk_run.proofs.History.{course-append}
 use Rattle.qblk_run.proofs.Lists.{with-map}
 
@@ -239,43 +240,70 @@ module _ (o : Opening) (c : Course) (first w v : WorldSeen) (before : List Order
         left = (refl, record { row = row; number = refl; ends = ends; fits = fits });
       }) has.left
 
+  pub come-readied : (row : JobRecord) → ReadiesJob w v row → HasCome o c first v before
+  come-readied row readies =
+      come-event o c first w v before has (comes has.comes) (Ready row.number) [] before (record {
+        may = tt;
+        adds = ap (λ (u : WorldSeen). u.progress.log.events) readies.kept;
+        left = (refl, record { row = row; number = refl; readies = readies });
+      }) has.left
+
   pub come-taken : IsTakeStep w v → HasCome o c first v before
   come-taken took =
       come-still o c first w v before has (comes has.comes) (inr (inl took)) (ap (λ (u : WorldSeen). u.progress) took.takes.copies.kept)
 
   pub come-settled : IsSettleStep w v → HasCome o c first v before
   come-settled settled =
-      come-still o c first w v before has (comes has.comes) (inr (inr settled)) (ap (λ (u : WorldSeen). u.progress) settled.settles.copies.kept)
+      come-still o c first w v before has (comes has.comes) (inr (inr (inl settled))) (ap (λ (u : WorldSeen). u.progress) settled.settles.copies.kept)
+
+  pub come-drained : IsDrainStep w v → HasCome o c first v before
+  come-drained drains =
+      come-still o c first w v before has (comes has.comes) (inr (inr (inr drains))) (ap (λ (u : WorldSeen). u.progress) drains.kept)
 
 -- ---- the same run
 
-pub runs_stay : (w v : WorldSeen) → RunsOn w v → ((o : Opening) → Comes o w → Comes o v) → StaysIn w v
-runs_stay w v runs comes = record { told = runs.told; first = runs.first; earlier = runs.earlier; room = runs.room; comes = comes }
+abbrev pub StayComing : WorldSeen → WorldSeen → Type 0
+StayComing w v = (o : Opening) → Comes o w → Comes o v
 
-answered_stay : (w v : WorldSeen) (line : Given) → AnswersLine w v line → ((o : Opening) → Comes o w → Comes o v) → StaysIn w v
-answered_stay w v line answers comes = by_begins answers.begins
-  where
-    by_begins : BeginsNone w.table answers.between v ⊎ BeginsOne w.table answers.between v → StaysIn w v
-    by_begins (inl none) =
-        subst (StaysIn w) (sym none.kept) (runs_stay w answers.between answers.replied.runs (subst (λ (u : WorldSeen). (o : Opening) → Comes o w → Comes o u) none.kept comes))
-    by_begins (inr one) =
-        let runs = answers.replied.runs in
-        record {
-          told = ap (λ (u : WorldSeen). is_some u.files) one.begins.kept ∙ runs.told;
-          first = ap (λ (u : WorldSeen). u.first_faults) one.begins.kept ∙ runs.first;
-          earlier = ap (λ (u : WorldSeen). u.earlier) one.begins.kept ∙ runs.earlier;
-          room = ap (λ (u : WorldSeen). u.room) one.begins.kept ∙ runs.room;
-          comes = comes;
-        }
+abbrev pub KeepDrains : WorldSeen → WorldSeen → Type 0
+KeepDrains w v = AreDrainsKept w.table w.drains → AreDrainsKept v.table v.drains
+
+pub runs_stay : (w v : WorldSeen) → RunsOn w v → StayComing w v → KeepDrains w v → StaysIn w v
+runs_stay w v runs comes drains = record { told = runs.told; first = runs.first; earlier = runs.earlier; room = runs.room; comes = comes; drains = drains }
 
 -- where store and openings are as they were
-pub kept_stay : (w v : WorldSeen) → v.files ≡ w.files → v.first_faults ≡ w.first_faults → v.earlier ≡ w.earlier → v.room ≡ w.room → ((o : Opening) → Comes o w → Comes o v) → StaysIn w v
-kept_stay w v files first earlier room comes = record { told = ap (λ (x : _). is_some x) files; first = first; earlier = earlier; room = room; comes = comes }
+pub kept_stay : (w v : WorldSeen) → v.files ≡ w.files → v.first_faults ≡ w.first_faults → v.earlier ≡ w.earlier → v.room ≡ w.room → StayComing w v → KeepDrains w v
+    → StaysIn w v
+kept_stay w v files first earlier room comes drains =
+    record { told = ap (λ (x : _). is_some x) files; first = first; earlier = earlier; room = room; comes = comes; drains = drains }
+
+answered_stay : (w v : WorldSeen) (line : Given) → AnswersLine w v line → StayComing w v → KeepDrains w v → StaysIn w v
+answered_stay w v line answers comes drains = by_begins answers.begins
+  where
+    by_kept : v.files ≡ answers.between.files → v.first_faults ≡ answers.between.first_faults → v.earlier ≡ answers.between.earlier → v.room ≡ answers.between.room → StaysIn w v
+    by_kept files first earlier room =
+        let runs = answers.replied.runs in
+        record {
+          told = ap (λ (x : _). is_some x) files ∙ runs.told;
+          first = first ∙ runs.first;
+          earlier = earlier ∙ runs.earlier;
+          room = room ∙ runs.room;
+          comes = comes;
+          drains = drains;
+        }
+
+    by_begins : BeginsNone w.table answers.between v ⊎ BeginsOne w.table answers.between v → StaysIn w v
+    by_begins (inl none) =
+        by_kept (ap (λ (u : WorldSeen). u.files) none.kept) (ap (λ (u : WorldSeen). u.first_faults) none.kept) (ap (λ (u : WorldSeen). u.earlier) none.kept)
+        (ap (λ (u : WorldSeen). u.room) none.kept)
+    by_begins (inr one) =
+        by_kept (ap (λ (u : WorldSeen). u.files) one.begins.kept) (ap (λ (u : WorldSeen). u.first_faults) one.begins.kept)
+        (ap (λ (u : WorldSeen). u.earlier) one.begins.kept) (ap (λ (u : WorldSeen). u.room) one.begins.kept)
 
 pub executed_stay : {E : Type 0} (w v : WorldSeen) (line : Given) (r : Result Executed E) → IfOk r (λ answer. IsExecuted w v line answer) → OnErr r (IsPutBack w v)
-    → ((o : Opening) → Comes o w → Comes o v) → StaysIn w v
-executed_stay w v line (Ok Replied) done back comes = answered_stay w v line done comes
-executed_stay w v line (Ok (Later g r)) done back comes =
+    → StayComing w v → KeepDrains w v → StaysIn w v
+executed_stay w v line (Ok Replied) done back comes drains = answered_stay w v line done comes drains
+executed_stay w v line (Ok (Later g r)) done back comes drains =
     kept_stay w v (ap (λ (u : WorldSeen). u.files) done.left) (ap (λ (u : WorldSeen). u.first_faults) done.left) (ap (λ (u : WorldSeen). u.earlier) done.left)
-    (ap (λ (u : WorldSeen). u.room) done.left) comes
-executed_stay w v line (Err stop) done back comes = runs_stay w v back.runs comes
+    (ap (λ (u : WorldSeen). u.room) done.left) comes drains
+executed_stay w v line (Err stop) done back comes drains = runs_stay w v back.runs comes drains

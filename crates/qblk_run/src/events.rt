@@ -133,7 +133,9 @@ impl<S: Store> Events for World<S> {
     }
 
     fn piece(&mut self, guest: u32) -> Outcome {
-        World::piece(self, guest)
+        let outcome = World::piece(self, guest);
+        World::law(self);
+        outcome
     }
 
     fn retire(&mut self, guest: u32) {
@@ -157,7 +159,9 @@ impl<S: Store> Events for World<S> {
 
     fn job_turn(&mut self, slot: u32) -> Turned {
         World::fault_law(self, slot);
-        World::job_turn(self, slot)
+        let turned = World::job_turn(self, slot);
+        World::law(self);
+        turned
     }
 
     fn take(&mut self, slot: u32, buffer: &mut [u8]) -> Option<Transfer> {

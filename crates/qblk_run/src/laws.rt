@@ -65,7 +65,8 @@ pub fn runs_fall_into_events()
 
 /// Where the store tells its files, each finished job of a run shows what it is to: the target of a backup of a whole disk has the disk that
 /// the source had at the job's start, which stands before in the history; by a bitmap, on a target that had a disk, the granules that the
-/// bitmap held are the source's of then. No other end gives a node a disk.
+/// bitmap held are the source's of then; and the target of a mirror has the disk that its source has right before its end. No other end
+/// gives a node a disk.
 pub fn finished_copies_are_shown()
     ensures { (cast : Cast) (work : Work) (had : Bool) (fault : Option FaultAt)
         (old new : StoreSeen) (a : Account)

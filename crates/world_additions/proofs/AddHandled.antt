@@ -8,7 +8,7 @@ use Rattle.qmp_codec.specs.declared.command.Command.TheVariants as command
 use Rattle.qmp_rules.specs.Table.{RunTable}
 use Rattle.flat_machine.specs.Bitmaps.{AreBitmapsOf}
 use Rattle.world_parts.specs.Carrying.{HasFailed, IsCarriedAs, IsPutBackBy}
-use Rattle.world_parts.specs.Coherent.{AreJobsKept, IsWholeWorld}
+use Rattle.world_parts.specs.Coherent.{AreDrainsKept, AreJobsKept, IsWholeWorld}
 use Rattle.world_parts.specs.Face.{WorldSeen}
 use Rattle.world_parts.specs.Looking.{Site}
 use Rattle.world_additions.specs.Additions.{CanLook, IsAdditionBy, IsNotAddedBy, is_addition}
@@ -20,7 +20,7 @@ use Rattle.world_additions.proofs.AddCounts.{put-hides}
 use Rattle.world_additions.proofs.AddEnds.{carried-as, carried-both}
 use Rattle.world_additions.proofs.AddPut.{put-back, put-both, put-fault, put-runs, put-so}
 use Rattle.world_parts.proofs.BitmapsLeft.{left-listed}
-use Rattle.world_parts.proofs.JobsAnswered.{jobs_kept}
+use Rattle.world_parts.proofs.JobsAnswered.{drains_kept, jobs_kept}
 
 pub can-look : (w : WorldSeen) → IsWholeWorld w → CanLook w.table (site_of w)
 can-look w whole = record {
@@ -49,6 +49,7 @@ module _ (w : WorldSeen) (whole : IsWholeWorld w) (joined : IsJoined w.nodes) (g
         counted = omega (arith, store, counted);
         bitmaps = left-listed w.table carried.carried.told (command.BlockdevAdd c) w.bitmaps u refl carried.carried.table whole.bitmaps;
         jobs = jobs_kept w whole joined (command.BlockdevAdd c) carried.carried.told u (λ accepted. record { one = tt; none = refl }) carried.carried.table;
+        drains = drains_kept w whole joined (command.BlockdevAdd c) carried.carried.told u (λ accepted. record { one = tt; none = refl }) carried.carried.table;
       }
   whole-by text c sure is = absurd (let bad : ⊥ = cc sure in bad)
 
@@ -72,6 +73,7 @@ module _ (w : WorldSeen) (whole : IsWholeWorld w) (joined : IsJoined w.nodes) (g
           counted = omega (arith, store, counted);
           bitmaps = subst (λ (t : RunTable). AreBitmapsOf t.bitmaps w.bitmaps) (sym table) whole.bitmaps;
           jobs = subst (λ (t : RunTable). AreJobsKept t w.works w.progress.aside) (sym table) whole.jobs;
+          drains = subst (λ (t : RunTable). AreDrainsKept t w.drains) (sym table) whole.drains;
         },
       )
   put-by c sure is table = absurd (let bad : ⊥ = cc sure in bad)

@@ -13,6 +13,7 @@ use Rattle.qmp_rules.specs.declared.refusal.Refusal.{Refusal}
 use Rattle.qmp_rules.specs.declared.told.Told.{Told}
 use Rattle.qmp_rules.specs.Table.{RunTable, job_named}
 use Rattle.qmp_rules.specs.declared.rows.AskedEnd.{AskedEnd}
+use Rattle.qmp_rules.specs.declared.rows.AskedEnd.TheVariants as asked
 use Rattle.qmp_rules.specs.declared.rows.JobRecord.{JobRecord}
 use Rattle.qmp_asks.specs.Values.{flag_or_false}
 use Rattle.flat_machine.specs.Replies.{begins_job}
@@ -55,6 +56,7 @@ stays_in_table (command.DeviceAdd c) = false
 stays_in_table (command.DeviceDel id) = false
 stays_in_table (command.BlockdevSnapshot c) = false
 stays_in_table (command.BlockdevBackup c) = false
+stays_in_table (command.BlockdevMirror c) = false
 stays_in_table c = true
 
 same-shape : (t : RunTable) → KeepsWiring t t
@@ -89,6 +91,7 @@ table-edits t (command.BitmapClear c) alone built u is = rw is (record { nodes =
 table-edits t (command.BitmapEnable c) alone built u is = rw is (record { nodes = refl; edges = refl; devices = refl; guests = refl })
 table-edits t (command.BitmapDisable c) alone built u is = rw is (record { nodes = refl; edges = refl; devices = refl; guests = refl })
 table-edits t (command.BlockJobCancel id force) alone built u is = rw is (asked-shape t (asked_by_cancel (flag_or_false force)) (job_named t id))
+table-edits t (command.BlockJobComplete id) alone built u is = rw is (asked-shape t (λ job. asked.Complete) (job_named t id))
 table-edits t (command.BitmapMerge c) alone built u is = rw (is ∙ merged-shape t c.node c.target c.bitmaps t) (same-shape t)
 table-edits t _ alone built u is = absurd cc
 
@@ -133,6 +136,7 @@ alone-performed s (command.BitmapClear c) old new alone built quiet t = (new, qu
 alone-performed s (command.BitmapEnable c) old new alone built quiet t = (new, quiet, quiet-self new)
 alone-performed s (command.BitmapDisable c) old new alone built quiet t = (new, quiet, quiet-self new)
 alone-performed s (command.BlockJobCancel id force) old new alone built quiet t = asked-performed s (asked_by_cancel (flag_or_false force)) (job_named t id) old new quiet
+alone-performed s (command.BlockJobComplete id) old new alone built quiet t = asked-performed s (λ job. asked.Complete) (job_named t id) old new quiet
 alone-performed s (command.BitmapMerge c) old new alone built quiet t = merged-performed t c.node c.target c.bitmaps s old new quiet
 alone-performed s _ old new alone built quiet t = absurd cc
 
@@ -160,6 +164,7 @@ stays-leaves t told (command.DeviceAdd c) first u x alone = absurd cc
 stays-leaves t told (command.DeviceDel id) first u x alone = absurd cc
 stays-leaves t told (command.BlockdevSnapshot c) first u x alone = absurd cc
 stays-leaves t told (command.BlockdevBackup c) first u x alone = absurd cc
+stays-leaves t told (command.BlockdevMirror c) first u x alone = absurd cc
 stays-leaves t told _ None u x alone = refl
 stays-leaves t told _ (Some cause) u x alone = refl
 

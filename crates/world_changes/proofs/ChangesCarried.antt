@@ -38,7 +38,7 @@ use Rattle.world_parts.proofs.CountLemmas.{runs-devices, same-devices}
 use Rattle.world_parts.proofs.CountsKept.{hides-same}
 use Rattle.world_parts.proofs.DisksKept.{as_in}
 use Rattle.world_parts.proofs.GuestsKept.{guests_stand}
-use Rattle.world_parts.proofs.JobsAnswered.{begins_not, jobs_kept}
+use Rattle.world_parts.proofs.JobsAnswered.{begins_not, drains_kept, jobs_kept}
 use Rattle.world_parts.proofs.NodesRewired.{nodes_rewired, same_rewired}
 use Rattle.world_parts.proofs.Placed.{answer-is}
 use Rattle.world_parts.proofs.Accepted.{built_accepted}
@@ -84,6 +84,7 @@ module _ (t : RunTable) (told : Told) (old now : List Bitmap) (was : AreBitmapsO
   follow_command : (c : Cmd) → is_change c ≡ true → (is_snapshot c ≡ false → told ≡ told_none) → refusal_to t told c ≡ None → AreAfter t c old now → Follows told c
   follow_command (command.BlockdevDel name) is untold none after = absurd cc
   follow_command (command.BlockdevBackup c) is untold none after = absurd cc
+  follow_command (command.BlockdevMirror c) is untold none after = absurd cc
   follow_command (command.BitmapAdd c) is untold none after =
       of_bitmaps (command.BitmapAdd c) (untold refl) none (λ n. after-follow t old now (command.BitmapAdd c) was refl n after)
   follow_command (command.BitmapRemove c) is untold none after =
@@ -178,6 +179,7 @@ module _ (w : WorldSeen) (whole : IsWholeWorld w) (joined : IsJoined w.nodes) (c
         (performed_gone w whole joined u nodes put made.rows s id (subst (λ (x : Told). refusal_to t x (command.DeviceDel id) ≡ None) same none)
         (table ∙ ap (λ (x : Told). all_changed t (command_edits t x (command.DeviceDel id))) same))
     performed_by (command.BlockdevBackup c) is tells none table = absurd cc
+    performed_by (command.BlockdevMirror c) is tells none table = absurd cc
     performed_by c is tells none table =
         let same = tells.none refl in
         let built = built_accepted t told c none in
@@ -200,6 +202,7 @@ module _ (w : WorldSeen) (whole : IsWholeWorld w) (joined : IsJoined w.nodes) (c
       by_command (command.DeviceAdd c) is tells none table = (refl, put)
       by_command (command.DeviceDel id) is tells none table = (refl, put)
       by_command (command.BlockdevBackup c) is tells none table = absurd cc
+      by_command (command.BlockdevMirror c) is tells none table = absurd cc
       by_command c is tells none table =
           let same = tells.none refl in
           let shape = table-edits t c refl (built_accepted t told c none) u (table ∙ ap (λ (x : Told). all_changed t (command_edits t x c)) same) in
@@ -250,4 +253,5 @@ module _ (w : WorldSeen) (whole : IsWholeWorld w) (joined : IsJoined w.nodes) (c
     counted = whole.counted;
     bitmaps = subst (λ (x : RunTable). AreBitmapsOf x.bitmaps b) (sym (table ∙ sym (ap (all_changed t) answer_is))) changed_follows.listed;
     jobs = jobs_kept w whole joined c told u (λ accepted. starts_none t c is (built_accepted t told c accepted)) (table ∙ sym (ap (all_changed t) answer_is));
+    drains = drains_kept w whole joined c told u (λ accepted. starts_none t c is (built_accepted t told c accepted)) (table ∙ sym (ap (all_changed t) answer_is));
   }

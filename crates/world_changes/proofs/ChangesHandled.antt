@@ -56,9 +56,16 @@ few_drives t nodes alike joined g some = by_drive (drive_of t g) refl some
         let fits = joined.sound.fit.each edge.edge (subst (λ (edges : List Edge). Contains edges edge.edge) (sym alike.edges) edge.there) in
         subst (HasParent nodes.graph) edge.from fits.parent
 
--- the world with other drains belongs together as before
-whole-drains : (w : WorldSeen) (drains : Drained) → IsWholeWorld w → IsWholeWorld (record w { drains = drains })
-whole-drains w drains is = record { coherent = is.coherent; tell = is.tell; counted = is.counted; bitmaps = is.bitmaps; jobs = is.jobs }
+-- the world in which a command holds other disks belongs together as before
+pub whole_held : (w : WorldSeen) (disks : List ℕ) → IsWholeWorld w → IsWholeWorld (record w { drains = after_later disks w.drains })
+whole_held w disks is = record {
+  coherent = is.coherent;
+  tell = is.tell;
+  counted = is.counted;
+  bitmaps = is.bitmaps;
+  jobs = is.jobs;
+  drains = record { each = is.drains.each; once = is.drains.once };
+}
 
 abbrev pub staged : WorldSeen → Scene → WorldSeen
 staged w y = record w { nodes = y.nodes; table = y.table; drains = y.drains; bitmaps = y.bitmaps }
@@ -189,7 +196,7 @@ module _ (w : WorldSeen) (whole : IsWholeWorld w) (joined : IsJoined w.nodes) (g
           left = left;
           shows = λ some o s shows. late_so w whole joined c is has.told tells o s some shows;
         },
-        subst IsWholeWorld (sym left) (whole-drains w (after_later (drained_by w.table c) w.drains) whole),
+        subst IsWholeWorld (sym left) (whole_held w (drained_by w.table c) whole),
       )
 
   -- ---- whichever it is

@@ -100,6 +100,7 @@ module _ (t : RunTable) (h : TableStands t) (guests : List Guest) (told : Told) 
       subst (λ (x : Told). IsAfter t (all_changed t (command_edits t x (command.DeviceDel id))) guests) (sym same)
       (device_gone id (subst (λ (x : Told). refusal_to t x (command.DeviceDel id) ≡ None) same none) calm)
   after_command (command.BlockdevBackup c) is untold none calm fit = absurd cc
+  after_command (command.BlockdevMirror c) is untold none calm fit = absurd cc
   after_command c is untold none calm fit =
       let same : told ≡ told_none = untold refl in
       let shape = table-edits t c refl (built_accepted t told c none) (all_changed t (command_edits t told c)) (ap (λ (x : Told). all_changed t (command_edits t x c)) same) in

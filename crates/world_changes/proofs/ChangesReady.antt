@@ -20,6 +20,7 @@ use Rattle.qmp_rules.specs.Edits.{asked_by_cancel, device_uses, edits_of, file_u
 use Rattle.qmp_rules.specs.Fitting.{AllChangesFit}
 use Rattle.qmp_rules.specs.Table.{RunTable, device_named, job_named, kinds_of, node_named}
 use Rattle.qmp_rules.specs.declared.rows.AskedEnd.{AskedEnd}
+use Rattle.qmp_rules.specs.declared.rows.AskedEnd.TheVariants as asked
 use Rattle.qmp_rules.specs.declared.rows.JobRecord.{JobRecord}
 use Rattle.qmp_asks.specs.Values.{flag_or_false}
 use Rattle.world_parts.proofs.JobsAnswered.{StartsNoJob, begins_not}
@@ -89,6 +90,7 @@ module _ (t : RunTable) (told : Told) where
   edits_keep (command.DeviceDel id) is built = gone-keep (device_named t id)
   edits_keep (command.BlockdevSnapshot c) is built = (refl, (refl, tt))
   edits_keep (command.BlockJobCancel id force) is built = asked-keep (asked_by_cancel (flag_or_false force)) (job_named t id)
+  edits_keep (command.BlockJobComplete id) is built = asked-keep (λ job. asked.Complete) (job_named t id)
   edits_keep command.QueryBlockJobs is built = tt
   edits_keep (command.BitmapAdd c) is built = (refl, tt)
   edits_keep (command.BitmapRemove c) is built = (refl, tt)
@@ -155,6 +157,7 @@ module _ (t : RunTable) (told : Told) (rule : KeepsPermissions t.edges) (derived
   by_command (command.BlockdevSnapshot c) is built after = after
   by_command (command.DeviceDel id) is built after = gone_rule (device_named t id)
   by_command (command.BlockdevBackup c) is built after = absurd cc
+  by_command (command.BlockdevMirror c) is built after = absurd cc
   by_command c is built after =
       let shape = table-edits t c refl built (all_changed t (command_edits t told_none c)) refl in
       no_conflict (all_changed t (command_edits t told_none c)) (subst KeepsPermissions (sym shape.edges) rule)

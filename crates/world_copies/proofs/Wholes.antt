@@ -30,6 +30,7 @@ module _ (w v : WorldSeen) (deed : Deed) (passes : ℕ → Type 0) (row : JobRec
         counted = whole.counted;
         bitmaps = whole.bitmaps;
         jobs = kept_then w v.works (works_then w v deed passes row copies Does changes whole.jobs.belong still) whole.jobs;
+        drains = whole.drains;
       } in
       subst IsWholeWorld (sym copies.kept) is
 

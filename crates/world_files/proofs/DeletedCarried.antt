@@ -28,7 +28,7 @@ use Rattle.blk_nodes.specs.Dropping.{nodes_without}
 use Rattle.blk_nodes.specs.Contents.{Unfolds}
 use Rattle.blk_nodes.specs.Joined.{IsJoined}
 use Rattle.blk_nodes.specs.Nodes.{DeviceSeen, device_in}
-use Rattle.world_parts.specs.Coherent.{AreJobsKept, IsWholeWorld}
+use Rattle.world_parts.specs.Coherent.{AreDrainsKept, AreJobsKept, IsWholeWorld}
 use Rattle.world_parts.specs.Counting.{RunsOn}
 use Rattle.world_parts.specs.Carrying.{opened_names}
 use Rattle.world_parts.specs.Deleting.{name_under, with_back, Ground, ground_of, left, all_left, going, HasLeft, HaveLeft, made_with, with_node_below, IsDeleted}
@@ -48,7 +48,7 @@ use Rattle.world_files.proofs.DeletedSteps.{Parts, parts_left, entered_left, dev
 use Rattle.world_files.proofs.DeletedWhole.{WorldTells, step_removes}
 use Rattle.world_parts.proofs.EasedTables.{eased_use}
 use Rattle.world_parts.proofs.GuestEdges.{asks_left}
-use Rattle.world_parts.proofs.JobsAnswered.{jobs_kept}
+use Rattle.world_parts.proofs.JobsAnswered.{drains_kept, jobs_kept}
 use Rattle.world_files.proofs.KeptDrives.{drives_kept, disks_kept, within_kept, writable_kept}
 use Rattle.world_parts.proofs.Placed.{placed, answer-is, CarriedUntold, carried_by, rests_by, allowed_same, table_with_use, state_used, shape_used, shape_by, table_used, changed_used, performed_used}
 use Rattle.world_files.proofs.Together.{BelongsTogether, goes_of, goes_shape, coherent_of}
@@ -381,8 +381,11 @@ module _ (w : WorldSeen) (whole : IsWholeWorld w) (joined : IsJoined w.nodes) (u
       subst (AreJobsKept final.table final.works) (sym (ap (λ (p : Progress). p.aside) (last_progress (made_with w.table node))))
       (subst (λ (works : List JobWork). AreJobsKept final.table works w.progress.aside) (sym (last_works (made_with w.table node)))
       (jobs_kept w whole joined c told_none final.table (λ accepted. record { one = tt; none = refl }) final_table)) in
+      let drains : AreDrainsKept final.table final.drains =
+      subst (AreDrainsKept final.table) (sym (last_drains (made_with w.table node)))
+      (drains_kept w whole joined c told_none final.table (λ accepted. record { one = tt; none = refl }) final_table) in
       let whole_then : IsWholeWorld final_with =
-      record { coherent = coherent_of final end.goes rest; tell = end.goes.tell; counted = end.goes.counted; bitmaps = listed; jobs = jobs } in (
+      record { coherent = coherent_of final end.goes rest; tell = end.goes.tell; counted = end.goes.counted; bitmaps = listed; jobs = jobs; drains = drains } in (
         subst (λ (v : WorldSeen). CarriedUntold w v c None) same final_carried,
         subst IsWholeWorld same whole_then,
         subst (λ (rows : List Bitmap). FollowChanges w.table w.bitmaps rows (answer w.table told_none c).changes) (sym same_rows) follow,

@@ -14,7 +14,7 @@ use Rattle.qmp_rules.specs.declared.rows.NodeRecord.{NodeRecord}
 use Rattle.flat_machine.specs.Wiring.{TableAtRest, TableStands}
 use Rattle.flat_machine.proofs.Finds.{same-bytes_eq, bytes_eq-same}
 use Rattle.flat_machine.specs.Bitmaps.{AreBitmapsOf}
-use Rattle.world_parts.specs.Coherent.{AreJobsKept, DevicesTell, IsCoherent, IsWholeWorld}
+use Rattle.world_parts.specs.Coherent.{AreDrainsKept, AreJobsKept, DevicesTell, IsCoherent, IsWholeWorld}
 use Rattle.world_parts.specs.Counting.{RunsOn}
 use Rattle.world_parts.specs.Face.{WorldSeen, node_over}
 use Rattle.world_parts.proofs.CarryPlain.{HasTableShape}
@@ -189,11 +189,12 @@ moved_coherent w v moves rest was =
     (disks_kept w.table v.table moves.table.keeps was.disks) was)
 
 pub moved_whole : (w v : WorldSeen) → Moves w v → TableAtRest v.table → AreBitmapsOf v.table.bitmaps v.bitmaps → AreJobsKept v.table v.works v.progress.aside
-    → IsWholeWorld w → IsWholeWorld v
-moved_whole w v moves rest bitmaps jobs whole = record {
+    → AreDrainsKept v.table v.drains → IsWholeWorld w → IsWholeWorld v
+moved_whole w v moves rest bitmaps jobs drains whole = record {
   coherent = moved_coherent w v moves rest whole.coherent;
   tell = moves.tell;
   counted = omega (arith, whole.counted, moves.first, moves.store);
   bitmaps = bitmaps;
   jobs = jobs;
+  drains = drains;
 }

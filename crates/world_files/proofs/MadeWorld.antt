@@ -48,7 +48,7 @@ use Rattle.world_files.proofs.MadeMoves.{IsEasedTo, Moves, eased_image, eased_sp
 use Rattle.world_files.proofs.MadePerformed.{performed_failed, performed_image, performed_made, performed_stopped}
 use Rattle.world_files.proofs.MadeTold.{stopped-none, told_by_failure, told_by_room}
 use Rattle.world_parts.proofs.BitmapsLeft.{left-listed}
-use Rattle.world_parts.proofs.JobsAnswered.{jobs_kept}
+use Rattle.world_parts.proofs.JobsAnswered.{drains_kept, jobs_kept}
 use Rattle.world_parts.proofs.Placed.{placed, answer-is}
 
 -- carried out, and told this
@@ -113,7 +113,8 @@ module _ (w : WorldSeen) (whole : IsWholeWorld w) (joined : IsJoined w.nodes) (c
       } in (
         (carried, refl),
         moved_whole w v moves rest (left-listed w.table told (command.BlockdevCreate c) w.bitmaps v.table refl carried.table whole.bitmaps)
-            (jobs_kept w whole joined (command.BlockdevCreate c) told v.table (λ accepted. record { one = tt; none = refl }) carried.table) whole,
+            (jobs_kept w whole joined (command.BlockdevCreate c) told v.table (λ accepted. record { one = tt; none = refl }) carried.table)
+            (drains_kept w whole joined (command.BlockdevCreate c) told v.table (λ accepted. record { one = tt; none = refl }) carried.table) whole,
       )
 
 -- ---- a call failed
@@ -166,7 +167,8 @@ module _ (w : WorldSeen) (whole : IsWholeWorld w) (joined : IsJoined w.nodes) (c
       } in (
         (carried, refl),
         moved_whole w failed_then moves rest (left-listed w.table told (command.BlockdevCreate c) w.bitmaps failed_then.table refl carried.table whole.bitmaps)
-            (jobs_kept w whole joined (command.BlockdevCreate c) told failed_then.table (λ accepted. record { one = tt; none = refl }) carried.table) whole,
+            (jobs_kept w whole joined (command.BlockdevCreate c) told failed_then.table (λ accepted. record { one = tt; none = refl }) carried.table)
+            (drains_kept w whole joined (command.BlockdevCreate c) told failed_then.table (λ accepted. record { one = tt; none = refl }) carried.table) whole,
       )
 
 -- ---- by what is created

@@ -1,5 +1,5 @@
 -- The source of a job reads as its flat disk, and once a mirror owes nothing its target reads so too.
-use Rattle.std.proofs.Common.{◌≡◌, ℕ, List, sym, ◌∙◌, ap}
+use Rattle.std.proofs.Common.{◌≡◌, List, sym, ◌∙◌, ap}
 use Rattle.std.specs.Prelude.{Contains}
 use Rattle.blk_history.specs.declared.event.Event.{Event}
 use Rattle.block_jobs.specs.Work.{JobWork}

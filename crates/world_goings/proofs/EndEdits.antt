@@ -1,6 +1,6 @@
 -- The changes of the end of a backup or mirror: the job and its filter go, a mirror that pivots moves what used its source, and its target
 -- gets a flat disk.
-use Rattle.std.proofs.Common.{◌≡◌, ℕ, Bool, true, false, List, [], ◌∷◌, ◌++◌, Option, Some, None, refl, sym, ◌∙◌, ap}
+use Rattle.std.proofs.Common.{◌≡◌, ℕ, Bool, true, false, List, [], ◌∷◌, ◌++◌, Option, Some, refl, ◌∙◌, ap}
 use Rattle.std.specs.Prelude.{◌&&◌, option_and_then}
 use Rattle.std.proofs.lemmas.Bool.{false≢true}
 use Rattle.std.proofs.lemmas.List.{append-nil}

@@ -1,5 +1,5 @@
 -- The entry of the end of a backup or mirror: that it fits the state before it, and what the flat machine comes to by it.
-use Rattle.std.proofs.Common.{◌≡◌, ℕ, true, false, cond, List, [], ◌∷◌, Option, Some, None, refl, sym, ◌∙◌, ap, subst}
+use Rattle.std.proofs.Common.{◌≡◌, ℕ, true, cond, List, [], ◌∷◌, Option, Some, None, refl, sym, ◌∙◌, ap, subst}
 use Rattle.std.specs.Prelude.{◌||◌, Contains}
 use Rattle.std.proofs.lemmas.Bool.{false≢true}
 use Rattle.blk_history.specs.Fold.{With}

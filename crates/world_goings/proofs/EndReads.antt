@@ -16,7 +16,7 @@ use Rattle.blk_nodes.specs.declared.row.Driver.{Driver}
 use Rattle.blk_nodes.specs.declared.row.Driver.TheVariants.{CopyOnRead, File, Filter, Qcow2, Raw}
 use Rattle.blk_nodes.specs.declared.row.Row.{Row}
 use Rattle.qmp_rules.specs.Chains.{filter_role}
-use Rattle.qmp_rules.specs.Table.{RunTable, child, node_by_id}
+use Rattle.qmp_rules.specs.Table.{RunTable, node_by_id}
 use Rattle.qmp_rules.specs.declared.rows.NodeRecord.{NodeRecord}
 use Rattle.job_entries.proofs.Files.{IsNoFile}
 use Rattle.world_parts.specs.Coherent.{AreAlike, AreNodesOf, IsRowOf}

@@ -15,10 +15,9 @@ use Rattle.block_jobs.specs.Work.{JobWork}
 use Rattle.qmp_codec.specs.declared.event.JobKind.TheVariants.{Mirror}
 use Rattle.qmp_rules.specs.Changes.{all_changed, changed}
 use Rattle.qmp_rules.specs.Chains.{disk_node, filter_role}
-use Rattle.qmp_rules.specs.Ends.{drops_aside, end_edits, settle_if, settles_target}
+use Rattle.qmp_rules.specs.Ends.{drops_aside, end_edits, settle_if}
 use Rattle.qmp_rules.specs.Queries.{bytes_of_node}
-use Rattle.qmp_rules.specs.Table.{RunTable, child, node_by_id}
-use Rattle.qmp_rules.specs.declared.change.Change.{Change}
+use Rattle.qmp_rules.specs.Table.{RunTable, node_by_id}
 use Rattle.qmp_rules.specs.declared.change.Change.TheVariants.{EndJob, Move, PullFilter}
 use Rattle.qmp_rules.specs.declared.change.JobOutcome.{JobOutcome}
 use Rattle.qmp_rules.specs.declared.change.NewDisk.{NewDisk}
@@ -38,10 +37,9 @@ use Rattle.job_tables.specs.Jobs.{CopyStands, EdgesAreDrawn, StandsByKind}
 use Rattle.job_tables.proofs.EndKeeps.{Keeps, keeps_then, move_plain, over_child, over_keeps, over_was, pull_keeps, pulled_leads_on}
 use Rattle.job_tables.proofs.Shapes.{mirror_target}
 use Rattle.world_parts.specs.Coherent.{AreJobsKept}
-use Rattle.world_parts.proofs.InStep.{with-at}
 use Rattle.world_goings.proofs.EndDisks.{DisksAreLed, disks_moved, disks_pulled, disks_settled, filter_reads as reads_source}
 use Rattle.world_goings.proofs.EndEdits.{edits_are, left_as, over_to, pivot_done, pivot_mirror, pivots, settles_at_end}
-use Rattle.world_goings.proofs.EndGuests.{IsOpen, LeadsOnto}
+use Rattle.world_goings.proofs.EndGuests.{LeadsOnto}
 use Rattle.world_goings.proofs.EndTables.{IsEndedTable, IsOverNode, IsSettledTable, moved_table, plain_apart, pulled_table, settled_disk, settled_table, settled_then}
 use Rattle.world_goings.proofs.JobNodes.{HasCopy, copy_stands, goes, source_disk, source_plain, target_plain}
 

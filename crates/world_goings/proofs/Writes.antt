@@ -30,7 +30,7 @@ use Rattle.world_parts.specs.Keeping.{AreRises, ShowsJobs, all_faults}
 use Rattle.world_parts.proofs.ImageTold.{mapping_kept}
 use Rattle.world_parts.proofs.NodesAfter.{AreNodesAfter, of_rows}
 use Rattle.world_goings.specs.Copied.{LeavesFiles}
-use Rattle.world_goings.proofs.Ahead.{ahead_then, job_copies, job_there}
+use Rattle.world_goings.proofs.Ahead.{ahead_then, job_there}
 use Rattle.world_goings.proofs.Going.{GoesOn, LeavesShown, goes_on}
 use Rattle.world_goings.proofs.JobNodes.{apart_from, file_elsewhere, others_apart}
 use Rattle.world_goings.proofs.Stepped.{faults_then, works_then}
@@ -87,7 +87,7 @@ module _ (o : Opening) (w v : WorldSeen) (deed : Deed) (passes : ℕ → Type 0)
         let stand : JobsStand s.table = subst JobsStand (sym same) whole.jobs.stand in
         let run : JobsRun s.table = subst JobsRun (sym same) whole.jobs.run in
         let at : Contains s.table.jobs row = subst (λ (u : RunTable). Contains u.jobs row) (sym same) here in
-        let blocks = (job_copies t w.works w.progress.aside row whole.jobs here).1 in
+        let blocks = (whole.jobs.lone row here).kind in
         let plain = target_plain_of s.table row stand at blocks target target_is in
         let started = shows.table.rest.started in
         let did : WritesAside s.table target (contents_of w) (contents_of left) =

@@ -1,5 +1,5 @@
 -- What the turn of a backup or a mirror is to do: no block is copied in it, for where none is to be read and none is in flight nothing is left.
-use Rattle.std.proofs.Common.{◌≡◌, ℕ, ◌/◌, Bool, true, false, cond, not, List, [], ◌∷◌, length, refl, sym, ◌∙◌, ap, subst, arith, Option, Some, None}
+use Rattle.std.proofs.Common.{◌≡◌, ℕ, ◌/◌, Bool, true, false, cond, not, List, [], ◌∷◌, length, refl, sym, ◌∙◌, ap, arith, Option, Some, None}
 use Rattle.std.specs.Prelude.{◌==◌, ◌||◌, find, is_some}
 use Rattle.std.specs.List.{list_any, range_with_len}
 use Rattle.std.proofs.lemmas.Bool.{false≢true, ne_eqb}
@@ -8,7 +8,7 @@ use Rattle.blk_copy.specs.declared.transfers.Transfer.{Transfer}
 use Rattle.blk_history.specs.declared.entry.Cause.TheVariants.{RunEnd}
 use Rattle.blk_history.specs.declared.entry.JobEnd.{JobEnd}
 use Rattle.blk_history.specs.declared.entry.JobEnd.TheVariants.{Cancelled, Completed}
-use Rattle.block_jobs.specs.Work.{IsJobWork, JobWork, block_count, has_left, has_open, is_next, next_block, parts_a_block}
+use Rattle.block_jobs.specs.Work.{IsJobWork, JobWork, block_count, has_open, is_next, next_block, parts_a_block}
 use Rattle.block_jobs.proofs.PartLemmas.{any_at, block_within, has_no, left_in, member_below}
 use Rattle.flat_machine.specs.Jobs.{can_be_ready}
 use Rattle.job_progress.specs.Going.{copies_blocks}

@@ -1,17 +1,14 @@
 -- The job of a slot ends as its turn says: that it may end so, that where it ends without error nothing is left, and that no request is in flight
 -- on a disk that its end marks.
-use Rattle.std.proofs.Common.{◌≡◌, ℕ, List, ◌==◌, ◌&&◌, true, false, [], ◌∷◌, Some, None, refl, sym, ◌∙◌, ap, subst, option_and_then}
+use Rattle.std.proofs.Common.{◌≡◌, ℕ, ◌==◌, true, false, [], ◌∷◌, Some, refl, sym, ◌∙◌, ap, subst, option_and_then}
 use Rattle.std.proofs.lemmas.Bool.{false≢true}
 use Rattle.std.proofs.lemmas.List.Elements.{All-nil}
-use Rattle.blk_bitmaps.specs.declared.row.Bitmap.{Bitmap}
 use Rattle.blk_graph.proofs.Members.{find-Some}
 use Rattle.blk_history.specs.Fold.{With}
 use Rattle.blk_history.specs.declared.entry.Cause.TheVariants.{Command, Group, RunEnd}
 use Rattle.blk_history.specs.declared.entry.JobEnd.{JobEnd}
 use Rattle.blk_history.specs.declared.entry.JobEnd.TheVariants.{Cancelled, Completed, Copied, Failed, Pivoted}
-use Rattle.blk_history.specs.declared.event.Event.TheVariants.{End}
 use Rattle.blk_nodes.specs.Joined.{IsJoined}
-use Rattle.blk_nodes.specs.Nodes.{Nodes}
 use Rattle.block_jobs.specs.Work.{JobWork}
 use Rattle.qmp_codec.specs.declared.event.JobKind.{JobKind}
 use Rattle.qmp_codec.specs.declared.event.JobKind.TheVariants.{Backup, Commit, Mirror, Stream}
@@ -21,23 +18,22 @@ use Rattle.qmp_rules.specs.declared.rows.JobRecord.{JobRecord}
 use Rattle.flat_machine.specs.EventLicence.{EndsAsMet}
 use Rattle.flat_machine.specs.Jobs.{can_be_ready, is_success}
 use Rattle.flat_machine.specs.Legal.{MayEnd}
-use Rattle.flat_machine.specs.Marks.{AreCalm, Drained, IsCalm, after_end, end_marks, must_drain}
+use Rattle.flat_machine.specs.Marks.{AreCalm, IsCalm, end_marks, must_drain}
 use Rattle.flat_machine.proofs.Wired.{with_at}
 use Rattle.job_ends.proofs.Others.{at_number}
 use Rattle.job_progress.specs.Going.{copies_blocks}
 use Rattle.job_turns.specs.declared.step.Step.TheVariants as step
-use Rattle.job_works.specs.Works.{without_work, work_of}
-use Rattle.world_parts.specs.Coherent.{IsWholeWorld, entries_owed}
+use Rattle.job_works.specs.Works.{work_of}
+use Rattle.world_parts.specs.Coherent.{IsWholeWorld}
 use Rattle.world_parts.specs.Counting.{seen_sources}
 use Rattle.world_parts.specs.Face.{WorldSeen, seen_state}
-use Rattle.world_parts.specs.Jobs.{HasCopiedAll, PullsFilter, bitmaps_ended}
-use Rattle.world_parts.specs.Progress.{Progress, with_job_entry}
-use Rattle.world_jobs.specs.Ending.{CanBeEnded, HasPulled, IsBehindEnd, ended_table, offset_by}
+use Rattle.world_parts.specs.Jobs.{HasCopiedAll, PullsFilter}
+use Rattle.world_jobs.specs.Ending.{CanBeEnded, IsBehindEnd, offset_by}
 use Rattle.world_jobs.specs.Turning.{EndsAs, EndsInTurn, FindsCalm, HasTurn, IsTurnOf}
 use Rattle.world_jobs.specs.declared.turned.Turn.{Turn}
 use Rattle.world_jobs.specs.declared.turned.Turn.TheVariants as turn
 use Rattle.world_jobs.proofs.EndReady.{can_end, has_pulled}
-use Rattle.world_jobs.proofs.TurnSteps.{EndSays, FinishSays, IsReady, Says, here, own, slot_job, step_is, step_says}
+use Rattle.world_jobs.proofs.TurnSteps.{EndSays, FinishSays, Says, here, own, slot_job, step_is, step_says}
 
 -- ---- what the ends of a job mark
 
@@ -100,7 +96,7 @@ module _ (w : WorldSeen) (slot : ℕ) (is : Turn) (whole : IsWholeWorld w) (has 
     calm = marks_calm row.kind copies (Cancelled Command) (λ never. absurd never);
   }
   by_end (Cancelled RunEnd) says = record {
-    cause = (has.done.0 says.0, (says.1.ready, says.1.asked));
+    cause = (has.done.0 says.0, says.1.ready, says.1.asked);
     met = met_is ∙ says.1.made.unmet;
     made = λ done. absurd (false≢true done);
     calm = marks_calm row.kind copies (Cancelled RunEnd) (λ never. absurd never);
@@ -112,19 +108,19 @@ module _ (w : WorldSeen) (slot : ℕ) (is : Turn) (whole : IsWholeWorld w) (has 
 
   by_finish : (why : JobEnd) → FinishSays row work why → (must_drain row ≡ true → AreCalm w.table w.progress.guests (row.source ∷ [])) → EndsWell w row work why
   by_finish Completed says calm = record {
-    cause = (says.1.0, says.1.1);
+    cause = (says.1, says.2);
     met = met_is ∙ says.0.unmet;
     made = λ done. says.0.all;
     calm = marks_calm row.kind copies Completed (λ never. absurd never);
   }
   by_finish Pivoted says calm = record {
-    cause = (says.can, (says.ready, says.asked));
+    cause = (says.can, says.ready, says.asked);
     met = met_is ∙ says.made.unmet;
     made = λ done. says.made.all;
     calm = marks_calm row.kind copies Pivoted (λ so. calm (rw (says.can, says.asked) refl));
   }
   by_finish Copied says calm = record {
-    cause = (ready_mirror row row.kind copies says.can, (says.ready, says.asked));
+    cause = (ready_mirror row row.kind copies says.can, says.ready, says.asked);
     met = met_is ∙ says.made.unmet;
     made = λ done. says.made.all;
     calm = marks_calm row.kind copies Copied (λ so. calm (rw (says.can, says.asked) refl));
@@ -133,13 +129,13 @@ module _ (w : WorldSeen) (slot : ℕ) (is : Turn) (whole : IsWholeWorld w) (has 
   by_finish (Cancelled cause) says calm = absurd says
 
   ends_well : (turn' : Turn) (why : JobEnd) → IsTurnOf has.all_done row work turn' → EndsAs turn' why → FindsCalm w turn' row → EndsWell w row work why
-  ends_well (turn.End other) why step so calm =
-      by_end why (subst (Says has.all_done row work) (step ∙ ap (λ (e : JobEnd). step.End e) (sym so)) (step_says has.all_done row work))
-  ends_well (turn.Finish other) why step so calm =
-      by_finish why (subst (Says has.all_done row work) (step ∙ ap (λ (e : JobEnd). step.Finish e) (sym so)) (step_says has.all_done row work)) calm
-  ends_well turn.GetReady why step so calm = absurd so
-  ends_well turn.Copy why step so calm = absurd so
-  ends_well turn.Wait why step so calm = absurd so
+  ends_well (turn.End other) why is_step so calm =
+      by_end why (subst (Says has.all_done row work) (is_step ∙ ap (λ (e : JobEnd). step.End e) (sym so)) (step_says has.all_done row work))
+  ends_well (turn.Finish other) why is_step so calm =
+      by_finish why (subst (Says has.all_done row work) (is_step ∙ ap (λ (e : JobEnd). step.Finish e) (sym so)) (step_says has.all_done row work)) calm
+  ends_well turn.GetReady why is_step so calm = absurd so
+  ends_well turn.Copy why is_step so calm = absurd so
+  ends_well turn.Wait why is_step so calm = absurd so
 
 -- ---- in its slot
 
@@ -169,30 +165,9 @@ ends_in_turn w v slot is why whole joined has so calm did =
       };
     }
 
--- ---- by the parts of the world
-
 -- the job in a slot may end
 pub slot_may_end : (w : WorldSeen) (slot : ℕ) (row : JobRecord) (why : JobEnd) → IsWholeWorld w → IsJoined w.nodes → job_in w.table slot ≡ Some row
     → With (job_at w.table row.number) (CanBeEnded w.table w.nodes w.works w.progress why)
 slot_may_end w slot row why whole joined there =
     let at = at_number w.table whole.jobs.stand row (find-Some (λ (r : JobRecord). r.slot == slot) w.table.jobs row there).0 in
     with_at (CanBeEnded w.table w.nodes w.works w.progress why) (job_at w.table row.number) row at (can_end w row why whole joined at)
-
--- the world with the parts that an end leaves
-pub behind_end : (w : WorldSeen) (row : JobRecord) (why : JobEnd) (u : RunTable) (now : Nodes) (bitmaps : List Bitmap) (works : List JobWork) (drains : Drained)
-    (p : Progress)
-    → u ≡ ended_table w.table row why → HasPulled u row w.nodes now → IsJoined now → bitmaps ≡ bitmaps_ended row why w.bitmaps → works ≡ without_work row.number w.works
-    → drains ≡ after_end row.number w.drains → p ≡ with_job_entry (entries_owed row) (End row.number why (offset_by w.table row why)) w.progress
-    → IsBehindEnd w (record w { nodes = now; table = u; bitmaps = bitmaps; works = works; drains = drains; progress = p }) row why
-behind_end w row why u now bitmaps works drains p table pulls joined noted gone free added = record {
-  pulls = subst (λ (x : RunTable). HasPulled x row w.nodes now) table pulls;
-  joined = joined;
-  kept =
-      ap (λ (x : RunTable). with_parts x bitmaps works drains p) table ∙ ap (λ (x : List Bitmap). with_parts (ended_table w.table row why) x works drains p) noted
-      ∙ ap (λ (x : List JobWork). with_parts (ended_table w.table row why) (bitmaps_ended row why w.bitmaps) x drains p) gone
-      ∙ ap (λ (x : Drained). with_parts (ended_table w.table row why) (bitmaps_ended row why w.bitmaps) (without_work row.number w.works) x p) free
-      ∙ ap (with_parts (ended_table w.table row why) (bitmaps_ended row why w.bitmaps) (without_work row.number w.works) (after_end row.number w.drains)) added;
-}
-  where
-    with_parts : RunTable → List Bitmap → List JobWork → Drained → Progress → WorldSeen
-    with_parts x rows ks ds q = record w { nodes = now; table = x; bitmaps = rows; works = ks; drains = ds; progress = q }

@@ -1,5 +1,5 @@
 -- There is room for the drain of each job, since no two jobs have one slot; and a whole world is whole with it.
-use Rattle.std.proofs.Common.{◌≡◌, ◌≢◌, ◌⊎◌, ℕ, ◌+◌, ◌<◌, ◌≤◌, ◌==◌, ◌&&◌, ◌||◌, Bool, true, false, cond, List, [], ◌∷◌, ◌++◌, map, length, Some, None, Option, refl, sym, ◌∙◌, ap, subst, arith, inl, inr, length-append}
+use Rattle.std.proofs.Common.{◌≡◌, ◌≢◌, ◌⊎◌, ℕ, ◌+◌, ◌<◌, ◌≤◌, ◌==◌, ◌&&◌, ◌||◌, Bool, true, false, cond, List, [], ◌∷◌, ◌++◌, map, length, Some, Option, refl, sym, ◌∙◌, ap, subst, arith, inl, inr, length-append}
 use Rattle.std.specs.Prelude.{All, AllPairs, Contains, option_map, unwrap_or}
 use Rattle.std.specs.List.{AllByRecursion, IsDistinct, list_any}
 use Rattle.std.proofs.lemmas.Bool.{eqb-true, false≢true, ne_eqb}
@@ -68,16 +68,17 @@ module _ (t : RunTable) (stand : JobsStand t) where
 
   all_below : (jobs : List ℕ) → All (IsJob t) jobs → (q : ℕ) → list_any (λ y. q == y) (map slot_of jobs) ≡ true → q < 16
   all_below [] each q any = absurd (false≢true any)
-  all_below (a ∷ jobs) each q any = by_test (q == slot_of a) refl any
+  all_below (a ∷ jobs) each q any = by_test (q == slot_of a) refl (all_below jobs (All-tail (IsJob t) a jobs each) q) any
     where
-      by_test : (b : Bool) → (q == slot_of a) ≡ b → (b || list_any (λ y. q == y) (map slot_of jobs)) ≡ true → q < 16
-      by_test true is any =
+      by_test : (b : Bool) → (q == slot_of a) ≡ b → (list_any (λ y. q == y) (map slot_of jobs) ≡ true → q < 16)
+          → (b || list_any (λ y. q == y) (map slot_of jobs)) ≡ true → q < 16
+      by_test true is rest any =
           let of = All-head (IsJob t) a jobs each in
           let less = (stand.each of.row (here a of).0).slot in
           let same = eqb-true q (slot_of a) is in
           let slot = slot_is a of in
           omega (arith, less, same, slot)
-      by_test false is any = all_below jobs (All-tail (IsJob t) a jobs each) q any
+      by_test false is rest any = rest any
 
   few_jobs : (jobs : List ℕ) → All (IsJob t) jobs → AllPairs (λ (a b : ℕ). a ≢ b) jobs → length jobs ≤ 16
   few_jobs jobs each once =

@@ -35,7 +35,7 @@ module _ (w : WorldSeen) (slot : ℕ) (whole : IsWholeWorld w) (has : HasTurn w 
   pub ready_room : 1 ≤ w.progress.aside
   ready_room =
       let owed = owed_of w.table.jobs row (here w slot GetReady has) in
-      let two : entries_owed row ≡ 2 = ap (λ (b : Bool). cond b 1 2) says.1.1 in
+      let two : entries_owed row ≡ 2 = ap (λ (b : Bool). cond b 1 2) says.2 in
       let room = whole.jobs.room in
       omega (arith, owed, two, room)
 
@@ -50,12 +50,12 @@ readies_in_turn w v slot whole joined has did =
       has = has;
       readies = record {
         there = slot_job w slot GetReady whole has;
-        can = said.1.0;
-        yet = said.1.1;
+        can = said.1;
+        yet = said.2;
         made = with_at HasCopiedAll (work_of w.works row.number) mine.work mine.there said.0.all;
         alike = λ o comes some.
             subst (λ (x : WorldSeen). ReadsAsSource x row) (sym did)
-            (ready_agrees o w row mine.work comes whole joined some at (ready_mirror row row.kind (whole.jobs.lone row at).kind said.1.0) mine.there said.0.unmet said.0.all);
+            (ready_agrees o w row mine.work comes whole joined some at (ready_mirror row row.kind (whole.jobs.lone row at).kind said.1) mine.there said.0.unmet said.0.all);
         kept = did;
       };
     }

@@ -1,6 +1,6 @@
 -- What the step of a turn says of a job that copies blocks: why it may end so, or that it can be ready and isn't yet, and that nothing is left
 -- then.
-use Rattle.std.proofs.Common.{◌≡◌, ◌≢◌, ℕ, ◌==◌, Bool, true, false, cond, not, Option, Some, None, refl, sym, ◌∙◌, ap}
+use Rattle.std.proofs.Common.{◌≡◌, ◌≢◌, ℕ, ◌==◌, Bool, true, false, cond, not, Option, Some, None, refl, sym, ◌∙◌}
 use Rattle.std.specs.Prelude.{Contains}
 use Rattle.std.specs.List.{list_any}
 use Rattle.blk_base.specs.declared.fault.Fault.{Fault}
@@ -79,12 +79,12 @@ module _ (all_done : Bool) (row : JobRecord) (work : JobWork) where
         where
           by_ready : can_be_ready row row.kind ≡ true → (b : Bool) → row.is_ready ≡ b → SaysSo (cond b (ready_end all_done row.asked) step.GetReady)
           by_ready can true is = ready_says made can is row.asked refl
-          by_ready can false is = (made, (can, is))
+          by_ready can false is = (made, can, is)
 
           by_can : (b : Bool) → can_be_ready row row.kind ≡ b
               → SaysSo (cond (not b) (step.Finish Completed) (cond row.is_ready (ready_end all_done row.asked) step.GetReady))
           by_can true can = by_ready can row.is_ready refl
-          by_can false can = (made, (can, goes))
+          by_can false can = (made, can, goes)
 
       going_says : SaysSo (going_step all_done row work)
       going_says = by_open (has_rows work) refl

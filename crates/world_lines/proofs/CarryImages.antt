@@ -29,6 +29,7 @@ use Rattle.qmp_asks.specs.declared.look.Look.TheVariants as look
 use Rattle.qmp_rules.specs.declared.told.Told.{Told}
 use Rattle.qmp_rules.specs.Table.{RunTable, device_named, job_named, node_named}
 use Rattle.qmp_rules.specs.declared.rows.AskedEnd.{AskedEnd}
+use Rattle.qmp_rules.specs.declared.rows.AskedEnd.TheVariants as asked_ends
 use Rattle.qmp_rules.specs.declared.rows.JobRecord.{JobRecord}
 use Rattle.flat_machine.specs.Replies.{begins_job}
 use Rattle.qmp_asks.specs.Values.{flag_or_false}
@@ -279,6 +280,7 @@ module _ (t : RunTable) (told : Told) where
   edits-leave (command.BitmapDisable c) built begins still = refl
   edits-leave (command.BitmapMerge c) built begins still = merges-leave c.node c.target c.bitmaps
   edits-leave (command.BlockJobCancel id force) built begins still = asked-leaves (asked_by_cancel (flag_or_false force)) (job_named t id)
+  edits-leave (command.BlockJobComplete id) built begins still = asked-leaves (λ job. asked_ends.Complete) (job_named t id)
   edits-leave command.QueryBlockJobs built begins still = refl
   edits-leave (command.QueryNamedBlockNodes flat) built begins still = refl
   edits-leave _ built begins still = absurd cc

@@ -23,6 +23,7 @@ use Rattle.qmp_rules.specs.declared.rows.DeviceRow.{DeviceRow}
 use Rattle.qmp_rules.specs.declared.told.Told.{Told}
 use Rattle.qmp_rules.specs.Table.{RunTable, device_named, job_named, node_named}
 use Rattle.qmp_rules.specs.declared.rows.AskedEnd.{AskedEnd}
+use Rattle.qmp_rules.specs.declared.rows.AskedEnd.TheVariants as asked_ends
 use Rattle.qmp_rules.specs.declared.rows.JobRecord.{JobRecord}
 use Rattle.qmp_asks.specs.Values.{flag_or_false}
 use Rattle.qmp_rules.specs.Changes.{changed, all_changed}
@@ -138,6 +139,7 @@ module _ (t : RunTable) (told : Told) where
   edits_plain (command.DeviceDel id) built starts = removed-plain (device_named t id)
   edits_plain (command.BlockdevSnapshot c) built starts = refl
   edits_plain (command.BlockJobCancel id force) built starts = asked-plain (asked_by_cancel (flag_or_false force)) (job_named t id)
+  edits_plain (command.BlockJobComplete id) built starts = asked-plain (λ job. asked_ends.Complete) (job_named t id)
   edits_plain command.QueryBlockJobs built starts = refl
   edits_plain (command.QueryNamedBlockNodes flat) built starts = refl
   edits_plain (command.BitmapAdd c) built starts = refl

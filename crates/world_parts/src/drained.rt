@@ -45,7 +45,6 @@ fn is_source(names: &Names, node: NodeId, job: u32) -> bool
 }
 
 /// Whether the source of one of these jobs is that node.
-#[tactic(auto, using(crate::proofs::DrainedDisks::source_by_source))]
 fn is_source_of_one(names: &Names, node: NodeId, jobs: &[u32]) -> bool
     ensures { result ≡ list_any (is_on names.now.table node) (job_disks names.now.table jobs.now) }
 {

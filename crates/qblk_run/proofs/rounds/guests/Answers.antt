@@ -1,6 +1,7 @@
-use Rattle.std.proofs.Common.{◌≡◌, ◌+◌, ◌∙◌, Bool, refl, sym, subst}
+use Rattle.std.proofs.Common.{◌≡◌, ℕ, ◌+◌, ◌∙◌, Bool, length, refl, sym, ap, subst, arith}
 use Rattle.std.specs.Prelude.{◌||◌}
 use Rattle.qblk_run.specs.Rounds.{AreGuestTurns}
+use Rattle.qblk_run.specs.Tasks.{Tasks}
 use Rattle.qblk_run.proofs.Continuing.{continues-same, continues-then, guests-on, no-guests, stays_same, stays_then}
 use Rattle.qblk_run.proofs.rounds.guests.Goals.{then-turned, else-turned}
 use Rattle.qblk_run.proofs.rounds.guests.Goals as goal
@@ -36,3 +37,12 @@ loop-guest-preserved g c =
       stays = stays_then w v u c.loop-guest.invariant.stays c.next_guest-turned.ensures.stays;
       comes = λ orders o d first was. c.next_guest-turned.ensures.comes orders o d first (c.loop-guest.invariant.comes orders o d first was);
     }
+
+pub returns-clause-turns : goal.returns-clause-turns
+returns-clause-turns g c =
+    let count : length c.loop-guest.actors.guests ≡ length c.args.actors.now.guests = c.loop-guest.invariant.so.count in
+    let items = ap (λ (a : Tasks). length a.guests) c.actors.view_is in
+    let all : c.loop-guest.guest ≡ length c.loop-guest.actors.guests =
+    omega (arith, count, items, c.loop-guest-test.false, c.loop-guest.auto.guest-end, c.len-guest-end.ensures, c.len-guest-end.auto) in
+    subst (λ (n : ℕ). AreGuestTurns (g.W.Events.face c.args.world.now) (g.W.Events.face c.loop-guest.world) c.args.actors.now c.loop-guest.actors n c.loop-guest.moved) all
+    c.loop-guest.invariant.turns

@@ -1,3 +1,4 @@
+use Rattle.std.proofs.Common.{inr}
 use Rattle.job_turns.specs.declared.step.Step.TheVariants as step
 use Rattle.qblk_run.proofs.Blocks.{idle-rests, none-rests, put-off-rests, stays-copies, stays-stands, step-stays}
 use Rattle.qblk_run.proofs.Continuing.{stays_then}
@@ -33,3 +34,6 @@ returns-in-Copy-clause-comes g c = λ orders o d first has.
     c.copy_block.ensures.comes orders o d first
     (stays-comes (g.W.Events.face c.args.world.now) (g.W.Events.face c.job_turn.new.self) c.args.slot c.job_turn.ensures.comes c.requires.stands step.Copy
     c.in-Copy.ensures.turned orders o d first has)
+
+pub returns-in-Empty : goal.returns-in-Empty
+returns-in-Empty g c = ?

@@ -11,4 +11,4 @@ returns-clause-named g c = λ row there.
 pub returns-clause-stays : goal.returns-clause-stays
 returns-clause-stays g c =
     executed_stay c.args.self.now c.execute-executed.new.self (given_line c.args.line c.args.text.now) c.execute-executed.result c.execute-executed.ensures.done
-    c.execute-executed.ensures.back c.execute-executed.ensures.comes
+    c.execute-executed.ensures.back c.execute-executed.ensures.comes (λ was. c.law-2.ensures.whole.drains)

@@ -2,10 +2,6 @@ use Rattle.std.proofs.Common.{◌≡◌, ℕ, List, rules, not, ap, subst}
 use Rattle.std.specs.Prelude.{◌==◌}
 use Rattle.std.proofs.lemmas.Fn.{filter_same}
 use Rattle.flat_machine.specs.Marks.{Drained, after_end}
-use Rattle.world_parts.proofs.JobsAnswered.{drains_kept}
-use Rattle.world_parts.proofs.DrainsKept.{drains_ended}
-use Rattle.world_parts.proofs.Coherence.{whole-new}
-use Rattle.world_parts.proofs.BitmapsLeft.{left-listed}
 use Rattle.world_parts.proofs.drained.Drained.end_job.Goals as goal
 
 pub returns : goal.returns
