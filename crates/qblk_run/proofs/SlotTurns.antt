@@ -1,6 +1,6 @@
 -- What a slot's turn makes of a run, and what several do.
-use Rattle.std.proofs.Common.{◌≡◌, ◌≢◌, ◌⊎◌, ℕ, zero, suc, ◌+◌, ◌-◌, ◌<◌, ◌≤◌, Bool, true, false, cond, List, [], ◌∷◌, ◌++◌, length, refl, sym, ◌∙◌, ap, subst, arith, Some, None, inl, inr}
-use Rattle.std.specs.Prelude.{◌==◌, ◌||◌, Contains, IsSome, find, if◌then◌else◌, slice_get, slice_index_or}
+use Rattle.std.proofs.Common.{◌≡◌, ◌≢◌, ◌⊎◌, ℕ, zero, suc, ◌+◌, ◌-◌, ◌<◌, ◌≤◌, Bool, true, false, List, [], ◌∷◌, ◌++◌, length, refl, sym, ◌∙◌, ap, subst, arith, Some, None, inl, inr}
+use Rattle.std.specs.Prelude.{◌==◌, ◌||◌, Contains, IsSome, if◌then◌else◌, slice_get, slice_index_or}
 use Rattle.trace_codec.specs.declared.wish.Wish.{Wish}
 use Rattle.trace_codec.specs.Script.{Order}
 use Rattle.blk_graph.proofs.Members.{find-Some}
