@@ -19,6 +19,9 @@ module _ (w v : WorldSeen) (slot : ℕ) where
   became-turn (inl ends) = inl ends
   became-turn (inr ready) = inr (inl ready)
 
+  pub none-comes : v ≡ w → ComesOnBeside w v
+  none-comes same orders o c first has = subst (λ (u : WorldSeen). HasCome o c first u orders) (sym same) has
+
   module _ (comes : (o : Opening) → Comes o w → Comes o v) where
     pub became-comes : SlotEnds w v slot ⊎ SlotReadies w v slot → ComesOnBeside w v
     became-comes (inl ends) orders o c first has = come-ended o c first w v orders has (comes o) ends.row ends.why ends.offset ends.ends ends.fits
@@ -39,7 +42,7 @@ module _ (w v : WorldSeen) (slot : ℕ) where
           by_asked true e =
               come-drained o c first w v orders has (comes o)
               (record { row = stays.has.row; there = by-number stays.has.row stays.has.there; asked = e; kept = left true e })
-          by_asked false e = subst (λ (u : WorldSeen). HasCome o c first u orders) (sym (left false e)) has
+          by_asked false e = none-comes (left false e) orders o c first has
 
       pub put-off-comes : (g r : ℕ) → SlotPutsOff w v slot g r → ComesOnBeside w v
       put-off-comes g r off orders o c first has =

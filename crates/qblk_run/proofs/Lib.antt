@@ -33,6 +33,7 @@ pub mod SlotTurns
 pub mod Blocks
 pub mod JobCalls
 pub mod Bounds
+pub mod Readiness
 pub mod Turning
 pub mod Named
 pub mod Taken

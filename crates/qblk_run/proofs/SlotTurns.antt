@@ -12,8 +12,6 @@ use Rattle.blk_history.specs.declared.event.Event.{Event}
 use Rattle.blk_history.specs.declared.event.Event.TheVariants.{End, Ready}
 use Rattle.blk_history.proofs.Folds.{each-push}
 use Rattle.qmp_rules.specs.Chains.{is_listed}
-use Rattle.qmp_rules.specs.Changes.{all_changed, changed}
-use Rattle.qmp_rules.specs.Ends.{ready_edits}
 use Rattle.qmp_rules.specs.Table.{RunTable, job_at, job_in}
 use Rattle.qmp_rules.specs.declared.rows.JobRecord.{JobRecord}
 use Rattle.flat_machine.specs.Blocked.{SlotWaits}
@@ -31,7 +29,7 @@ use Rattle.qblk_run.specs.Tasks.{CanGoOn, CanHaveLine, CanPrintSoFar, KeepsTo, T
 use Rattle.qblk_run.specs.Turns.{StaysIn}
 use Rattle.qblk_run.proofs.Continuing.{drains_stay, less-then, same-more, stands-on, then-less}
 use Rattle.qblk_run.proofs.Counts.{flights-without}
-use Rattle.qblk_run.proofs.EndsLeave.{end-leaves}
+use Rattle.qblk_run.proofs.EndsLeave.{end-leaves, ready-leaves}
 use Rattle.qblk_run.proofs.History.{course-push}
 use Rattle.qblk_run.proofs.Ids.{name-json}
 use Rattle.qblk_run.proofs.Lists.{same_or_not}
@@ -136,16 +134,12 @@ module _ (w v : WorldSeen) (row : JobRecord) (entry : Event) (n : ℕ) (stands :
 more-owed : (row : JobRecord) → row.is_ready ≡ false → 1 ≤ entries_owed row
 more-owed row yet = rw yet (omega arith)
 
-ready-started : (t : RunTable) (row : JobRecord) → (all_changed t (ready_edits row)).started ≡ t.started
-unfolding changed
-ready-started t row = refl
-
 module _ (w v : WorldSeen) (row : JobRecord) (stands : StandsInRun w) (readies : ReadiesJob w v row) where
   ready-progress : v.progress ≡ with_job_entry 1 (Ready row.number) w.progress
   ready-progress = ap (λ (u : WorldSeen). u.progress) readies.kept
 
   ready-same : v.table.started ≡ w.table.started
-  ready-same = ap (λ (u : WorldSeen). u.table.started) readies.kept ∙ ready-started w.table row
+  ready-same = ap (λ (u : WorldSeen). u.table.started) readies.kept ∙ (ready-leaves w.table row).started
 
   ready-aside : v.progress.aside < w.progress.aside
   ready-aside = entry-aside w v row (Ready row.number) 1 stands (job-there w.table row.number row readies.there) (ready-entry row.number)

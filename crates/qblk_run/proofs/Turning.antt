@@ -39,6 +39,7 @@ use Rattle.world_parts.specs.Progress.{flight_at}
 use Rattle.blk_world.specs.Pieces.{GuardsBy, GuardsNext, GuardsPart, IsPieceBehind}
 use Rattle.qblk_run.specs.Slots.{HasSettled, HasTaken, IsTurned, SlotStays, front_of, given_of}
 use Rattle.qblk_run.specs.Worlds.{IsGuardedFor, MakesPiece, NeedsNoGuard}
+use Rattle.qblk_run.proofs.Readiness.{ready_met}
 use Rattle.qblk_run.proofs.Lists.{with-some}
 
 -- ---- the turn of the job in a slot
@@ -91,7 +92,7 @@ is_turned w v slot turned.Became (inl did) small = inl (record {
   ends = did.ends;
   fits = end_small w slot did.has.row did.why did.has.there small did.ends.met;
 })
-is_turned w v slot turned.Became (inr did) small = inr (record { row = did.has.row; there = did.has.there; readies = did.readies })
+is_turned w v slot turned.Became (inr did) small = inr (record { row = did.has.row; there = did.has.there; met = ready_met w slot did.has; readies = did.readies })
 
 -- ---- a block that is read, and one that is written
 

@@ -22,6 +22,7 @@ use Rattle.qmp_rules.specs.Table.{job_at, job_in}
 use Rattle.qmp_rules.specs.declared.rows.JobRecord.{JobRecord}
 use Rattle.world_goings.specs.Copied.{WasRead}
 use Rattle.world_parts.specs.Comes.{Comes}
+use Rattle.world_parts.specs.Counting.{seen_sources}
 use Rattle.world_parts.specs.Face.{WorldSeen, seen_state}
 use Rattle.world_parts.specs.Jobs.{EndsJob, ReadiesJob, SettlesBlock, TakesBlock}
 
@@ -73,10 +74,11 @@ pub record SlotPutsOff (w v : WorldSeen) (slot g r : ℕ) : Type 0 where
   pub waits : HasToWait (seen_state w) row g r
   pub kept : v ≡ record w { drains = after_turn row.number w.drains }
 
--- that job is ready
+-- that job is ready, and no call that was made for it failed
 pub record SlotReadies (w v : WorldSeen) (slot : ℕ) : Type 0 where
   pub row : JobRecord
   pub there : job_in w.table slot ≡ Some row
+  pub met : (seen_sources w).met_by row.number ≡ None
   pub readies : ReadiesJob w v row
 
 -- that job ends

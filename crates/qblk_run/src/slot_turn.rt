@@ -38,6 +38,8 @@ pub(crate) fn slot_turn<W: Events>(world: &mut W, slot: u32, buffer: &mut [u8]) 
             copy_block(world, slot, buffer);
             true
         }
-        Turned::Empty | Turned::Idle | Turned::Later { .. } => false,
+        Turned::Empty => false,
+        Turned::Idle => false,
+        Turned::Later { .. } => false,
     }
 }

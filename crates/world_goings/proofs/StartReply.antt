@@ -35,7 +35,7 @@ calls_none t sources before Store (OfMirror c) bad = bad
 calls_none t sources before Sink (OfMirror c) bad = bad
 
 -- refused it changes nothing
-refused_none : (t : RunTable) (c : CopyCmd) (cause : Refusal) → left_by t (cmd_of c) cause ≡ []
+pub refused_none : (t : RunTable) (c : CopyCmd) (cause : Refusal) → left_by t (cmd_of c) cause ≡ []
 refused_none t (OfBackup c) cause = refl
 refused_none t (OfMirror c) cause = refl
 

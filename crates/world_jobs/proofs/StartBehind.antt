@@ -68,8 +68,8 @@ module _ (t : RunTable) (nodes : Nodes) (rows : List Bitmap) (c : CopyCmd) (can 
   abbrev row : JobRecord
   row = copy_job t c
 
-  abbrev plan : Plan
-  plan = plan_of c
+  abbrev own_plan : Plan
+  own_plan = plan_of c
 
   of : IsRowOfPlan t (plan_of c) (copy_job t c)
   of = planned_row t c
@@ -82,29 +82,29 @@ module _ (t : RunTable) (nodes : Nodes) (rows : List Bitmap) (c : CopyCmd) (can 
       ap (bytes_of_node (started_table t c)) source_is ∙ fits.size can.source can.source_is ∙ ap (bytes_of_node t) (sym source_is)
 
   abbrev own : NodeRecord
-  own = filter_row t (filter_kind (filter_of plan.kind)) plan.job_id can.source
+  own = filter_row t (filter_kind (filter_of own_plan.kind)) own_plan.job_id can.source
 
-  puts_filter : (u : RunTable) (now : Nodes) → u ≡ started_table t c → HasFilter nodes now u (name_of plan) (shape_over plan.kind can.source) → PutsFilter u row nodes now
+  puts_filter : (u : RunTable) (now : Nodes) → u ≡ started_table t c → HasFilter nodes now u (name_of own_plan) (shape_over own_plan.kind can.source) → PutsFilter u row nodes now
   puts_filter u now is has = record {
     node = own;
-    kind = filter_of plan.kind;
+    kind = filter_of own_plan.kind;
     there = subst (λ (filter : Option ℕ). With filter (λ id. node_by_id u id ≡ Some own)) (sym of.filter)
         (ap (λ (x : RunTable). node_by_id x (free_id t)) is ∙ fits.there can.source can.source_is);
     of_kind = refl;
     are = has.are ∙ ap (λ (id : ℕ). rewired (kinds_of u.nodes) u.edges
-        (with_node_row nodes id (name_of plan) (filter_node (shape_over plan.kind can.source)))) (fits.id has.id has.lowest);
+        (with_node_row nodes id (name_of own_plan) (filter_node (shape_over own_plan.kind can.source)))) (fits.id has.id has.lowest);
     reads = has.reads;
   }
 
   pub begins_behind : (given : List ℕ) (u : RunTable) (now : Nodes) (name : List ℕ) (shape : FilterShape) (answer : Started) (text : _) (new : _)
-      → answer ≡ started.Begun text new → u ≡ started_table t c → HasFilter nodes now u name shape → name ≡ name_of plan
-      → IfSome (node_named t plan.device) (λ source. shape ≡ shape_over plan.kind source)
+      → answer ≡ started.Begun text new → u ≡ started_table t c → HasFilter nodes now u name shape → name ≡ name_of own_plan
+      → IfSome (node_named t own_plan.device) (λ source. shape ≡ shape_over own_plan.kind source)
       → IsSaid given (Ok (returned t told_none (cmd_of c))) (string_bytes text) → IsNewJob t rows row new
       → BeginsBehind given c rows t nodes u now answer
   begins_behind given u now name shape answer text new is table has named over said job =
-      let over' : shape ≡ shape_over plan.kind can.source = subst (λ (o : Option NodeRecord). IfSome o (λ source. shape ≡ shape_over plan.kind source)) can.source_is over in
-      let has' : HasFilter nodes now u (name_of plan) (shape_over plan.kind can.source)
-      = subst (λ (n : List ℕ). HasFilter nodes now u n (shape_over plan.kind can.source)) named (subst (λ (x : FilterShape). HasFilter nodes now u name x) over' has) in
+      let over' : shape ≡ shape_over own_plan.kind can.source = subst (λ (o : Option NodeRecord). IfSome o (λ source. shape ≡ shape_over own_plan.kind source)) can.source_is over in
+      let has' : HasFilter nodes now u (name_of own_plan) (shape_over own_plan.kind can.source)
+      = subst (λ (n : List ℕ). HasFilter nodes now u n (shape_over own_plan.kind can.source)) named (subst (λ (x : FilterShape). HasFilter nodes now u name x) over' has) in
       subst (BeginsBehind given c rows t nodes u now) (sym is)
       (table, puts_filter u now table has', said, subst (λ (x : RunTable). IsNewJob x rows row new) (sym table) (new_job_as t (started_table t c) rows row new same_size job))
 

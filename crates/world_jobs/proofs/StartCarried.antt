@@ -26,6 +26,7 @@ use Rattle.qmp_rules.specs.declared.rows.NodeRecord.{NodeRecord}
 use Rattle.qmp_rules.specs.declared.told.Told.{Told}
 use Rattle.job_commands.specs.Begun.{CopyCmd, OfBackup, OfMirror, cmd_of, copy_job}
 use Rattle.world_goings.proofs.CopyStarts.{command_starts, driver_of, start_copies}
+use Rattle.world_goings.proofs.StartReply.{refused_none}
 use Rattle.world_goings.proofs.StartWorld.{start_coherent, start_did}
 use Rattle.world_parts.specs.Carrying.{IsCarried, IsCarriedAs, IsCarriedIn, IsLate, held_for, is_io_refusal, prints_counts}
 use Rattle.world_parts.specs.Coherent.{IsWholeWorld}
@@ -125,7 +126,9 @@ module _ (w : WorldSeen) (given : List ℕ) (c : CopyCmd) where
 
   module _ (cause : Refusal) (some : refusal_to w.table told_none command ≡ Some cause) where
     answer_some : answer w.table told_none command ≡ record { changes = []; reply = Err cause }
-    answer_some = answer-is w.table told_none command (Some cause) some
+    answer_some =
+        answer-is w.table told_none command (Some cause) some
+        ∙ ap (λ (cs : List Change). let a : Answer = record { changes = cs; reply = Err cause } in a) (refused_none w.table c cause)
 
     abbrev refused_carried : (carried : IsCarried w w command (Some cause)) × (carried.told ≡ told_none)
     refused_carried =

@@ -43,6 +43,6 @@ returns-clause-turns g c =
     let count : length c.loop-guest.actors.guests ≡ length c.args.actors.now.guests = c.loop-guest.invariant.so.count in
     let items = ap (λ (a : Tasks). length a.guests) c.actors.view_is in
     let all : c.loop-guest.guest ≡ length c.loop-guest.actors.guests =
-    omega (arith, count, items, c.loop-guest-test.false, c.loop-guest.auto.guest-end, c.len-guest-end.ensures, c.len-guest-end.auto) in
+    omega (arith, count, items, c.loop-guest-test.false, c.loop-guest.auto.guest-end, c.len-guest-end.ensures) in
     subst (λ (n : ℕ). AreGuestTurns (g.W.Events.face c.args.world.now) (g.W.Events.face c.loop-guest.world) c.args.actors.now c.loop-guest.actors n c.loop-guest.moved) all
     c.loop-guest.invariant.turns

@@ -2,7 +2,7 @@ use Rattle.std.proofs.Common.{inr}
 use Rattle.job_turns.specs.declared.step.Step.TheVariants as step
 use Rattle.qblk_run.proofs.Blocks.{idle-rests, none-rests, put-off-rests, stays-copies, stays-stands, step-stays}
 use Rattle.qblk_run.proofs.Continuing.{stays_then}
-use Rattle.qblk_run.proofs.JobCalls.{became-comes, became-turn, put-off-comes, stays-comes}
+use Rattle.qblk_run.proofs.JobCalls.{became-comes, became-turn, none-comes, put-off-comes, stays-comes}
 use Rattle.qblk_run.proofs.slot_turn.slot_turn.Goals as goal
 
 pub returns-in-Became-clause-turn : goal.returns-in-Became-clause-turn
@@ -35,5 +35,26 @@ returns-in-Copy-clause-comes g c = λ orders o d first has.
     (stays-comes (g.W.Events.face c.args.world.now) (g.W.Events.face c.job_turn.new.self) c.args.slot c.job_turn.ensures.comes c.requires.stands step.Copy
     c.in-Copy.ensures.turned orders o d first has)
 
-pub returns-in-Empty : goal.returns-in-Empty
-returns-in-Empty g c = ?
+pub returns-in-Empty-clause-turn : goal.returns-in-Empty-clause-turn
+returns-in-Empty-clause-turn g c =
+    none-rests (g.W.Events.face c.args.world.now) (g.W.Events.face c.job_turn.new.self) c.args.slot c.in-Empty.ensures.turned.0 c.in-Empty.ensures.turned.1
+
+pub returns-in-Empty-clause-comes : goal.returns-in-Empty-clause-comes
+returns-in-Empty-clause-comes g c =
+    none-comes (g.W.Events.face c.args.world.now) (g.W.Events.face c.job_turn.new.self) c.args.slot c.in-Empty.ensures.turned.1
+
+pub returns-in-Idle-clause-turn : goal.returns-in-Idle-clause-turn
+returns-in-Idle-clause-turn g c =
+    idle-rests (g.W.Events.face c.args.world.now) (g.W.Events.face c.job_turn.new.self) c.args.slot c.requires.stands c.in-Idle.ensures.turned
+
+pub returns-in-Idle-clause-comes : goal.returns-in-Idle-clause-comes
+returns-in-Idle-clause-comes g c =
+    stays-comes (g.W.Events.face c.args.world.now) (g.W.Events.face c.job_turn.new.self) c.args.slot c.job_turn.ensures.comes c.requires.stands step.Wait c.in-Idle.ensures.turned
+
+pub returns-in-Later-clause-turn : goal.returns-in-Later-clause-turn
+returns-in-Later-clause-turn g c =
+    put-off-rests (g.W.Events.face c.args.world.now) (g.W.Events.face c.job_turn.new.self) c.args.slot _ _ c.in-Later.ensures.turned
+
+pub returns-in-Later-clause-comes : goal.returns-in-Later-clause-comes
+returns-in-Later-clause-comes g c =
+    put-off-comes (g.W.Events.face c.args.world.now) (g.W.Events.face c.job_turn.new.self) c.args.slot c.job_turn.ensures.comes c.requires.stands _ _ c.in-Later.ensures.turned

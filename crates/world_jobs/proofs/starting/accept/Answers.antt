@@ -1,4 +1,4 @@
-use Rattle.std.proofs.Common.{◌∙◌, ap, subst}
+use Rattle.std.proofs.Common.{◌≡◌, ◌∙◌, ap, subst}
 use Rattle.std.specs.Prelude.{IfSome}
 use Rattle.qmp_codec.specs.Commands.{seen_command}
 use Rattle.qmp_rules.specs.Answers.{command_edits, told_none}

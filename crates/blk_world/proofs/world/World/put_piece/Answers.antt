@@ -2,10 +2,9 @@ use Rattle.std.proofs.Common.{◌≡◌, Some, None, sym, ◌∙◌, ap}
 use Rattle.blk_history.specs.Machine.{Flight}
 use Rattle.flat_machine.specs.State.{drive_of}
 use Rattle.qmp_rules.specs.Table.{RunTable}
-use Rattle.world_jobs.specs.Marking.{marked_in}
-use Rattle.world_parts.specs.Face.{WorldSeen}
+use Rattle.world_parts.specs.Face.{WorldSeen, face_of}
 use Rattle.world_parts.specs.Piecing.{part_of}
-use Rattle.world_pieces.specs.Pieces.{IsPieceMade, noted_after, noted_part}
+use Rattle.world_pieces.specs.Pieces.{IsPieceMade, noted_after}
 use Rattle.world_parts.specs.Progress.{flight_at}
 use Rattle.world_pieces.proofs.PieceCalls.{can_next, drive_there, made_of, made_whole}
 use Rattle.world_pieces.proofs.PieceTables.{eased_after}
@@ -29,50 +28,24 @@ make_next-outcome-requires-clause-can g c =
 
 pub returns-clause-made : goal.returns-clause-made
 returns-clause-made g c =
-    let w : WorldSeen = record {
-      files = c.self.inside.store.files;
-      earlier = c.self.inside.store.earlier;
-      opened = c.self.inside.store.opened;
-      room = c.self.inside.store.room;
-      faults = c.self.inside.store.faults;
-      failed_call = c.self.inside.store.failed_call;
-      first_faults = c.self.inside.first_faults;
-      nodes = c.self.inside.nodes;
-      table = c.self.inside.names.table;
-      progress = c.self.inside.progress;
-      drains = c.self.inside.drained;
-      bitmaps = c.self.inside.bitmaps;
-      works = c.self.inside.works;
-    } in
+    let w : WorldSeen = face_of c.self.inside.store c.self.inside.first_faults c.self.inside.nodes c.self.inside.names.table c.self.inside.progress c.self.inside.drained c.self.inside.bitmaps c.self.inside.works in
     let on : drive_of w.table c.args.guest ≡ Some c.in-Some.drive = sym c.drive.ensures ∙ c.in-Some.is in
     rw (← c.self.view_is)
     (λ f flies.
     made_of w c.make_next-outcome.new.nodes c.note_write.new.names.table c.make_next-outcome.new.progress c.note_written.new.bitmaps c.note_again.new.works c.args.guest c.in-Some.drive
     c.disk_node-node.result f
     c.make_next-outcome.result c.flying.result.now on c.disk_node-node.ensures
-    (with-at (flight_at w.progress.guests c.args.guest) f (λ h. h.op ≡ c.flying.result.now) flies c.flying.ensures) c.note_write.ensures (c.make_next-outcome.ensures f flies)
-    (c.note_written.ensures ∙ ap (λ written. noted_after c.make_next-outcome.result written c.in-Some.drive c.note_write.new.names.table w.bitmaps) (c.next_written-written.ensures f flies))
-    (c.note_again.ensures ∙ ap (λ written. marked_in (noted_part c.make_next-outcome.result written) c.note_write.new.names.table c.disk_node-node.result w.works) (c.next_written-written.ensures f flies)
-    ∙ marked_so f.op c.make_next-outcome.result w.table c.note_write.new.names.table c.disk_node-node.result (part_of f) w.works
-    (ap (λ (t : RunTable). t.jobs) c.note_write.ensures ∙ (eased_after c.flying.result.now c.disk_node-node.result w.table).jobs)))
+    (with-at (flight_at c.self.inside.progress.guests c.args.guest) f (λ h. h.op ≡ c.flying.result.now) flies c.flying.ensures) c.note_write.ensures (c.make_next-outcome.ensures f flies)
+    (c.note_written.ensures
+    ∙ ap (λ written. noted_after c.make_next-outcome.result written c.in-Some.drive c.note_write.new.names.table c.self.inside.bitmaps) (c.next_written-written.ensures f flies))
+    (c.note_again.ensures
+    ∙ marked_so f.op c.make_next-outcome.result c.self.inside.names.table c.note_write.new.names.table c.disk_node-node.result (part_of f) c.self.inside.works c.next_written-written.result
+    (c.next_written-written.ensures f flies)
+    (ap (λ (t : RunTable). t.jobs) c.note_write.ensures ∙ (eased_after c.flying.result.now c.disk_node-node.result c.self.inside.names.table).jobs)))
 
 pub invariant_of-self : goal.invariant_of-self
 invariant_of-self g c =
-    let w : WorldSeen = record {
-      files = c.self.inside.store.files;
-      earlier = c.self.inside.store.earlier;
-      opened = c.self.inside.store.opened;
-      room = c.self.inside.store.room;
-      faults = c.self.inside.store.faults;
-      failed_call = c.self.inside.store.failed_call;
-      first_faults = c.self.inside.first_faults;
-      nodes = c.self.inside.nodes;
-      table = c.self.inside.names.table;
-      progress = c.self.inside.progress;
-      drains = c.self.inside.drained;
-      bitmaps = c.self.inside.bitmaps;
-      works = c.self.inside.works;
-    } in
+    let w : WorldSeen = face_of c.self.inside.store c.self.inside.first_faults c.self.inside.nodes c.self.inside.names.table c.self.inside.progress c.self.inside.drained c.self.inside.bitmaps c.self.inside.works in
     let v : WorldSeen = record w {
       nodes = c.make_next-outcome.new.nodes;
       table = c.note_write.new.names.table;
