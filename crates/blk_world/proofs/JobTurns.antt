@@ -33,7 +33,7 @@ use Rattle.world_jobs.specs.declared.turned.Turn.{Turn}
 use Rattle.world_jobs.specs.declared.turned.Turn.TheVariants as turn
 use Rattle.world_jobs.specs.declared.turned.Turned.{Turned}
 use Rattle.world_jobs.specs.declared.turned.Turned.TheVariants as turned
-use Rattle.world_jobs.proofs.EndTurns.{behind_end, ends_in_turn, slot_may_end}
+use Rattle.world_jobs.proofs.EndTurns.{ends_in_turn, slot_may_end}
 use Rattle.world_jobs.proofs.EndWhole.{whole_left}
 use Rattle.world_jobs.proofs.JobDrains.{drain_room, drained_whole}
 use Rattle.world_jobs.proofs.ReadyTurns.{readies_in_turn, ready_room, ready_whole}
@@ -79,6 +79,25 @@ ended_drains is row drains = by_test (waits_first is row)
     by_test : (b : Bool) → after_end row.number (cond b (after_turn row.number drains) drains) ≡ after_end row.number drains
     by_test true = gone_then row.number drains
     by_test false = refl
+
+-- the world with the parts that an end leaves
+behind_end : (w : WorldSeen) (row : JobRecord) (why : JobEnd) (u : RunTable) (now : Nodes) (bitmaps : List Bitmap) (works : List JobWork) (drains : Drained)
+    (p : Progress)
+    → u ≡ ended_table w.table row why → HasPulled u row w.nodes now → IsJoined now → bitmaps ≡ bitmaps_ended row why w.bitmaps → works ≡ without_work row.number w.works
+    → drains ≡ after_end row.number w.drains → p ≡ with_job_entry (entries_owed row) (End row.number why (offset_by w.table row why)) w.progress
+    → IsBehindEnd w (record w { nodes = now; table = u; bitmaps = bitmaps; works = works; drains = drains; progress = p }) row why
+behind_end w row why u now bitmaps works drains p table pulls joined noted gone free added = record {
+  pulls = subst (λ (x : RunTable). HasPulled x row w.nodes now) table pulls;
+  joined = joined;
+  kept =
+      ap (λ (x : RunTable). with_parts x bitmaps works drains p) table ∙ ap (λ (x : List Bitmap). with_parts (ended_table w.table row why) x works drains p) noted
+      ∙ ap (λ (x : List JobWork). with_parts (ended_table w.table row why) (bitmaps_ended row why w.bitmaps) x drains p) gone
+      ∙ ap (λ (x : Drained). with_parts (ended_table w.table row why) (bitmaps_ended row why w.bitmaps) (without_work row.number w.works) x p) free
+      ∙ ap (with_parts (ended_table w.table row why) (bitmaps_ended row why w.bitmaps) (without_work row.number w.works) (after_end row.number w.drains)) added;
+}
+  where
+    with_parts : RunTable → List Bitmap → List JobWork → Drained → Progress → WorldSeen
+    with_parts x rows ks ds q = record w { nodes = now; table = x; bitmaps = rows; works = ks; drains = ds; progress = q }
 
 module _ (w : WorldSeen) (slot : ℕ) (row : JobRecord) (whole : IsWholeWorld w) (joined : IsJoined w.nodes) (there : job_in w.table slot ≡ Some row) where
   here : Contains w.table.jobs row
