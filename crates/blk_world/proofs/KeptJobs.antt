@@ -1,4 +1,4 @@
--- Commands that start no job: jobs are kept behind them.
+-- Commands that start no job, and the query that leaves the table as it is.
 use Rattle.std.proofs.Common.{◌≡◌, true, false, Some, None, Ok, Err, refl, sym, ◌∙◌, subst}
 use Rattle.std.specs.Prelude.{Option, Result, OnOk, OnErr}
 use Rattle.qmp_asks.specs.CommandAsks.{is_built}
@@ -10,10 +10,8 @@ use Rattle.qmp_rules.specs.Edits.{edits_of}
 use Rattle.qmp_rules.specs.Table.{RunTable}
 use Rattle.qmp_rules.specs.declared.refusal.Refusal.{Refusal}
 use Rattle.qmp_rules.specs.declared.told.Told.{Told}
-use Rattle.world_jobs.specs.Starting.{is_start}
+use Rattle.world_jobs.specs.Plans.{is_start}
 use Rattle.world_parts.specs.Carrying.{prints_counts}
-use Rattle.world_parts.specs.Coherent.{AreJobsKept}
-use Rattle.world_parts.specs.Face.{WorldSeen}
 use Rattle.world_parts.proofs.Accepted.{built_accepted}
 use Rattle.world_parts.proofs.JobsAnswered.{StartsNoJob}
 
@@ -42,9 +40,8 @@ nothing_changed : (t : RunTable) (c : Cmd) → prints_counts c ≡ true → all_
 unfolding answer
 nothing_changed t c prints = nothing_by t c (refusal_to t told_none c) prints
 
-pub counts_jobs : (w : WorldSeen) (u : RunTable) (c : Cmd) → prints_counts c ≡ true → {A E : Type 0} (r : Result A E)
-    → OnOk r (u ≡ all_changed w.table (answer w.table told_none c).changes) → OnErr r (u ≡ w.table)
-    → AreJobsKept w.table w.works w.progress.aside → AreJobsKept u w.works w.progress.aside
-counts_jobs w u c prints (Ok a) table kept was =
-    subst (λ (t : RunTable). AreJobsKept t w.works w.progress.aside) (sym (table ∙ nothing_changed w.table c prints)) was
-counts_jobs w u c prints (Err e) table kept was = subst (λ (t : RunTable). AreJobsKept t w.works w.progress.aside) (sym kept) was
+-- what is so of the table is so still
+pub counts_keep : (P : RunTable → Type 0) (t u : RunTable) (c : Cmd) → prints_counts c ≡ true → {A E : Type 0} (r : Result A E)
+    → OnOk r (u ≡ all_changed t (answer t told_none c).changes) → OnErr r (u ≡ t) → P t → P u
+counts_keep P t u c prints (Ok a) table kept was = subst P (sym (table ∙ nothing_changed t c prints)) was
+counts_keep P t u c prints (Err e) table kept was = subst P (sym kept) was

@@ -1,14 +1,11 @@
 //! Turns of jobs, and what is copied in them.
 ghost use Rattle.std.specs.Prelude.{◌≡◌, Some, length};
-ghost use Rattle.blk_history.specs.Fold.{With};
 ghost use Rattle.blk_nodes.specs.Contents.{Unfolds};
 ghost use Rattle.blk_nodes.specs.Joined.{IsJoined};
 ghost use Rattle.flat_machine.specs.declared.opening.Opening.{Opening};
 ghost use Rattle.qmp_rules.specs.Table.{job_at, job_in};
 ghost use Rattle.qmp_rules.specs.declared.rows.JobRecord.{JobRecord as Row};
-ghost use Rattle.blk_world.specs.Turning.{CanTake, IsLeftByTurn};
 ghost use Rattle.world_jobs.specs.Copying.{fits_copy};
-ghost use Rattle.world_jobs.specs.Ending.{CanBeEnded, IsBehindEnd};
 ghost use Rattle.world_goings.specs.Copied.{WasRead};
 ghost use Rattle.world_jobs.specs.Copies.{IsSettled, IsTaken, IsToldOf};
 ghost use Rattle.world_jobs.specs.Turning.{IsTurned};
@@ -18,9 +15,7 @@ ghost use Rattle.world_parts.specs.Comes.{Comes};
 use crate::world::World;
 use blk_base::{Fault, Store};
 use blk_copy::Transfer;
-use blk_history::JobEnd;
 use world_jobs::{Turn, Turned, drain_for, get_ready};
-use world_parts::InTheWay;
 
 /// What is told of a block that is read: none where there is none to be read, and where the read failed.
 fn told_of(answer: Result<Option<Transfer>, Fault>) -> Option<Transfer>
@@ -47,19 +42,12 @@ impl<S: Store> World<S> {
         };
         let job = row.number;
         let turn = self.works.turn(self.progress.all_done(), row);
-        match drain_for(&self.names, &self.progress, &mut self.drained, turn, row) {
-            Some(InTheWay { guest, request }) => Turned::Later { guest, request },
-            None => self.take_turn(job, turn),
+        if let Some(way) = drain_for(&self.names, &self.progress, &mut self.drained, turn, row) {
+            return Turned::Later {
+                guest: way.guest,
+                request: way.request,
+            };
         }
-    }
-
-    /// Does what the turn of a job is to do, which waits for no request.
-    fn take_turn(&mut self, job: u32, turn: Turn) -> Turned
-        requires there { With (job_at self.old.table job) (λ row. CanTake self.old turn row) }
-        ensures took { (row : Row) → job_at self.old.table job ≡ Some row
-            → IsLeftByTurn self.old self.new row turn result }
-        ensures joined_then { IsJoined self.new.nodes }
-    {
         match turn {
             Turn::Copy => Turned::Copy,
             Turn::Wait => Turned::Idle,
@@ -68,29 +56,18 @@ impl<S: Store> World<S> {
                 Turned::Became
             }
             Turn::End(why) | Turn::Finish(why) => {
-                self.end_job(job, why);
+                self.works.end(
+                    &mut self.nodes,
+                    &mut self.names,
+                    &mut self.bitmaps,
+                    &mut self.progress,
+                    job,
+                    why,
+                );
+                self.drained.end_job(job);
                 Turned::Became
             }
         }
-    }
-
-    /// Ends a job.
-    fn end_job(&mut self, job: u32, why: JobEnd)
-        requires { With (job_at self.old.table job)
-            (CanBeEnded self.old.table self.old.nodes self.old.works self.old.progress why) }
-        ensures ended { (row : Row) → job_at self.old.table job ≡ Some row
-            → IsBehindEnd self.old self.new row why }
-        ensures joined_then { IsJoined self.new.nodes }
-    {
-        self.works.end(
-            &mut self.nodes,
-            &mut self.names,
-            &mut self.bitmaps,
-            &mut self.progress,
-            job,
-            why,
-        );
-        self.drained.end_job(job);
     }
 
     /// Gives the job of a slot its turn: it is ready or ends where it is to, or a block is to be copied for it. Once it is asked to end,

@@ -1,8 +1,10 @@
 use Rattle.std.specs.Prelude.{string_bytes}
 use Rattle.qmp_codec.specs.Commands.{seen_command}
+use Rattle.qmp_rules.specs.Table.{RunTable}
+use Rattle.world_parts.specs.Coherent.{AreDrainsKept, AreJobsKept}
 use Rattle.world_parts.specs.Face.{WorldSeen, face_of}
 use Rattle.world_changes.proofs.CarryInTable.{counts_back, counts_bitmaps, counts_carried, counts_coherent}
-use Rattle.blk_world.proofs.KeptJobs.{counts_jobs}
+use Rattle.blk_world.proofs.KeptJobs.{counts_keep}
 use Rattle.blk_world.proofs.world.World.carry_counts.Goals as goal
 
 pub answer_counts-requires-clause-free : goal.answer_counts-requires-clause-free
@@ -20,9 +22,12 @@ invariant_of-self g c =
       bitmaps = counts_bitmaps w c.answer_counts.new.names.table
           (seen_command c.args.command.now) c.requires c.answer_counts.result
           c.answer_counts.ensures.changed c.answer_counts.ensures.kept c.self.invariant.bitmaps;
-      jobs = counts_jobs w c.answer_counts.new.names.table
+      jobs = counts_keep (λ (t : RunTable). AreJobsKept t w.works w.progress.aside) w.table c.answer_counts.new.names.table
           (seen_command c.args.command.now) c.requires c.answer_counts.result
           c.answer_counts.ensures.changed c.answer_counts.ensures.kept c.self.invariant.jobs;
+      drains = counts_keep (λ (t : RunTable). AreDrainsKept t w.drains) w.table c.answer_counts.new.names.table
+          (seen_command c.args.command.now) c.requires c.answer_counts.result
+          c.answer_counts.ensures.changed c.answer_counts.ensures.kept c.self.invariant.drains;
     }
 
 pub returns-clause-carried : goal.returns-clause-carried

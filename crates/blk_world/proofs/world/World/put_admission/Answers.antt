@@ -5,7 +5,7 @@ use Rattle.blk_world.proofs.world.World.put_admission.Goals as goal
 
 pub invariant_of-self : goal.invariant_of-self
 invariant_of-self g c =
-    record { coherent = rw c.refuse.ensures (coherent-end _ _ _ _ c.self.invariant.coherent _ c.args.guest refl); tell = c.self.invariant.tell; counted = c.self.invariant.counted; bitmaps = c.self.invariant.bitmaps; jobs = rw c.refuse.ensures c.self.invariant.jobs }
+    record { coherent = rw c.refuse.ensures (coherent-end _ _ _ _ c.self.invariant.coherent _ c.args.guest refl); tell = c.self.invariant.tell; counted = c.self.invariant.counted; bitmaps = c.self.invariant.bitmaps; jobs = rw c.refuse.ensures c.self.invariant.jobs; drains = c.self.invariant.drains }
 
 pub invariant_of-self-in-None : goal.invariant_of-self-in-None
 invariant_of-self-in-None g c =
@@ -17,4 +17,5 @@ invariant_of-self-in-None g c =
       counted = c.self.invariant.counted;
       bitmaps = c.self.invariant.bitmaps;
       jobs = rw c.admit.ensures.kept c.self.invariant.jobs;
+      drains = c.self.invariant.drains;
     }

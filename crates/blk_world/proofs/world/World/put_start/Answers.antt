@@ -1,16 +1,22 @@
-use Rattle.std.proofs.Common.{◌≤◌, refl, sym, subst}
+use Rattle.std.proofs.Common.{◌≤◌, sym, subst}
 use Rattle.std.specs.Prelude.{string_bytes}
 use Rattle.flat_machine.specs.Legal.{IsNotDone}
 use Rattle.qmp_codec.specs.Commands.{seen_command}
-use Rattle.qmp_codec.specs.Jobs.{seen_backup}
 use Rattle.world_changes.proofs.ChangesHandled.{few_drives}
-use Rattle.world_jobs.specs.Starting.{IsStartOf, start_scene}
-use Rattle.world_jobs.specs.declared.start.Started.TheVariants.{Refused, Later, Begun}
 use Rattle.world_parts.specs.Face.{WorldSeen, face_of, seen_state}
 use Rattle.world_parts.specs.Progress.{Progress}
 use Rattle.world_parts.specs.Saying.{given_line}
-use Rattle.blk_world.proofs.JobStarts.{begun_answered, begun_aside, begun_few, begun_fresh, begun_goes, begun_whole, late_answered, late_goes, late_whole, reads_so, refused_answered, refused_goes, refused_whole, reply_is, scene_back}
+use Rattle.blk_world.proofs.JobStarts.{begun_answered, begun_aside, begun_few, begun_fresh, begun_goes, begun_spare, begun_whole, has_plan, late_answered, late_goes, late_whole, planned, refused_answered, refused_goes, refused_whole, scene_back}
 use Rattle.blk_world.proofs.world.World.put_start.Goals as goal
+
+pub unreachable-requires : goal.unreachable-requires
+unreachable-requires g c =
+    has_plan (seen_command c.args.command) c.requires.is c.in_default.ensures
+
+pub carry_start-requires-clause-command : goal.carry_start-requires-clause-command
+carry_start-requires-clause-command g c =
+    let is = planned (seen_command c.args.command) c.in-Some.plan c.in-Some.ensures in
+    (is.command, is.is, is.plan_is)
 
 pub carry_start-requires-clause-few : goal.carry_start-requires-clause-few
 carry_start-requires-clause-few g c =
@@ -25,136 +31,102 @@ returns-in_err-started-clause-back g c =
 pub invariant_of-self-in-Refused : goal.invariant_of-self-in-Refused
 invariant_of-self-in-Refused g c =
     let w : WorldSeen = face_of c.self.inside.store c.self.inside.first_faults c.self.inside.nodes c.self.inside.names.table c.self.inside.progress c.self.inside.drained c.self.inside.bitmaps c.self.inside.works in
-    let read = reads_so c.args.given.now c.args.command c.in-BlockdevBackup.c c.in-BlockdevBackup.is c.requires.read in
-    let did : IsStartOf (seen_state w) c.args.given.now (seen_backup c.in-BlockdevBackup.c) w.bitmaps (start_scene w.table w.nodes w.drains) (start_scene c.carry_start.new.names.table c.carry_start.new.nodes c.carry_start.new.drained) (Refused c.in-Refused.text)
-    = rw c.in-Refused.is at (c.in_ok-started.ensures.ok (seen_state w) refl refl) in
-    refused_whole w (given_line c.args.line c.args.given.now) (seen_backup c.in-BlockdevBackup.c) read c.self.invariant c.edges.ensures.joined c.edges.ensures.disks c.carry_start.new.names.table
-    c.carry_start.new.nodes c.carry_start.new.drained c.edges-2.ensures.joined c.in-Refused.text did
+    refused_whole w (given_line c.args.line c.args.given.now) (seen_command c.args.command) c.requires.read c.self.invariant c.edges.ensures.joined c.edges.ensures.disks
+    c.carry_start.new.names.table c.carry_start.new.nodes c.carry_start.new.drained c.edges-2.ensures.joined c.in-Some.plan c.in-Some.ensures c.in-Refused.text
+    (rw c.in-Refused.is at c.in_ok-started.ensures.ok)
 
 pub invariant_of-self-in-Later-1 : goal.invariant_of-self-in-Later-1
 invariant_of-self-in-Later-1 g c =
     let w : WorldSeen = face_of c.self.inside.store c.self.inside.first_faults c.self.inside.nodes c.self.inside.names.table c.self.inside.progress c.self.inside.drained c.self.inside.bitmaps c.self.inside.works in
-    let read = reads_so c.args.given.now c.args.command c.in-BlockdevBackup.c c.in-BlockdevBackup.is c.requires.read in
-    let did : IsStartOf (seen_state w) c.args.given.now (seen_backup c.in-BlockdevBackup.c) w.bitmaps (start_scene w.table w.nodes w.drains) (start_scene c.carry_start.new.names.table c.carry_start.new.nodes c.carry_start.new.drained) (Later c.in-Later.guest c.in-Later.request)
-    = rw c.in-Later.is at (c.in_ok-started.ensures.ok (seen_state w) refl refl) in
-    late_whole w (given_line c.args.line c.args.given.now) (seen_backup c.in-BlockdevBackup.c) read c.self.invariant c.edges.ensures.joined c.edges.ensures.disks c.carry_start.new.names.table
-    c.carry_start.new.nodes c.carry_start.new.drained c.edges-2.ensures.joined c.in-Later.guest c.in-Later.request did
+    late_whole w (given_line c.args.line c.args.given.now) (seen_command c.args.command) c.requires.read c.self.invariant c.edges.ensures.joined c.edges.ensures.disks
+    c.carry_start.new.names.table c.carry_start.new.nodes c.carry_start.new.drained c.edges-2.ensures.joined c.in-Some.plan c.in-Some.ensures c.in-Later.guest
+    c.in-Later.request (rw c.in-Later.is at c.in_ok-started.ensures.ok)
 
 pub begin-requires-clause-spare : goal.begin-requires-clause-spare
 begin-requires-clause-spare g c =
     let w : WorldSeen = face_of c.self.inside.store c.self.inside.first_faults c.self.inside.nodes c.self.inside.names.table c.self.inside.progress c.self.inside.drained c.self.inside.bitmaps c.self.inside.works in
-    let did : IsStartOf (seen_state w) c.args.given.now (seen_backup c.in-BlockdevBackup.c) w.bitmaps (start_scene w.table w.nodes w.drains) (start_scene c.carry_start.new.names.table c.carry_start.new.nodes c.carry_start.new.drained) (Begun c.in-Begun.text c.in-Begun.new)
-    = rw c.in-Begun.is at (c.in_ok-started.ensures.ok (seen_state w) refl refl) in
-    did.new_is.spare
+    begun_spare w (given_line c.args.line c.args.given.now) (seen_command c.args.command) c.requires.read c.self.invariant c.edges.ensures.joined c.edges.ensures.disks
+    c.carry_start.new.names.table c.carry_start.new.nodes c.carry_start.new.drained c.edges-2.ensures.joined c.in-Some.plan c.in-Some.ensures c.in-Begun.text
+    c.in-Begun.new (rw c.in-Begun.is at c.in_ok-started.ensures.ok)
 
 pub begin-requires-clause-few : goal.begin-requires-clause-few
 begin-requires-clause-few g c =
     let w : WorldSeen = face_of c.self.inside.store c.self.inside.first_faults c.self.inside.nodes c.self.inside.names.table c.self.inside.progress c.self.inside.drained c.self.inside.bitmaps c.self.inside.works in
-    let read = reads_so c.args.given.now c.args.command c.in-BlockdevBackup.c c.in-BlockdevBackup.is c.requires.read in
-    let did : IsStartOf (seen_state w) c.args.given.now (seen_backup c.in-BlockdevBackup.c) w.bitmaps (start_scene w.table w.nodes w.drains) (start_scene c.carry_start.new.names.table c.carry_start.new.nodes c.carry_start.new.drained) (Begun c.in-Begun.text c.in-Begun.new)
-    = rw c.in-Begun.is at (c.in_ok-started.ensures.ok (seen_state w) refl refl) in
-    begun_few w (given_line c.args.line c.args.given.now) (seen_backup c.in-BlockdevBackup.c) read c.self.invariant c.edges.ensures.joined c.edges.ensures.disks c.carry_start.new.names.table
-    c.carry_start.new.nodes c.carry_start.new.drained c.edges-2.ensures.joined (string_bytes c.in-Begun.text) c.in-Begun.new did
+    begun_few w (given_line c.args.line c.args.given.now) (seen_command c.args.command) c.requires.read c.self.invariant c.edges.ensures.joined c.edges.ensures.disks
+    c.carry_start.new.names.table c.carry_start.new.nodes c.carry_start.new.drained c.edges-2.ensures.joined c.in-Some.plan c.in-Some.ensures c.in-Begun.text
+    c.in-Begun.new (rw c.in-Begun.is at c.in_ok-started.ensures.ok)
 
 pub begin-requires-clause-unmet : goal.begin-requires-clause-unmet
 begin-requires-clause-unmet g c =
     let w : WorldSeen = face_of c.self.inside.store c.self.inside.first_faults c.self.inside.nodes c.self.inside.names.table c.self.inside.progress c.self.inside.drained c.self.inside.bitmaps c.self.inside.works in
-    let read = reads_so c.args.given.now c.args.command c.in-BlockdevBackup.c c.in-BlockdevBackup.is c.requires.read in
-    let did : IsStartOf (seen_state w) c.args.given.now (seen_backup c.in-BlockdevBackup.c) w.bitmaps (start_scene w.table w.nodes w.drains) (start_scene c.carry_start.new.names.table c.carry_start.new.nodes c.carry_start.new.drained) (Begun c.in-Begun.text c.in-Begun.new)
-    = rw c.in-Begun.is at (c.in_ok-started.ensures.ok (seen_state w) refl refl) in
-    begun_fresh w (given_line c.args.line c.args.given.now) (seen_backup c.in-BlockdevBackup.c) read c.self.invariant c.edges.ensures.joined c.edges.ensures.disks c.carry_start.new.names.table
-    c.carry_start.new.nodes c.carry_start.new.drained c.edges-2.ensures.joined (string_bytes c.in-Begun.text) c.in-Begun.new did
+    begun_fresh w (given_line c.args.line c.args.given.now) (seen_command c.args.command) c.requires.read c.self.invariant c.edges.ensures.joined c.edges.ensures.disks
+    c.carry_start.new.names.table c.carry_start.new.nodes c.carry_start.new.drained c.edges-2.ensures.joined c.in-Some.plan c.in-Some.ensures c.in-Begun.text
+    c.in-Begun.new (rw c.in-Begun.is at c.in_ok-started.ensures.ok)
 
 pub begin-requires-clause-aside : goal.begin-requires-clause-aside
 begin-requires-clause-aside g c =
     let w : WorldSeen = face_of c.self.inside.store c.self.inside.first_faults c.self.inside.nodes c.self.inside.names.table c.self.inside.progress c.self.inside.drained c.self.inside.bitmaps c.self.inside.works in
-    let read = reads_so c.args.given.now c.args.command c.in-BlockdevBackup.c c.in-BlockdevBackup.is c.requires.read in
-    let did : IsStartOf (seen_state w) c.args.given.now (seen_backup c.in-BlockdevBackup.c) w.bitmaps (start_scene w.table w.nodes w.drains) (start_scene c.carry_start.new.names.table c.carry_start.new.nodes c.carry_start.new.drained) (Begun c.in-Begun.text c.in-Begun.new)
-    = rw c.in-Begun.is at (c.in_ok-started.ensures.ok (seen_state w) refl refl) in
     subst (λ (p : Progress). p.aside ≤ 30) (sym c.reply.ensures)
-    (begun_aside w (given_line c.args.line c.args.given.now) (seen_backup c.in-BlockdevBackup.c) read c.self.invariant c.edges.ensures.joined c.edges.ensures.disks c.carry_start.new.names.table
-    c.carry_start.new.nodes c.carry_start.new.drained c.edges-2.ensures.joined (string_bytes c.in-Begun.text) c.in-Begun.new did)
+    (begun_aside w (given_line c.args.line c.args.given.now) (seen_command c.args.command) c.requires.read c.self.invariant c.edges.ensures.joined c.edges.ensures.disks
+    c.carry_start.new.names.table c.carry_start.new.nodes c.carry_start.new.drained c.edges-2.ensures.joined c.in-Some.plan c.in-Some.ensures c.in-Begun.text
+    c.in-Begun.new (rw c.in-Begun.is at c.in_ok-started.ensures.ok))
 
 pub invariant_of-self-in-Begun : goal.invariant_of-self-in-Begun
 invariant_of-self-in-Begun g c =
     let w : WorldSeen = face_of c.self.inside.store c.self.inside.first_faults c.self.inside.nodes c.self.inside.names.table c.self.inside.progress c.self.inside.drained c.self.inside.bitmaps c.self.inside.works in
-    let read = reads_so c.args.given.now c.args.command c.in-BlockdevBackup.c c.in-BlockdevBackup.is c.requires.read in
-    let did : IsStartOf (seen_state w) c.args.given.now (seen_backup c.in-BlockdevBackup.c) w.bitmaps (start_scene w.table w.nodes w.drains) (start_scene c.carry_start.new.names.table c.carry_start.new.nodes c.carry_start.new.drained) (Begun c.in-Begun.text c.in-Begun.new)
-    = rw c.in-Begun.is at (c.in_ok-started.ensures.ok (seen_state w) refl refl) in
-    begun_whole w (given_line c.args.line c.args.given.now) (seen_backup c.in-BlockdevBackup.c) read c.self.invariant c.edges.ensures.joined c.edges.ensures.disks c.carry_start.new.names.table
-    c.carry_start.new.nodes c.carry_start.new.drained c.edges-2.ensures.joined (string_bytes c.in-Begun.text) c.in-Begun.new did c.law.ensures _
-    (reply_is c.args.line (string_bytes c.args.copy) c.args.given.now c.args.command c.in-BlockdevBackup.c (string_bytes c.in-Begun.text) c.requires.copy c.in-BlockdevBackup.is)
-    c.reply.new.self c.reply.ensures c.lift.new.self c.lift.ensures c.begin.new.bitmaps c.begin.ensures.bitmaps c.begin.new.jobs c.begin.ensures.works c.begin.new.progress
-    c.begin.ensures.progress
+    begun_whole w (given_line c.args.line c.args.given.now) (seen_command c.args.command) c.requires.read c.self.invariant c.edges.ensures.joined c.edges.ensures.disks
+    c.carry_start.new.names.table c.carry_start.new.nodes c.carry_start.new.drained c.edges-2.ensures.joined c.in-Some.plan c.in-Some.ensures c.in-Begun.text
+    c.in-Begun.new (rw c.in-Begun.is at c.in_ok-started.ensures.ok) c.law.ensures (string_bytes c.args.copy) c.requires.copy c.reply.new.self c.reply.ensures
+    c.lift.new.self c.lift.ensures c.begin.new.bitmaps c.begin.ensures.bitmaps c.begin.new.jobs c.begin.ensures.works c.begin.new.progress c.begin.ensures.progress
 
 pub returns-in-Refused-clause-done : goal.returns-in-Refused-clause-done
 returns-in-Refused-clause-done g c =
     let w : WorldSeen = face_of c.self.inside.store c.self.inside.first_faults c.self.inside.nodes c.self.inside.names.table c.self.inside.progress c.self.inside.drained c.self.inside.bitmaps c.self.inside.works in
-    let read = reads_so c.args.given.now c.args.command c.in-BlockdevBackup.c c.in-BlockdevBackup.is c.requires.read in
-    let did : IsStartOf (seen_state w) c.args.given.now (seen_backup c.in-BlockdevBackup.c) w.bitmaps (start_scene w.table w.nodes w.drains) (start_scene c.carry_start.new.names.table c.carry_start.new.nodes c.carry_start.new.drained) (Refused c.in-Refused.text)
-    = rw c.in-Refused.is at (c.in_ok-started.ensures.ok (seen_state w) refl refl) in
     rw (← c.self.view_is)
-    (refused_answered w (given_line c.args.line c.args.given.now) (seen_backup c.in-BlockdevBackup.c) read c.self.invariant c.edges.ensures.joined c.edges.ensures.disks c.carry_start.new.names.table
-    c.carry_start.new.nodes c.carry_start.new.drained c.edges-2.ensures.joined c.in-Refused.text did c.note_reply.new.self _
-    (reply_is c.args.line (string_bytes c.args.copy) c.args.given.now c.args.command c.in-BlockdevBackup.c (string_bytes c.in-Refused.text) c.requires.copy c.in-BlockdevBackup.is)
-    c.note_reply.ensures)
+    (refused_answered w (given_line c.args.line c.args.given.now) (seen_command c.args.command) c.requires.read c.self.invariant c.edges.ensures.joined c.edges.ensures.disks
+    c.carry_start.new.names.table c.carry_start.new.nodes c.carry_start.new.drained c.edges-2.ensures.joined c.in-Some.plan c.in-Some.ensures c.in-Refused.text
+    (rw c.in-Refused.is at c.in_ok-started.ensures.ok) (string_bytes c.args.copy) c.requires.copy c.note_reply.new.self c.note_reply.ensures)
 
 pub returns-in-Refused-clause-comes : goal.returns-in-Refused-clause-comes
 returns-in-Refused-clause-comes g c =
     let w : WorldSeen = face_of c.self.inside.store c.self.inside.first_faults c.self.inside.nodes c.self.inside.names.table c.self.inside.progress c.self.inside.drained c.self.inside.bitmaps c.self.inside.works in
-    let read = reads_so c.args.given.now c.args.command c.in-BlockdevBackup.c c.in-BlockdevBackup.is c.requires.read in
-    let did : IsStartOf (seen_state w) c.args.given.now (seen_backup c.in-BlockdevBackup.c) w.bitmaps (start_scene w.table w.nodes w.drains) (start_scene c.carry_start.new.names.table c.carry_start.new.nodes c.carry_start.new.drained) (Refused c.in-Refused.text)
-    = rw c.in-Refused.is at (c.in_ok-started.ensures.ok (seen_state w) refl refl) in
     let idle : IsNotDone (seen_state w) 0 = subst (λ (x : WorldSeen). IsNotDone (seen_state x) 0) (sym c.self.view_is) c.requires.open in
     rw (← c.self.view_is)
-    (refused_goes w (given_line c.args.line c.args.given.now) (seen_backup c.in-BlockdevBackup.c) read c.self.invariant c.edges.ensures.joined c.edges.ensures.disks c.carry_start.new.names.table
-    c.carry_start.new.nodes c.carry_start.new.drained c.edges-2.ensures.joined c.in-Refused.text did c.note_reply.new.self _
-    (reply_is c.args.line (string_bytes c.args.copy) c.args.given.now c.args.command c.in-BlockdevBackup.c (string_bytes c.in-Refused.text) c.requires.copy c.in-BlockdevBackup.is)
-    c.note_reply.ensures idle)
+    (refused_goes w (given_line c.args.line c.args.given.now) (seen_command c.args.command) c.requires.read c.self.invariant c.edges.ensures.joined c.edges.ensures.disks
+    c.carry_start.new.names.table c.carry_start.new.nodes c.carry_start.new.drained c.edges-2.ensures.joined c.in-Some.plan c.in-Some.ensures c.in-Refused.text
+    (rw c.in-Refused.is at c.in_ok-started.ensures.ok) (string_bytes c.args.copy) c.requires.copy c.note_reply.new.self c.note_reply.ensures idle)
 
 pub returns-in-Later-clause-done : goal.returns-in-Later-clause-done
 returns-in-Later-clause-done g c =
     let w : WorldSeen = face_of c.self.inside.store c.self.inside.first_faults c.self.inside.nodes c.self.inside.names.table c.self.inside.progress c.self.inside.drained c.self.inside.bitmaps c.self.inside.works in
-    let read = reads_so c.args.given.now c.args.command c.in-BlockdevBackup.c c.in-BlockdevBackup.is c.requires.read in
-    let did : IsStartOf (seen_state w) c.args.given.now (seen_backup c.in-BlockdevBackup.c) w.bitmaps (start_scene w.table w.nodes w.drains) (start_scene c.carry_start.new.names.table c.carry_start.new.nodes c.carry_start.new.drained) (Later c.in-Later.guest c.in-Later.request)
-    = rw c.in-Later.is at (c.in_ok-started.ensures.ok (seen_state w) refl refl) in
     rw (← c.self.view_is)
-    (late_answered w (given_line c.args.line c.args.given.now) (seen_backup c.in-BlockdevBackup.c) read c.self.invariant c.edges.ensures.joined c.edges.ensures.disks c.carry_start.new.names.table
-    c.carry_start.new.nodes c.carry_start.new.drained c.edges-2.ensures.joined c.in-Later.guest c.in-Later.request did)
+    (late_answered w (given_line c.args.line c.args.given.now) (seen_command c.args.command) c.requires.read c.self.invariant c.edges.ensures.joined c.edges.ensures.disks
+    c.carry_start.new.names.table c.carry_start.new.nodes c.carry_start.new.drained c.edges-2.ensures.joined c.in-Some.plan c.in-Some.ensures c.in-Later.guest
+    c.in-Later.request (rw c.in-Later.is at c.in_ok-started.ensures.ok))
 
 pub returns-in-Later-clause-comes : goal.returns-in-Later-clause-comes
 returns-in-Later-clause-comes g c =
     let w : WorldSeen = face_of c.self.inside.store c.self.inside.first_faults c.self.inside.nodes c.self.inside.names.table c.self.inside.progress c.self.inside.drained c.self.inside.bitmaps c.self.inside.works in
-    let read = reads_so c.args.given.now c.args.command c.in-BlockdevBackup.c c.in-BlockdevBackup.is c.requires.read in
-    let did : IsStartOf (seen_state w) c.args.given.now (seen_backup c.in-BlockdevBackup.c) w.bitmaps (start_scene w.table w.nodes w.drains) (start_scene c.carry_start.new.names.table c.carry_start.new.nodes c.carry_start.new.drained) (Later c.in-Later.guest c.in-Later.request)
-    = rw c.in-Later.is at (c.in_ok-started.ensures.ok (seen_state w) refl refl) in
     rw (← c.self.view_is)
-    (late_goes w (given_line c.args.line c.args.given.now) (seen_backup c.in-BlockdevBackup.c) read c.self.invariant c.edges.ensures.joined c.edges.ensures.disks c.carry_start.new.names.table
-    c.carry_start.new.nodes c.carry_start.new.drained c.edges-2.ensures.joined c.in-Later.guest c.in-Later.request did)
+    (late_goes w (given_line c.args.line c.args.given.now) (seen_command c.args.command) c.requires.read c.self.invariant c.edges.ensures.joined c.edges.ensures.disks
+    c.carry_start.new.names.table c.carry_start.new.nodes c.carry_start.new.drained c.edges-2.ensures.joined c.in-Some.plan c.in-Some.ensures c.in-Later.guest
+    c.in-Later.request (rw c.in-Later.is at c.in_ok-started.ensures.ok))
 
 pub returns-in-Begun-clause-done : goal.returns-in-Begun-clause-done
 returns-in-Begun-clause-done g c =
     let w : WorldSeen = face_of c.self.inside.store c.self.inside.first_faults c.self.inside.nodes c.self.inside.names.table c.self.inside.progress c.self.inside.drained c.self.inside.bitmaps c.self.inside.works in
-    let read = reads_so c.args.given.now c.args.command c.in-BlockdevBackup.c c.in-BlockdevBackup.is c.requires.read in
-    let did : IsStartOf (seen_state w) c.args.given.now (seen_backup c.in-BlockdevBackup.c) w.bitmaps (start_scene w.table w.nodes w.drains) (start_scene c.carry_start.new.names.table c.carry_start.new.nodes c.carry_start.new.drained) (Begun c.in-Begun.text c.in-Begun.new)
-    = rw c.in-Begun.is at (c.in_ok-started.ensures.ok (seen_state w) refl refl) in
     rw (← c.self.view_is)
-    (begun_answered w (given_line c.args.line c.args.given.now) (seen_backup c.in-BlockdevBackup.c) read c.self.invariant c.edges.ensures.joined c.edges.ensures.disks c.carry_start.new.names.table
-    c.carry_start.new.nodes c.carry_start.new.drained c.edges-2.ensures.joined (string_bytes c.in-Begun.text) c.in-Begun.new did c.law.ensures _
-    (reply_is c.args.line (string_bytes c.args.copy) c.args.given.now c.args.command c.in-BlockdevBackup.c (string_bytes c.in-Begun.text) c.requires.copy c.in-BlockdevBackup.is)
-    c.reply.new.self c.reply.ensures c.lift.new.self c.lift.ensures c.begin.new.bitmaps c.begin.ensures.bitmaps c.begin.new.jobs c.begin.ensures.works c.begin.new.progress
-    c.begin.ensures.progress)
+    (begun_answered w (given_line c.args.line c.args.given.now) (seen_command c.args.command) c.requires.read c.self.invariant c.edges.ensures.joined c.edges.ensures.disks
+    c.carry_start.new.names.table c.carry_start.new.nodes c.carry_start.new.drained c.edges-2.ensures.joined c.in-Some.plan c.in-Some.ensures c.in-Begun.text
+    c.in-Begun.new (rw c.in-Begun.is at c.in_ok-started.ensures.ok) c.law.ensures (string_bytes c.args.copy) c.requires.copy c.reply.new.self c.reply.ensures
+    c.lift.new.self c.lift.ensures c.begin.new.bitmaps c.begin.ensures.bitmaps c.begin.new.jobs c.begin.ensures.works c.begin.new.progress c.begin.ensures.progress)
 
 pub returns-in-Begun-clause-comes : goal.returns-in-Begun-clause-comes
 returns-in-Begun-clause-comes g c =
     let w : WorldSeen = face_of c.self.inside.store c.self.inside.first_faults c.self.inside.nodes c.self.inside.names.table c.self.inside.progress c.self.inside.drained c.self.inside.bitmaps c.self.inside.works in
-    let read = reads_so c.args.given.now c.args.command c.in-BlockdevBackup.c c.in-BlockdevBackup.is c.requires.read in
-    let did : IsStartOf (seen_state w) c.args.given.now (seen_backup c.in-BlockdevBackup.c) w.bitmaps (start_scene w.table w.nodes w.drains) (start_scene c.carry_start.new.names.table c.carry_start.new.nodes c.carry_start.new.drained) (Begun c.in-Begun.text c.in-Begun.new)
-    = rw c.in-Begun.is at (c.in_ok-started.ensures.ok (seen_state w) refl refl) in
     let idle : IsNotDone (seen_state w) 0 = subst (λ (x : WorldSeen). IsNotDone (seen_state x) 0) (sym c.self.view_is) c.requires.open in
     rw (← c.self.view_is)
-    (begun_goes w (given_line c.args.line c.args.given.now) (seen_backup c.in-BlockdevBackup.c) read c.self.invariant c.edges.ensures.joined c.edges.ensures.disks c.carry_start.new.names.table
-    c.carry_start.new.nodes c.carry_start.new.drained c.edges-2.ensures.joined (string_bytes c.in-Begun.text) c.in-Begun.new did c.law.ensures _
-    (reply_is c.args.line (string_bytes c.args.copy) c.args.given.now c.args.command c.in-BlockdevBackup.c (string_bytes c.in-Begun.text) c.requires.copy c.in-BlockdevBackup.is)
-    c.reply.new.self c.reply.ensures c.lift.new.self c.lift.ensures c.begin.new.bitmaps c.begin.ensures.bitmaps c.begin.new.jobs c.begin.ensures.works c.begin.new.progress
-    c.begin.ensures.progress idle)
+    (begun_goes w (given_line c.args.line c.args.given.now) (seen_command c.args.command) c.requires.read c.self.invariant c.edges.ensures.joined c.edges.ensures.disks
+    c.carry_start.new.names.table c.carry_start.new.nodes c.carry_start.new.drained c.edges-2.ensures.joined c.in-Some.plan c.in-Some.ensures c.in-Begun.text
+    c.in-Begun.new (rw c.in-Begun.is at c.in_ok-started.ensures.ok) c.law.ensures (string_bytes c.args.copy) c.requires.copy c.reply.new.self c.reply.ensures
+    c.lift.new.self c.lift.ensures c.begin.new.bitmaps c.begin.ensures.bitmaps c.begin.new.jobs c.begin.ensures.works c.begin.new.progress c.begin.ensures.progress idle)
