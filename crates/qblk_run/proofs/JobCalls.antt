@@ -25,7 +25,7 @@ module _ (w v : WorldSeen) (slot : ℕ) where
   module _ (comes : (o : Opening) → Comes o w → Comes o v) where
     pub became-comes : SlotEnds w v slot ⊎ SlotReadies w v slot → ComesOnBeside w v
     became-comes (inl ends) orders o c first has = come-ended o c first w v orders has (comes o) ends.row ends.why ends.offset ends.ends ends.fits
-    became-comes (inr ready) orders o c first has = come-readied o c first w v orders has (comes o) ready.row ready.readies
+    became-comes (inr ready) orders o c first has = come-readied o c first w v orders has (comes o) ready.row ready.readies ready.met
 
     module _ (stands : StandsInRun w) where
       by-number : (row : JobRecord) → job_in w.table slot ≡ Some row → job_at w.table row.number ≡ Some row

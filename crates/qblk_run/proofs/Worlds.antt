@@ -28,7 +28,7 @@ use Rattle.world_parts.specs.declared.executed.Executed.TheVariants.{Replied, La
 use Rattle.world_parts.specs.Carrying.{AnswersLine, IsExecuted, IsPutBack, IsPutBackIn, IsPutOff, reply_entry}
 use Rattle.world_parts.specs.Coherent.{AreDrainsKept}
 use Rattle.world_parts.specs.Comes.{Comes}
-use Rattle.world_parts.specs.Counting.{RunsOn}
+use Rattle.world_parts.specs.Counting.{RunsOn, seen_sources}
 use Rattle.world_parts.specs.Face.{WorldSeen, seen_state}
 use Rattle.world_parts.specs.Jobs.{BeginsNone, BeginsOne, EndsJob, ReadiesJob}
 use Rattle.world_pieces.specs.Pieces.{piece_entry}
@@ -59,12 +59,6 @@ pub put-off-left : (orders : List Order) (w v : WorldSeen) → IsPutOffBy orders
 put-off-left [] w v off = absurd off
 put-off-left (Watch line what ∷ orders) w v off = absurd off
 put-off-left (Give line given ∷ orders) w v off = rw off.2.left refl
-
--- and not those of jobs
-pub put-off-jobs : (orders : List Order) (w v : WorldSeen) → IsPutOffBy orders w v → v.drains.jobs ≡ w.drains.jobs
-put-off-jobs [] w v off = absurd off
-put-off-jobs (Watch line what ∷ orders) w v off = absurd off
-put-off-jobs (Give line given ∷ orders) w v off = ap (λ (u : WorldSeen). u.drains.jobs) off.2.left
 
 -- a request is in flight
 pub put-off-flies : (orders : List Order) (w v : WorldSeen) → IsPutOffBy orders w v
@@ -240,12 +234,12 @@ module _ (o : Opening) (c : Course) (first w v : WorldSeen) (before : List Order
         left = (refl, record { row = row; number = refl; ends = ends; fits = fits });
       }) has.left
 
-  pub come-readied : (row : JobRecord) → ReadiesJob w v row → HasCome o c first v before
-  come-readied row readies =
+  pub come-readied : (row : JobRecord) → ReadiesJob w v row → (seen_sources w).met_by row.number ≡ None → HasCome o c first v before
+  come-readied row readies met =
       come-event o c first w v before has (comes has.comes) (Ready row.number) [] before (record {
         may = tt;
         adds = ap (λ (u : WorldSeen). u.progress.log.events) readies.kept;
-        left = (refl, record { row = row; number = refl; readies = readies });
+        left = (refl, record { row = row; number = refl; met = met; readies = readies });
       }) has.left
 
   pub come-taken : IsTakeStep w v → HasCome o c first v before

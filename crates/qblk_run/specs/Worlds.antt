@@ -30,6 +30,7 @@ use Rattle.flat_machine.specs.declared.opening.Opening.{Opening}
 use Rattle.world_parts.specs.declared.admission.Admission.TheVariants.{Admitted, Refused as NotAdmitted}
 use Rattle.world_parts.specs.Carrying.{IsReplied, IsPutOff, IsPutBackIn}
 use Rattle.world_parts.specs.Comes.{Comes}
+use Rattle.world_parts.specs.Counting.{seen_sources}
 use Rattle.world_parts.specs.Face.{WorldSeen, seen_state}
 use Rattle.world_parts.specs.Jobs.{BeginsNone, BeginsOne, EndsJob, GuardsBlock, ReadiesJob, SettlesBlock, TakesBlock}
 use Rattle.world_pieces.specs.Pieces.{IsPieceMade, HasPieceLicence}
@@ -105,10 +106,11 @@ pub record IsEndOf (w v : WorldSeen) (job : ℕ) (why : JobEnd) (offset : ℕ) :
   pub ends : EndsJob w v row why offset
   pub fits : IsSmallEnd why
 
--- and that it is ready: where the store tells its files, its target reads as its source then
+-- and that it is ready: no call that was made for it failed, and where the store tells its files, its target reads as its source then
 pub record IsReadyOf (w v : WorldSeen) (job : ℕ) : Type 0 where
   pub row : JobRecord
   pub number : row.number ≡ job
+  pub met : (seen_sources w).met_by row.number ≡ None
   pub readies : ReadiesJob w v row
 
 -- ---- events with entries
