@@ -76,13 +76,16 @@ fn fail(files: &mut Vec<RowFile>, row: &Row) -> Result<(), RowStop> {
     Err(RowStop::Word)
 }
 
+/// The request of a guest that is waited for.
+fn put_waiting(guest: u32, request: u32, out: &mut Words) {
+    out.fill("waits for %, %", &[u64::from(guest), u64::from(request)]);
+}
+
 /// What became of a line.
 fn put_executed(executed: Executed, out: &mut Words) {
     match executed {
         Executed::Replied => out.put("ok"),
-        Executed::Later { guest, request } => {
-            out.fill("waits for %, %", &[guest as u64, request as u64]);
-        }
+        Executed::Later { guest, request } => put_waiting(guest, request, out),
     }
 }
 
@@ -101,12 +104,13 @@ fn execute(stage: &mut Stage, row: &Row, out: &mut Words) -> Result<(), RowStop>
 fn turn(stage: &mut Stage, row: &Row, out: &mut Words) -> Result<(), RowStop> {
     let slot = row.short(0)?;
     let play = playing(&mut stage.play)?;
-    out.put(match play.turn(slot) {
-        Turned::Empty => "empty",
-        Turned::Copy => "copy",
-        Turned::Idle => "idle",
-        Turned::Became => "became",
-    });
+    match play.turn(slot) {
+        Turned::Empty => out.put("empty"),
+        Turned::Copy => out.put("copy"),
+        Turned::Idle => out.put("idle"),
+        Turned::Later { guest, request } => put_waiting(guest, request, out),
+        Turned::Became => out.put("became"),
+    }
     Ok(())
 }
 
