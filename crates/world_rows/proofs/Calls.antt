@@ -6,8 +6,9 @@ use Rattle.blk_history.specs.Fold.{With}
 use Rattle.blk_history.specs.Legal.{IsFlightOver}
 use Rattle.blk_history.specs.Machine.{Flight}
 use Rattle.blk_history.specs.declared.entry.Refused.{Refused as Why}
-use Rattle.blk_history.specs.declared.event.Event.TheVariants.{Admit, Refuse, Piece, Retire, Start, End}
+use Rattle.blk_history.specs.declared.event.Event.TheVariants.{Admit, Refuse, Piece, Retire, Start, Ready, End}
 use Rattle.flat_machine.specs.Machine.{admitted, finished, past_piece}
+use Rattle.flat_machine.specs.Marks.{Drained}
 use Rattle.flat_machine.specs.State.{drive_of}
 use Rattle.qmp_rules.specs.Chains.{disk_node}
 use Rattle.qmp_rules.specs.declared.rows.JobRecord.{JobRecord}
@@ -15,7 +16,7 @@ use Rattle.trace_codec.specs.Request.{pieces_of}
 use Rattle.trace_codec.specs.declared.op.Op.{Op}
 use Rattle.trace_codec.specs.declared.op.Op.TheVariants.{Read, Write, Zero, Flush, Discard}
 use Rattle.world_jobs.specs.Guarding.{backup_of}
-use Rattle.world_jobs.specs.Turning.{IsTurned}
+use Rattle.world_jobs.specs.Turning.{EndsInTurn, IsTurned, ReadiesInTurn}
 use Rattle.world_jobs.specs.declared.turned.Turned.{Turned}
 use Rattle.world_jobs.specs.declared.turned.Turned.TheVariants as turned
 use Rattle.world_parts.specs.Carrying.{AnswersLine, IsExecuted, IsPutBack, reply_entry}
@@ -197,17 +198,29 @@ module _ (w v : WorldSeen) (left : ℕ) (line : Given) (ready : IsReady w (4 + l
 -- ---- a job has its turn
 
 module _ (w v : WorldSeen) (left : ℕ) (ready : IsReady w left) where
-  stays : v ≡ w → IsReady v left
-  stays same = subst (λ (x : WorldSeen). IsReady x left) (sym same) ready
+  -- but for the disks that jobs hold
+  held : (drains : Drained) → v ≡ record w { drains = drains } → IsReady v left
+  held drains same = same_ready w v left (ap (λ (x : WorldSeen). is_some x.files) same) (ap (λ (x : WorldSeen). x.progress) same) ready
 
-  pub turned_now : (slot : ℕ) (t : Turned) → IsTurned w v slot t → IsReady v left
-  turned_now slot turned.Empty did = stays did.1
-  turned_now slot turned.Copy did = stays did.kept
-  turned_now slot turned.Idle did = stays did.kept
-  turned_now slot turned.Became did =
+  became : (slot : ℕ) → EndsInTurn w v slot ⊎ ReadiesInTurn w v slot → IsReady v left
+  became slot (inl did) =
       subst (λ (x : WorldSeen). IsReady x left) (sym did.ends.kept) (record {
         untold = ready.untold;
         ended = ended-push w.progress.log.events (End did.has.row.number did.why did.offset) refl ∙ ready.ended;
         guest = ready.guest;
         room = ready.room;
       })
+  became slot (inr did) =
+      subst (λ (x : WorldSeen). IsReady x left) (sym did.readies.kept) (record {
+        untold = ready.untold;
+        ended = ended-push w.progress.log.events (Ready did.has.row.number) refl ∙ ready.ended;
+        guest = ready.guest;
+        room = ready.room;
+      })
+
+  pub turned_now : (slot : ℕ) (t : Turned) → IsTurned w v slot t → IsReady v left
+  turned_now slot turned.Empty did = held w.drains did.1
+  turned_now slot turned.Copy did = held _ did.kept
+  turned_now slot turned.Idle did = held _ did.kept
+  turned_now slot (turned.Later guest request) did = held _ did.kept
+  turned_now slot turned.Became did = became slot did
