@@ -1,0 +1,12 @@
+pub mod CommitsKept
+pub mod CommitsAside
+pub mod CommitsLeft
+pub mod CommitsPut
+pub mod CommitsLinked
+pub mod CommitsAlong
+pub mod CommitsTurns
+pub mod StreamOwn
+pub mod StreamSteps
+pub mod StreamEnds
+pub mod StreamLeft
+pub mod StreamOver
