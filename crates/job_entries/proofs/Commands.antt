@@ -35,7 +35,7 @@ use Rattle.job_entries.proofs.Starting.{start_steps}
 
 -- ---- what suits a state suits its table
 
-suits_table : (s : State) (c : Change) → Suits s c → TableSuits s.table c
+pub suits_table : (s : State) (c : Change) → Suits s c → TableSuits s.table c
 suits_table s change.Negotiate h = tt
 suits_table s (change.KeepId id) h = tt
 suits_table s (change.DropId id) h = tt
@@ -69,7 +69,7 @@ suits_table s (change.TurnBitmap node name on) h = tt
 suits_table s (change.ClearBitmap node name) h = tt
 suits_table s (change.MergeBitmap node name source_node source) h = tt
 
-suit_tables : (changes : List Change) (s : State) → AllSuit s changes → AllTableSuit s.table changes
+pub suit_tables : (changes : List Change) (s : State) → AllSuit s changes → AllTableSuit s.table changes
 suit_tables [] s h = tt
 suit_tables (c ∷ changes) s h = (suits_table s c h.0, suit_tables changes (stepped s c) h.1)
 

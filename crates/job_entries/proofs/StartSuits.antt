@@ -168,6 +168,42 @@ module _ (s : State) (h : TableStands s.table) (target : ℕ) where
       by_row None e = unused None e (λ row is name over. (let bad : None ≡ Some row = is in cc))
       by_row (Some row) e = by_name row e (is_file row) refl row.filename refl
 
+-- ---- a node that it holds
+
+-- no filter of a job is over it, for that job would hold it
+pub no_filter_over : (t : RunTable) → TableStands t → JobsStand t → EdgesAreDrawn t → (row : JobRecord) → JobBegins t row → (held : ℕ) → Contains row.held held
+    → (edge : Edge) → Contains t.edges edge → edge.child ≡ held → edge.role ≢ Filtered
+no_filter_over t h j d row b held holds edge there at role = by_parent edge.parent refl (d.table edge there)
+  where
+    no_use : (what : JobUse) → job_role what ≢ Filtered
+    no_use CopyTarget is = cc
+    no_use CommitTop is = cc
+    no_use CommitBetween is = cc
+    no_use CommitBase is = cc
+    no_use StreamTop is = cc
+    no_use StreamBelow is = cc
+
+    over : (f : ℕ) → edge.parent ≡ Node f → (found : Option NodeRecord) → node_by_id t f ≡ found → IsSome found → ⊥
+    over f from None e some = cc
+    over f from (Some node) e some =
+        let here = find-Some (λ (r : NodeRecord). r.id == f) t.nodes node e in
+        let from_node : edge.parent ≡ Node node.id = from ∙ ap Node (sym (eqb-true node.id f here.1)) in
+        let has = subst (λ r. has_role node.kind r ≡ true) role (h.roles edge node there here.0 from_node) in
+        let of = j.filters node here.0 (of_job_by node.kind has) in
+        let stands = j.each of.row of.there in
+        let filter = filter_of t of.row of.row.kind stands.shape node.id of.filter in
+        let leads : edge.child ≡ of.row.source
+        = child_is t h j d edge node.id of.row.source Filtered there from_node role (λ bad. (let no : Filtered ≡ Between = bad in cc))
+        (subst (λ n. child t n Filtered ≡ Some of.row.source) filter.3 filter.2.over) in
+        let same : of.row.source ≡ held = sym leads ∙ at in
+        b.holds of.row held of.there holds
+        (subst (Contains (nodes_of_job of.row)) same (in_left of.row.held of.row.read of.row.source (holds_source t of.row stands)))
+
+    by_parent : (p : Parent) → edge.parent ≡ p → IsOf (kinds_of t.nodes) edge p → ⊥
+    by_parent (Guest g) from of = (let bad : Drive ≡ Filtered = sym (ap (λ (e : Edge). e.role) of.is) ∙ role in cc)
+    by_parent (Job slot) from of = no_use of.what (sym (ap (λ (e : Edge). e.role) of.is) ∙ role)
+    by_parent (Node f) from of = over f from (node_by_id t f) refl ((h.edges edge there).parent f from)
+
 -- ---- a filter over the source
 
 module _ (s : State) (h : TableStands s.table) (j : JobsStand s.table) (d : EdgesAreDrawn s.table) (row : JobRecord) (b : JobBegins s.table row) where
@@ -185,39 +221,6 @@ module _ (s : State) (h : TableStands s.table) (j : JobsStand s.table) (d : Edge
       by_kind Commit x = first (x.between ++ x.base ∷ []) x.held
       by_kind Mirror x = first (x.copies.target ∷ []) x.copies.held
       by_kind Backup x = first (x.target ∷ []) x.held
-
-  -- no filter of a job is over it, for that job would hold it
-  unfiltered : (edge : Edge) → Contains s.table.edges edge → edge.child ≡ row.source → edge.role ≢ Filtered
-  unfiltered edge there at role = by_parent edge.parent refl (d.table edge there)
-    where
-      no_use : (what : JobUse) → job_role what ≢ Filtered
-      no_use CopyTarget is = cc
-      no_use CommitTop is = cc
-      no_use CommitBetween is = cc
-      no_use CommitBase is = cc
-      no_use StreamTop is = cc
-      no_use StreamBelow is = cc
-
-      over : (f : ℕ) → edge.parent ≡ Node f → (found : Option NodeRecord) → node_by_id s.table f ≡ found → IsSome found → ⊥
-      over f from None e some = cc
-      over f from (Some node) e some =
-          let here = find-Some (λ (r : NodeRecord). r.id == f) s.table.nodes node e in
-          let from_node : edge.parent ≡ Node node.id = from ∙ ap Node (sym (eqb-true node.id f here.1)) in
-          let has = subst (λ r. has_role node.kind r ≡ true) role (h.roles edge node there here.0 from_node) in
-          let of = j.filters node here.0 (of_job_by node.kind has) in
-          let stands = j.each of.row of.there in
-          let filter = filter_of s.table of.row of.row.kind stands.shape node.id of.filter in
-          let leads : edge.child ≡ of.row.source
-          = child_is s.table h j d edge node.id of.row.source Filtered there from_node role (λ bad. (let no : Filtered ≡ Between = bad in cc))
-          (subst (λ n. child s.table n Filtered ≡ Some of.row.source) filter.3 filter.2.over) in
-          let same : of.row.source ≡ row.source = sym leads ∙ at in
-          b.holds of.row row.source of.there source_held
-          (subst (Contains (nodes_of_job of.row)) same (in_left of.row.held of.row.read of.row.source (holds_source s.table of.row stands)))
-
-      by_parent : (p : Parent) → edge.parent ≡ p → IsOf (kinds_of s.table.nodes) edge p → ⊥
-      by_parent (Guest g) from of = (let bad : Drive ≡ Filtered = sym (ap (λ (e : Edge). e.role) of.is) ∙ role in cc)
-      by_parent (Job slot) from of = no_use of.what (sym (ap (λ (e : Edge). e.role) of.is) ∙ role)
-      by_parent (Node f) from of = over f from (node_by_id s.table f) refl ((h.edges edge there).parent f from)
 
   module _ (pre : List Change) (early : AreBefore pre) where
     abbrev ready : State
@@ -260,7 +263,7 @@ module _ (s : State) (h : TableStands s.table) (j : JobsStand s.table) (d : Edge
         writable = may_write;
         single = λ edge there at role.
             let was = alike.edges edge there in
-            unfiltered was.edge was.there (was.same.child ∙ at ∙ source_id) (was.same.role ∙ role);
+            no_filter_over s.table h j d row b row.source source_held was.edge was.there (was.same.child ∙ at ∙ source_id) (was.same.role ∙ role);
       }
 
       -- a node that the job uses is plain by then

@@ -163,19 +163,19 @@ unknown_kept s (change.StartJob row) name m is =
 unknown_kept s c name m is = is
 
 -- a disk that is left was left, or is that of the node that goes
-record IsLeftBy (s : State) (node : ℕ) (l : Left) : Type 0 where
-  row : NodeRecord
-  at : node_by_id s.table node ≡ Some row
-  file : own_filename s.table row row.kind ≡ Some l.file
+pub record IsLeftBy (s : State) (node : ℕ) (l : Left) : Type 0 where
+  pub row : NodeRecord
+  pub at : node_by_id s.table node ≡ Some row
+  pub file : own_filename s.table row row.kind ≡ Some l.file
 
-abbrev LeavesMore : State → Change → Left → Type 0
+abbrev pub LeavesMore : State → Change → Left → Type 0
 LeavesMore s (change.RemoveNode node) l = IsLeftBy s node l
 LeavesMore s c l = ⊥
 
 left_in_same : (s now : State) (l : Left) → HasSameFiles s now → Contains now.left l → Contains s.left l
 left_in_same s now l same at = subst (λ ls. Contains ls l) same.left at
 
-left_before : (s : State) (c : Change) (l : Left) → Contains (stepped s c).left l → Contains s.left l ⊎ LeavesMore s c l
+pub left_before : (s : State) (c : Change) (l : Left) → Contains (stepped s c).left l → Contains s.left l ⊎ LeavesMore s c l
 left_before s (change.MakeFile other size) l at = inl (Contains-filter (λ (x : Left). not (bytes_eq x.file other)) s.left l at).0
 left_before s (change.FormatFile node other size backing_file backing_fmt) l at = inl (Contains-filter (λ (x : Left). not (bytes_eq x.file other)) s.left l at).0
 left_before s (change.SpoilFile other) l at = inl (Contains-filter (λ (x : Left). not (bytes_eq x.file other)) s.left l at).0

@@ -1,0 +1,4 @@
+pub mod Sizes
+pub mod Headers
+pub mod Lent
+pub mod Aside
