@@ -7,6 +7,7 @@ use Rattle.blk_history.specs.declared.event.Event.TheVariants.{Start}
 use Rattle.qmp_codec.specs.Commands.{Cmd}
 use Rattle.qmp_codec.specs.declared.command.Command.TheVariants as command
 use Rattle.qmp_codec.specs.declared.jobs.Backup.{Backup}
+use Rattle.qmp_codec.specs.declared.jobs.Commit.{Commit}
 use Rattle.qmp_codec.specs.declared.jobs.Mirror.{Mirror}
 use Rattle.qmp_codec.specs.declared.nodes.Created.{Created}
 use Rattle.qmp_codec.specs.declared.nodes.Created.TheVariants as created
@@ -16,7 +17,7 @@ use Rattle.qmp_rules.specs.declared.change.Change.TheVariants as change
 use Rattle.qmp_rules.specs.declared.rows.JobRecord.{JobRecord}
 use Rattle.qmp_rules.specs.declared.told.Told.{Told}
 use Rattle.qmp_rules.specs.Changes.{changed, all_changed}
-use Rattle.qmp_rules.specs.Edits.{backup_job, mirror_job, edits_of, spoiled}
+use Rattle.qmp_rules.specs.Edits.{backup_job, commit_job, mirror_job, edits_of, spoiled}
 use Rattle.qmp_rules.specs.Table.{RunTable, job_at}
 use Rattle.flat_machine.specs.Changed.{all_stepped}
 use Rattle.flat_machine.specs.Jobs.{started}
@@ -35,11 +36,11 @@ use Rattle.job_tables.specs.Jobs.{JobsStand, EdgesAreDrawn}
 use Rattle.job_tables.specs.Rows.{nodes_of_job}
 use Rattle.job_tables.specs.Running.{JobsRun}
 use Rattle.job_tables.proofs.RowEdges.{in_left, holds_source}
-use Rattle.job_tables.proofs.StartCommands.{met_backup, met_mirror}
+use Rattle.job_tables.proofs.StartCommands.{met_backup, met_commit, met_mirror}
 use Rattle.job_tables.proofs.Started.{starts_stand}
 use Rattle.job_commands.specs.Begun.{IsOneCommand, job_begun}
 use Rattle.job_commands.specs.Whole.{DisksAreWhole}
-use Rattle.job_commands.proofs.Copied.{backup_finds, mirror_finds}
+use Rattle.job_commands.proofs.Copied.{backup_finds, mirror_finds, commit_finds}
 use Rattle.job_commands.proofs.Copies.{begun_number, begun_among, command_found}
 use Rattle.job_commands.proofs.Shapes.{ChangesBitmap, MayChange, command_spares, BeginsAmong}
 use Rattle.job_commands.proofs.Spared.{SparesJobs, AllSpareJobs, sparing_keeps_jobs, all_prepare_spare, IsUse, AreUses}
@@ -157,3 +158,13 @@ mirror_begun s told exp c h j r d met rest whole have =
     (subst JobsStand (sym (stepped_table (edits_of s.table exp (command.BlockdevMirror c)) s))
     (starts_stand s.table (mirror_job s.table c) h.stands j (met_mirror s.table told c h.stands j r d met).job))
     (mirror_finds s told exp c h.stands j met whole)
+
+pub commit_begun : (s : State) (told exp : Told) (c : Commit (List ℕ)) → TableAtRest s.table → JobsStand s.table → JobsRun s.table → EdgesAreDrawn s.table
+    → IsMet s.table told (command.BlockCommit c) → IsAtRest s → DisksAreWhole s → HaveBegun s
+    → HaveBegun (after (all_stepped s (edits_of s.table exp (command.BlockCommit c))) (Start s.table.started))
+unfolding edits_of
+commit_begun s told exp c h j r d met rest whole have =
+    start_begun s told exp (command.BlockCommit c) (commit_job s.table c) h j r tt met rest have refl
+    (subst JobsStand (sym (stepped_table (edits_of s.table exp (command.BlockCommit c)) s))
+    (starts_stand s.table (commit_job s.table c) h.stands j (met_commit s.table told c h.stands j r d met)))
+    (commit_finds s told exp c h.stands j r d met whole)

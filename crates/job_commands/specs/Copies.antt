@@ -1,4 +1,4 @@
--- What a backup or a mirror needs of disks to begin, and what goes on behind its start.
+-- What a backup, a mirror or a commit needs of disks to begin, and what goes on behind its start.
 use Rattle.std.specs.Prelude.{ℕ, List}
 use Rattle.blk_history.specs.declared.event.Event.{Event}
 use Rattle.block_jobs.specs.Work.{JobWork}
@@ -16,7 +16,7 @@ pub record DisksStand (s : State) (c : Contents) : Type 0 where
   pub agree : ReadAsDisks s c
   pub granules : GranulesStand s.table s.dirty
 
--- each backup and mirror has come as far as its work says, and works are those of the table
+-- each backup, mirror and commit has come as far as its work says, and works are those of the table
 pub record CopiesGoOn (first : State) (h : List Event) (s : State) (reads : ℕ → List ℕ)
     (works : List JobWork) : Type 0 where
   pub ahead : AreJobsAhead first h s reads works

@@ -7,9 +7,10 @@ ghost use Rattle.blk_history.specs.declared.event.Event.{Event};
 ghost use Rattle.blk_history.specs.declared.event.Event.TheVariants.{Start};
 ghost use Rattle.block_jobs.specs.Work.{JobWork};
 ghost use Rattle.qmp_codec.specs.Commands.{Cmd};
-ghost use Rattle.qmp_codec.specs.declared.command.Command.TheVariants.{BlockdevBackup, BlockdevMirror};
+ghost use Rattle.qmp_codec.specs.declared.command.Command.TheVariants.{BlockCommit, BlockdevBackup, BlockdevMirror};
 ghost use Rattle.qmp_codec.specs.declared.command.Command.TheVariants.{BlockdevCreate as BlockdevCreateOf};
 ghost use Rattle.qmp_codec.specs.declared.jobs.Backup.{Backup};
+ghost use Rattle.qmp_codec.specs.declared.jobs.Commit.{Commit};
 ghost use Rattle.qmp_codec.specs.declared.jobs.Mirror.{Mirror};
 ghost use Rattle.qmp_codec.specs.declared.nodes.BlockdevCreate.{BlockdevCreate};
 ghost use Rattle.qmp_rules.specs.declared.change.Change.{Change};
@@ -20,7 +21,7 @@ ghost use Rattle.qmp_rules.specs.declared.told.Told.{Told};
 ghost use Rattle.qmp_rules.specs.Answers.{refusal_to};
 ghost use Rattle.qmp_rules.specs.Chains.{disk_node};
 ghost use Rattle.qmp_rules.specs.Changes.{all_changed};
-ghost use Rattle.qmp_rules.specs.Edits.{backup_job, mirror_job, edits_of, spoiled};
+ghost use Rattle.qmp_rules.specs.Edits.{backup_job, commit_job, mirror_job, edits_of, spoiled};
 ghost use Rattle.qmp_rules.specs.Ends.{end_edits};
 ghost use Rattle.qmp_rules.specs.Queries.{bytes_of_node};
 ghost use Rattle.qmp_rules.specs.Refusals.{place_of};
@@ -65,7 +66,7 @@ pub fn accepted_commands_leave_copies()
         → AllLeaveCopies works t (spoiled t c.options) }
 {}
 
-/// So where they were performed, backups and mirrors are as far as before.
+/// So where they were performed, backups, mirrors and commits are as far as before.
 pub fn backups_and_mirrors_go_on()
     ensures accepted { (first s : State) (h : List Event) (told expected : Told) (c : Cmd)
         (old new : Contents) (works : List JobWork) → TableAtRest s.table → JobsStand s.table
@@ -116,8 +117,8 @@ pub fn uses_of_bitmaps_go_on()
         → UsesStand (after s e).table }
 {}
 
-/// What starts found stands behind accepted commands and failed creations, and behind the Start of a backup or a mirror, which finds whole
-/// disks where all are whole.
+/// What starts found stands behind accepted commands and failed creations, and behind the Start of a backup, a mirror or a commit, which
+/// finds whole disks where all are whole.
 pub fn jobs_have_begun_still()
     ensures accepted { (s : State) (told expected : Told) (c : Cmd) → TableAtRest s.table
         → JobsStand s.table → JobsRun s.table → IsOneCommand c → IsMet s.table told c → IsAtRest s
@@ -140,10 +141,15 @@ pub fn jobs_have_begun_still()
         → IsMet s.table told (BlockdevMirror c) → IsAtRest s → DisksAreWhole s → HaveBegun s
         → HaveBegun (after (all_stepped s (edits_of s.table expected (BlockdevMirror c)))
         (Start s.table.started)) }
+    ensures commit { (s : State) (told expected : Told) (c : Commit (List ℕ))
+        → TableAtRest s.table → JobsStand s.table → JobsRun s.table → EdgesAreDrawn s.table
+        → IsMet s.table told (BlockCommit c) → IsAtRest s → DisksAreWhole s → HaveBegun s
+        → HaveBegun (after (all_stepped s (edits_of s.table expected (BlockCommit c)))
+        (Start s.table.started)) }
 {}
 
-/// The job of an accepted backup or mirror can be copied behind the reply, where all disks are whole, and granules are as their nodes'
-/// disks have them.
+/// The job of an accepted backup, mirror or commit can be copied behind the reply, where all disks are whole, and granules are as their
+/// nodes' disks have them.
 pub fn accepted_copies_can_be_made()
     ensures backup { (s : State) (told expected : Told) (c : Backup (List ℕ)) (target : ℕ)
         (old new : Contents) → TableStands s.table → JobsStand s.table
@@ -158,6 +164,13 @@ pub fn accepted_copies_can_be_made()
         → DisksStand s old → ShowsFilter (mirror_job s.table c) old new
         → CanBeCopied (all_stepped s (edits_of s.table expected (BlockdevMirror c))) new.reads
         (mirror_job s.table c) target }
+    ensures commit { (s : State) (told expected : Told) (c : Commit (List ℕ)) (base : ℕ)
+        (old new : Contents) → TableStands s.table → JobsStand s.table → JobsRun s.table
+        → EdgesAreDrawn s.table → IsMet s.table told (BlockCommit c)
+        → (commit_job s.table c).target ≡ Some base → DisksStand s old
+        → ShowsFilter (commit_job s.table c) old new
+        → CanBeCopied (all_stepped s (edits_of s.table expected (BlockCommit c))) new.reads
+        (commit_job s.table c) base }
 {}
 
 /// Granules are a power of two each, as many as the disk of a node that no job has put: so it is at the beginning, behind accepted commands
@@ -207,7 +220,7 @@ pub fn disks_stay_whole()
         → DisksAreWhole s → DisksAreWhole now }
 {}
 
-/// So behind the reply to its command and its start each backup and mirror goes on, and the new one among them has its work.
+/// So behind the reply to its command and its start each backup, mirror and commit goes on, and the new one among them has its work.
 pub fn begun_copies_go_on()
     ensures backup { (first s : State) (h : List Event) (e : Event) (told expected : Told)
         (c : Backup (List ℕ)) (target : ℕ) (old new : Contents) (works : List JobWork)
@@ -235,4 +248,17 @@ pub fn begun_copies_go_on()
         (Start s.table.started)) new.reads
         (works ++ work_begun (all_stepped s (edits_of s.table expected (BlockdevMirror c)))
         (mirror_job s.table c) ∷ []) }
+    ensures commit { (first s : State) (h : List Event) (e : Event) (told expected : Told)
+        (c : Commit (List ℕ)) (base : ℕ) (old new : Contents) (works : List JobWork)
+        → TableAtRest s.table → JobsStand s.table → JobsRun s.table → IsAtRest s → HaveBegun s
+        → AreWorksOf s.table works → DisksStand s old → EdgesAreDrawn s.table
+        → IsMet s.table told (BlockCommit c) → (commit_job s.table c).target ≡ Some base
+        → ShowsFilter (commit_job s.table c) old new
+        → bytes_of_node (all_stepped s (edits_of s.table expected (BlockCommit c))).table
+        (commit_job s.table c).source ≤ 2 ^ 47 → AreJobsAhead first h s old.reads works
+        → CopiesGoOn first ((h ++ e ∷ []) ++ Start s.table.started ∷ [])
+        (after (all_stepped s (edits_of s.table expected (BlockCommit c)))
+        (Start s.table.started)) new.reads
+        (works ++ work_begun (all_stepped s (edits_of s.table expected (BlockCommit c)))
+        (commit_job s.table c) ∷ []) }
 {}

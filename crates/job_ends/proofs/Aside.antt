@@ -16,20 +16,20 @@ use Rattle.flat_machine.specs.State.{Content, Left, Mapped, MapsNone, MapsSome, 
 use Rattle.flat_machine.specs.Agreement.{Agrees, Contents, HasDisk, IsAsKnown}
 use Rattle.flat_machine.specs.Changed.{written_file}
 use Rattle.flat_machine.specs.Final.{IsDiskIn}
-use Rattle.flat_machine.specs.Imaging.{ShowsImage, ShowsImages, is_qcow2_at, maps_some}
+use Rattle.flat_machine.specs.Imaging.{KeepsMapping, ShowsImage, ShowsImages, is_qcow2_at, maps_some}
 use Rattle.flat_machine.specs.Jobs.{target_written}
 use Rattle.flat_machine.specs.Legal.{AllStarted}
-use Rattle.flat_machine.specs.Performing.{CanRewrite}
+use Rattle.flat_machine.specs.Performing.{CanRewrite, HeldSame}
 use Rattle.flat_machine.specs.Sights.{AgreesWith, mapped_at}
 use Rattle.flat_machine.specs.Standing.{IsUsedUp, Stands}
-use Rattle.flat_machine.specs.Suiting.{IsPlainNode}
+use Rattle.flat_machine.specs.Suiting.{IsPlainNode, NoneLeftIn}
 use Rattle.flat_machine.specs.Wiring.{LeadsToFile, TableStands}
 use Rattle.flat_machine.proofs.Finds.{cases_name}
 use Rattle.flat_machine.proofs.ImagesKept.{IsImageIn, image_in_file, image_still, nothing_said}
 use Rattle.flat_machine.proofs.WritingKept.{IsNoFilter, WritesFileUnder, role_edge, writes_file}
 use Rattle.job_tables.specs.Running.{IsWrittenAt, JobsRun}
 use Rattle.job_tables.specs.TargetFiles.{IsCopier, TargetFilesStand}
-use Rattle.job_ends.specs.Targets.{WritesAside}
+use Rattle.job_ends.specs.Targets.{WritesAside, WritesBase}
 use Rattle.job_ends.proofs.Ends.{all_of}
 
 -- ---- a plain node that is written, and has no disk
@@ -99,15 +99,10 @@ module _ (s : State) (h : Stands s) (node : ℕ) (p : IsPlainNode s.table node) 
           ]);
     }
 
-    pub aside_agrees : (opening : List ℕ → Option (List ℕ)) (old new : Contents) → WritesAside s.table node old new → Agrees opening s old
+    pub base_agrees : (opening : List ℕ → Option (List ℕ)) (old new : Contents) → WritesBase s node old new → Agrees opening s old
         → Agrees opening s new
-    aside_agrees opening old new did agrees = record {
-      disks = λ n r found disk.
-          let at = find-Some (λ (x : NodeRecord). x.id == n) s.table.nodes r found in
-          did.nodes n (λ but. elim but [
-            | inl same ↦ false≢true (sym (w.unsettled r at.0 (eqb-true r.id n at.1 ∙ same)) ∙ disk.settled)
-            | inr file ↦ no_disk n r file found disk
-          ]) ∙ agrees.disks n r found disk;
+    base_agrees opening old new did agrees = record {
+      disks = λ n r found disk. did.nodes n r found disk ∙ agrees.disks n r found disk;
       known = by_content;
       absent = λ name none.
           did.files name (λ is. let bad : None ≡ Some Unknown = sym none ∙ written_free.known name is in cc bad) ∙ agrees.absent name none;
@@ -137,10 +132,25 @@ module _ (s : State) (h : Stands s) (node : ℕ) (p : IsPlainNode s.table node) 
         by_content : (name : List ℕ) (content : Content) → content_in s.files name ≡ Some content → IsAsKnown content (new.held name)
         by_content name content found = by_file name content found (written_file s.table node) refl
 
+    pub aside_agrees : (opening : List ℕ → Option (List ℕ)) (old new : Contents) → WritesAside s.table node old new → Agrees opening s old
+        → Agrees opening s new
+    aside_agrees opening old new did =
+        base_agrees opening old new (record {
+          nodes = λ n r found disk.
+              let at = find-Some (λ (x : NodeRecord). x.id == n) s.table.nodes r found in
+              did.nodes n (λ but. elim but [
+                | inl same ↦ false≢true (sym (w.unsettled r at.0 (eqb-true r.id n at.1 ∙ same)) ∙ disk.settled)
+                | inr file ↦ no_disk n r file found disk
+              ]);
+          files = did.files;
+          mapping = did.mapping;
+        })
+
 -- ---- images
 
 module _ (s : State) (stands : TableStands s.table) (node : ℕ) (p : IsPlainNode s.table node) (unsure : mapped_at s.images node ≢ MapsNone)
-    (old new : Contents) (did : WritesAside s.table node old new) (h : ShowsImages s old) where
+    (old new : Contents) (files : HeldSame (λ name. written_file s.table node ≡ Some name) old new) (mapping : KeepsMapping s.table node old new)
+    (h : ShowsImages s old) where
   -- no other image is in its file
   apart : (n : ℕ) (name : List ℕ) → n ≢ node → is_qcow2_at s.table n ≡ true → written_file s.table n ≡ Some name → written_file s.table node ≡ Some name → ⊥
   apart n name differ image is its = by_from of.from
@@ -195,11 +205,11 @@ module _ (s : State) (stands : TableStands s.table) (node : ℕ) (p : IsPlainNod
 
       by_mapped : (m : Mapped) → mapped_at s.images node ≡ m → AgreesWith m (maps_some file)
       by_mapped MapsNone e = absurd (unsure e)
-      by_mapped MapsSome e = by_held e (old.held name) refl (did.mapping image name file is told)
+      by_mapped MapsSome e = by_held e (old.held name) refl (mapping image name file is told)
       by_mapped Unsure e = tt
 
-  pub aside_shows : ShowsImages s new
-  aside_shows n = elim (cases_eq n node) [
+  pub file_shows : ShowsImages s new
+  file_shows n = elim (cases_eq n node) [
     | inl same ↦ subst (ShowsImage s new) (sym same) (record { noted = (h node).noted; mapped = own_shown (is_qcow2_at s.table node) refl })
     | inr differ ↦
         image_still s s old new n
@@ -207,7 +217,7 @@ module _ (s : State) (stands : TableStands s.table) (node : ℕ) (p : IsPlainNod
           entry = refl;
           kind = refl;
           file = λ name image is. is;
-          held = λ image name is. did.files name (λ its. apart n name differ image is its);
+          held = λ image name is. files name (λ its. apart n name differ image is its);
         })
         (h n)
   ]
@@ -217,22 +227,20 @@ module _ (s : State) (stands : TableStands s.table) (node : ℕ) (p : IsPlainNod
       own_shown false other name file is told = nothing_said s.images node (maps_some file) ((h node).noted ∙ other)
       own_shown true image name file is told = own_mapped image name file is told
 
+pub aside_shows : (s : State) → TableStands s.table → (node : ℕ) → IsPlainNode s.table node → mapped_at s.images node ≢ MapsNone → (old new : Contents)
+    → WritesAside s.table node old new → ShowsImages s old → ShowsImages s new
+aside_shows s stands node p unsure old new did = file_shows s stands node p unsure old new did.files did.mapping
+
 -- ---- nothing is written, or more than once
 
-pub aside_none : (t : RunTable) (target : ℕ) (c : Contents) → WritesAside t target c c
-aside_none t target c = record {
-  nodes = λ node other. refl;
-  files = λ name other. refl;
-  mapping = λ image name after is held. subst (λ o. With o (λ before. maps_some before ≡ true → maps_some after ≡ true)) (sym held) (λ some. some);
-}
+mapping_none : (t : RunTable) (target : ℕ) (c : Contents) → KeepsMapping t target c c
+mapping_none t target c image name after is held =
+    subst (λ o. With o (λ before. maps_some before ≡ true → maps_some after ≡ true)) (sym held) (λ some. some)
 
-pub aside_turn : (t : RunTable) (target : ℕ) (old between new : Contents) → WritesAside t target old between → WritesAside t target between new
-    → WritesAside t target old new
-aside_turn t target old between new first second = record {
-  nodes = λ node other. second.nodes node other ∙ first.nodes node other;
-  files = λ name other. second.files name other ∙ first.files name other;
-  mapping = λ image name after is held. by_held image name after is (between.held name) refl (second.mapping image name after is held);
-}
+mapping_turn : (t : RunTable) (target : ℕ) (old between new : Contents) → KeepsMapping t target old between → KeepsMapping t target between new
+    → KeepsMapping t target old new
+mapping_turn t target old between new first second image name after is held =
+    by_held image name after is (between.held name) refl (second image name after is held)
   where
     still : (before : Option (List ℕ)) (mid after : List ℕ) → (maps_some mid ≡ true → maps_some after ≡ true)
         → With before (λ b. maps_some b ≡ true → maps_some mid ≡ true) → With before (λ b. maps_some b ≡ true → maps_some after ≡ true)
@@ -242,7 +250,28 @@ aside_turn t target old between new first second = record {
     by_held : is_qcow2_at t target ≡ true → (name after : List ℕ) → written_file t target ≡ Some name → (mid : Option (List ℕ)) → between.held name ≡ mid
         → With mid (λ b. maps_some b ≡ true → maps_some after ≡ true) → With (old.held name) (λ b. maps_some b ≡ true → maps_some after ≡ true)
     by_held image name after is None e next = absurd next
-    by_held image name after is (Some mid) e next = still (old.held name) mid after next (first.mapping image name mid is e)
+    by_held image name after is (Some mid) e next = still (old.held name) mid after next (first image name mid is e)
+
+pub aside_none : (t : RunTable) (target : ℕ) (c : Contents) → WritesAside t target c c
+aside_none t target c = record { nodes = λ node other. refl; files = λ name other. refl; mapping = mapping_none t target c }
+
+pub aside_turn : (t : RunTable) (target : ℕ) (old between new : Contents) → WritesAside t target old between → WritesAside t target between new
+    → WritesAside t target old new
+aside_turn t target old between new first second = record {
+  nodes = λ node other. second.nodes node other ∙ first.nodes node other;
+  files = λ name other. second.files name other ∙ first.files name other;
+  mapping = mapping_turn t target old between new first.mapping second.mapping;
+}
+
+pub base_none : (s : State) (base : ℕ) (c : Contents) → WritesBase s base c c
+base_none s base c = record { nodes = λ node row found disk. refl; files = λ name other. refl; mapping = mapping_none s.table base c }
+
+pub base_turn : (s : State) (base : ℕ) (old between new : Contents) → WritesBase s base old between → WritesBase s base between new → WritesBase s base old new
+base_turn s base old between new first second = record {
+  nodes = λ node row found disk. second.nodes node row found disk ∙ first.nodes node row found disk;
+  files = λ name other. second.files name other ∙ first.files name other;
+  mapping = mapping_turn s.table base old between new first.mapping second.mapping;
+}
 
 -- ---- the target of a backup or mirror
 
@@ -259,3 +288,14 @@ module _ (s : State) (row : JobRecord) (target : ℕ) (h : Stands s) (run : Jobs
       (λ l at.
       files.none_left row name l here (subst (λ n. row.number < n) (sym started) (run.numbers row here)) copies
       (record { node = r; there = there; target = written ∙ ap Some (sym id); filename = named }) at))
+
+-- ---- the base of a commit
+
+module _ (s : State) (row : JobRecord) (base : ℕ) (h : Stands s) (run : JobsRun s.table) (files : TargetFilesStand s) (here : Contains s.table.jobs row)
+    (written : target_written row ≡ Some base) (p : IsPlainNode s.table base) (left : NoneLeftIn s base) where
+  pub commit_agrees : (opening : List ℕ → Option (List ℕ)) (old new : Contents) → WritesBase s base old new → Agrees opening s old → Agrees opening s new
+  commit_agrees =
+      base_agrees s h base p (run.targets row base here written)
+      (λ name r there id named.
+      files.unknown row name here (record { node = r; there = there; target = written ∙ ap Some (sym id); filename = named }))
+      (λ name r there id named. left name r (record { there = there; filename = named }) id)

@@ -1,4 +1,5 @@
--- What the end of a backup or mirror needs of the state, and that its changes are performed where its filter alone goes.
+-- What the end of a backup or mirror needs of the state, and that its changes, and those of a commit, are performed where its
+-- filter alone goes.
 use Rattle.std.proofs.Common.{◌≡◌, ◌≢◌, ℕ, ◌<◌, true, cond, List, [], ◌∷◌, refl, sym, ◌∙◌, ap, subst, Some, None}
 use Rattle.std.specs.Prelude.{◌==◌, All}
 use Rattle.std.specs.List.{Contains}
@@ -30,6 +31,7 @@ use Rattle.job_entries.specs.Ends.{ReadsAsMade, RestsToEnd, ShowsEnd, renamed}
 use Rattle.job_entries.proofs.Ending.{end_performed}
 use Rattle.job_entries.proofs.Headers.{rests_by}
 use Rattle.job_progress.specs.Going.{copies_blocks, goal_by}
+use Rattle.job_progress.specs.Piecing.{follows}
 use Rattle.job_progress.proofs.Copies.{copies_made}
 use Rattle.job_tables.specs.Ends.{EndSuits, TargetSuits, rebased_by}
 use Rattle.job_tables.specs.Jobs.{CopyStands, JobsStand, StandsByKind}
@@ -38,6 +40,7 @@ use Rattle.job_tables.specs.Running.{JobsRun}
 use Rattle.job_tables.specs.TargetFiles.{IsCopier, TargetFilesStand}
 use Rattle.job_tables.proofs.Changes.{plain_no_filter}
 use Rattle.job_tables.proofs.RowEdges.{copy_holds, holds_source, in_left}
+use Rattle.job_tables.proofs.Runs.{target_held as held_target}
 use Rattle.job_tables.specs.Copiers.{CopiesGo}
 use Rattle.job_ends.specs.Rows.{AreCopyRows}
 use Rattle.job_ends.specs.Ended.{LosesFilter, MayEndSo}
@@ -50,7 +53,7 @@ copier Backup is = tt
 copier Stream is = absurd (false≢true is)
 copier Commit is = absurd (false≢true is)
 
-writes : (k : JobKind) → copies_blocks k ≡ true → writes_target k ≡ true
+pub writes : (k : JobKind) → copies_blocks k ≡ true → writes_target k ≡ true
 writes Mirror is = refl
 writes Backup is = refl
 writes Stream is = absurd (false≢true is)
@@ -150,19 +153,18 @@ copy_rests s row h j run here copies =
 
 -- ---- what it leaves
 
-module _ (s : State) (row : JobRecord) (j : JobsStand s.table) (run : JobsRun s.table) (here : Contains s.table.jobs row) (copies : copies_blocks row.kind ≡ true)
-    (rows : AreCopyRows s.table.jobs) where
+-- of whatever writes a target
+module _ (s : State) (row : JobRecord) (j : JobsStand s.table) (run : JobsRun s.table) (here : Contains s.table.jobs row) (written : writes_target row.kind ≡ true) where
   target_plain : (target : ℕ) → row.target ≡ Some target → IsPlainNode s.table target
-  target_plain = target_plain_of s.table row j here copies
+  target_plain target is =
+      let at : target_written row ≡ Some target = ap (λ b. cond b row.target None) written ∙ is in
+      (j.each row here).plain target (in_left row.held row.read target (held_target s.table row (j.each row here) target at))
 
   source_plain : IsPlainNode s.table row.source
   source_plain = (j.each row here).plain row.source (in_left row.held row.read row.source (holds_source s.table row (j.each row here)))
 
   module _ (first : State) (past : List Event) (work : JobWork) (why : JobEnd) (old new : Contents) (reads : ReadAsDisks s old)
-      (may : MayEndSo first past s old.reads row work why) (loses : LosesFilter row old new) where
-    same_at : (node : ℕ) → IsPlainNode s.table node → new.reads node ≡ old.reads node
-    same_at node p = loses.nodes node (plain_no_filter s.table j node p row here)
-
+      (may : MayEndSo first past s old.reads row work why) (same_at : (node : ℕ) → IsPlainNode s.table node → new.reads node ≡ old.reads node) where
     source_reads : new.reads row.source ≡ bytes_at_node s row.source
     source_reads =
         let p = source_plain in
@@ -178,24 +180,39 @@ module _ (s : State) (row : JobRecord) (j : JobsStand s.table) (run : JobsRun s.
         same_at target (target_plain target is)
         ∙ copies_made first s past old.reads row work target is made.none.rows made.none.left settles made.ahead
 
-    made : is_done (outcome_of why) ≡ true → (target : ℕ) → row.target ≡ Some target → ReadsAsMade s row new target row.kind
-    made done target is = by_kind row.kind refl copies
+    pub made_target : is_done (outcome_of why) ≡ true → (target : ℕ) → row.target ≡ Some target → ReadsAsMade s row new target row.kind
+    made_target done target is = by_kind row.kind refl written
       where
-        by_kind : (k : JobKind) → row.kind ≡ k → copies_blocks k ≡ true → ReadsAsMade s row new target k
+        whole : follows row.kind ≡ true → settles_target row.bitmap ≡ true
+        whole f = ap settles_target ((may done).ahead.whole f)
+
+        by_kind : (k : JobKind) → row.kind ≡ k → writes_target k ≡ true → ReadsAsMade s row new target k
         by_kind Stream e c = absurd (false≢true c)
-        by_kind Commit e c = absurd (false≢true c)
         by_kind Backup e c = λ settles. reads_made done target is settles ∙ ap (goal_by s row) e
-        by_kind Mirror e c =
-            reads_made done target is (ap settles_target ((rows row here copies).whole e)) ∙ ap (goal_by s row) e ∙ sym source_reads
+        by_kind Mirror e c = reads_made done target is (whole (ap follows e)) ∙ ap (goal_by s row) e ∙ sym source_reads
+        by_kind Commit e c = reads_made done target is (whole (ap follows e)) ∙ ap (goal_by s row) e ∙ sym source_reads
 
+  module _ (first : State) (past : List Event) (work : JobWork) (why : JobEnd) (old new : Contents) (reads : ReadAsDisks s old)
+      (may : MayEndSo first past s old.reads row work why) (loses : LosesFilter row old new) where
     pub shows_end : ShowsEnd s row why old new
-    shows_end = record { nodes = loses.nodes; files = loses.files; made = made }
+    shows_end = record {
+      nodes = loses.nodes;
+      files = loses.files;
+      made = made_target first past work why old new reads may (λ node p. loses.nodes node (plain_no_filter s.table j node p row here));
+    }
 
-    renames_none : (o : JobOutcome) → renamed row o ≡ None
-    renames_none Completed = rebased_none row row.kind copies
-    renames_none Pivoted = refl
-    renames_none Copied = refl
-    renames_none Stopped = refl
+    pub end_done_bare : renamed row (outcome_of why) ≡ None → AllPerformed s (changes_at_end s row why) old new
+    end_done_bare bare = end_performed s row why old new bare shows_end
 
-    pub end_done : AllPerformed s (changes_at_end s row why) old new
-    end_done = end_performed s row why old new (renames_none (outcome_of why)) shows_end
+-- a backup or mirror rewrites no header
+renames_none : (row : JobRecord) → copies_blocks row.kind ≡ true → (o : JobOutcome) → renamed row o ≡ None
+renames_none row copies Completed = rebased_none row row.kind copies
+renames_none row copies Pivoted = refl
+renames_none row copies Copied = refl
+renames_none row copies Stopped = refl
+
+pub end_done : (s : State) (row : JobRecord) → JobsStand s.table → JobsRun s.table → Contains s.table.jobs row → copies_blocks row.kind ≡ true
+    → (first : State) (past : List Event) (work : JobWork) (why : JobEnd) (old new : Contents) → ReadAsDisks s old
+    → MayEndSo first past s old.reads row work why → LosesFilter row old new → AllPerformed s (changes_at_end s row why) old new
+end_done s row j run here copies first past work why old new reads may loses =
+    end_done_bare s row j run here (writes row.kind copies) first past work why old new reads may loses (renames_none row copies (outcome_of why))

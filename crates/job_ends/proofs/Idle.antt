@@ -22,7 +22,7 @@ use Rattle.job_copies.specs.Passing.{PassesBlock, PassesNext}
 use Rattle.job_copies.specs.Settling.{Settles, after_write}
 use Rattle.job_copies.specs.Taking.{Takes}
 use Rattle.job_progress.specs.Beginning.{begun_by, work_begun}
-use Rattle.job_progress.specs.Piecing.{marked_by, marked_for, marked_if, mirror_of}
+use Rattle.job_progress.specs.Piecing.{marked_by, marked_for, marked_if, follower_of}
 use Rattle.job_tables.proofs.RowEdges.{in_either}
 use Rattle.job_works.specs.Steps.{Guarded, Settled, Taken}
 use Rattle.job_works.specs.Works.{ChangesWork, marked_again, with_changed, with_work, without_work, work_of}
@@ -158,7 +158,7 @@ for_idle None part works h = h
 for_idle (Some row) part works h = all_marked_idle row.number part works h
 
 if_idle : (so : Bool) (t : RunTable) (node : ℕ) (part : Extent) (works : List JobWork) → AllMetAreIdle works → AllMetAreIdle (marked_if so t node part works)
-if_idle true t node part works h = for_idle (mirror_of t node) part works h
+if_idle true t node part works h = for_idle (follower_of t node) part works h
 if_idle false t node part works h = h
 
 pub pieces_idle : (op : Op) (outcome : Outcome) (t : RunTable) (node : ℕ) (part : Extent) (works : List JobWork) → AllMetAreIdle works

@@ -7,3 +7,4 @@ pub mod Others
 pub mod Aside
 pub mod Held
 pub mod Idle
+pub mod Headers

@@ -1,4 +1,4 @@
--- How a backup or mirror ends.
+-- How a backup, mirror or commit ends.
 use Rattle.std.specs.Prelude.{◌≡◌, ℕ, true, false, List, [], Some}
 use Rattle.std.specs.List.{list_any}
 use Rattle.blk_history.specs.declared.entry.JobEnd.{JobEnd}

@@ -1,4 +1,4 @@
-//! Laws of backups and mirrors while they run and at their ends, each the contract of a function that does nothing.
+//! Laws of backups, mirrors and commits while they run and at their ends, each the contract of a function that does nothing.
 ghost use Rattle.std.specs.Prelude.{◌≡◌, ◌≤◌, ℕ, Bool, true, List, [], ◌∷◌, ◌++◌, Contains, Option, Some, Result};
 ghost use Rattle.blk_base.specs.Pieces.{Extent};
 ghost use Rattle.blk_base.specs.declared.fault.Fault.{Fault};
@@ -11,6 +11,7 @@ ghost use Rattle.blk_nodes.specs.Nodes.{Nodes};
 ghost use Rattle.block_jobs.specs.Work.{JobWork, after_copy, after_settle, after_take, failed_by, left_again, next_block};
 ghost use Rattle.qmp_codec.specs.Commands.{Cmd};
 ghost use Rattle.qmp_codec.specs.declared.event.JobKind.{JobKind};
+ghost use Rattle.qmp_codec.specs.declared.event.JobKind.TheVariants.{Commit};
 ghost use Rattle.qmp_codec.specs.declared.jobs.Backup.{Backup};
 ghost use Rattle.qmp_codec.specs.declared.jobs.Mirror.{Mirror};
 ghost use Rattle.qmp_rules.specs.declared.change.Change.{Change};
@@ -27,17 +28,17 @@ ghost use Rattle.flat_machine.specs.State.{State};
 ghost use Rattle.flat_machine.specs.Agreement.{Contents, Agrees, ReadAsDisks};
 ghost use Rattle.flat_machine.specs.Changed.{all_stepped};
 ghost use Rattle.flat_machine.specs.Imaging.{ShowsImages};
-ghost use Rattle.flat_machine.specs.Jobs.{changes_at_end, ended, noted_end, readied, started};
+ghost use Rattle.flat_machine.specs.Jobs.{changes_at_end, ended, noted_end, outcome_of, readied, started};
 ghost use Rattle.flat_machine.specs.Legal.{AllStarted};
 ghost use Rattle.flat_machine.specs.Machine.{after, replay, with_part};
 ghost use Rattle.flat_machine.specs.Opening.{start};
-ghost use Rattle.flat_machine.specs.Performing.{AllPerformed};
+ghost use Rattle.flat_machine.specs.Performing.{AllPerformed, Rewrites};
 ghost use Rattle.flat_machine.specs.Standing.{Stands};
-ghost use Rattle.flat_machine.specs.Suiting.{AllTableSuit};
+ghost use Rattle.flat_machine.specs.Suiting.{AllTableSuit, NoneLeftIn};
 ghost use Rattle.flat_machine.specs.Wiring.{TableStands};
 ghost use Rattle.flat_machine.specs.declared.opening.Opening.{Opening};
 ghost use Rattle.job_copies.specs.Passing.{PassesNext};
-ghost use Rattle.job_entries.specs.Ends.{RestsToEnd, ShowsEnd};
+ghost use Rattle.job_entries.specs.Ends.{RestsToEnd, ShowsEnd, renamed};
 ghost use Rattle.job_entries.specs.Found.{leaves_jobs};
 ghost use Rattle.job_progress.specs.Beginning.{work_begun};
 ghost use Rattle.job_progress.specs.Belonging.{AreWorksOf};
@@ -58,7 +59,7 @@ ghost use Rattle.job_ends.specs.Rows.{AllBeginCopyRows, AreCopyRows, IsCopyRow};
 ghost use Rattle.job_ends.specs.Ended.{LosesFilter, MayEndSo};
 ghost use Rattle.job_ends.specs.Idle.{AllMetAreIdle, MetIsIdle};
 ghost use Rattle.job_ends.specs.Images.{HeldAreUnsure};
-ghost use Rattle.job_ends.specs.Targets.{WritesAside};
+ghost use Rattle.job_ends.specs.Targets.{WritesAside, WritesBase};
 
 /// The rows of backups and mirrors are as their starts put them, whatever changes and entries come: at the beginning there are none,
 /// and those that commands begin are so. So it is behind any history.
@@ -106,6 +107,27 @@ pub fn copies_end_made()
         → AreCopyRows s.table.jobs → Contains s.table.jobs row → copies_blocks row.kind ≡ true
         → ReadAsDisks s old → MayEndSo first h s old.reads row work why → LosesFilter row old new
         → AllPerformed s (changes_at_end s row why) old new }
+{}
+
+/// So are those of a commit's end that loses its filter, with all of its copy made or not done: where no header is to be rewritten, and
+/// where that of the overlay above its top was.
+pub fn commits_end_made()
+    ensures shown { (first s : State) (h : List Event) (row : JobRecord) (work : JobWork)
+        (why : JobEnd) (old new : Contents) → JobsStand s.table → JobsRun s.table
+        → Contains s.table.jobs row → row.kind ≡ Commit → ReadAsDisks s old
+        → MayEndSo first h s old.reads row work why → LosesFilter row old new
+        → ShowsEnd s row why old new }
+    ensures performed { (first s : State) (h : List Event) (row : JobRecord) (work : JobWork)
+        (why : JobEnd) (old new : Contents) → JobsStand s.table → JobsRun s.table
+        → Contains s.table.jobs row → row.kind ≡ Commit → renamed row (outcome_of why) ≡ None
+        → ReadAsDisks s old → MayEndSo first h s old.reads row work why → LosesFilter row old new
+        → AllPerformed s (changes_at_end s row why) old new }
+    ensures renamed { (first s : State) (h : List Event) (row : JobRecord) (work : JobWork)
+        (why : JobEnd) (overlay : ℕ) (old between new : Contents) → TableStands s.table
+        → JobsStand s.table → JobsRun s.table → Contains s.table.jobs row → row.kind ≡ Commit
+        → renamed row (outcome_of why) ≡ Some overlay → ReadAsDisks s old
+        → MayEndSo first h s old.reads row work why → Rewrites s overlay old between
+        → LosesFilter row between new → AllPerformed s (changes_at_end s row why) old new }
 {}
 
 /// The changes of an end, of whatever kind the job is, have to do with no other job's nodes.
@@ -159,6 +181,23 @@ pub fn targets_are_written_aside()
     ensures in_turn { (t : RunTable) (target : ℕ) (old between new : Contents)
         → WritesAside t target old between → WritesAside t target between new
         → WritesAside t target old new }
+{}
+
+/// So does what is written of a commit's base, where no disk is left in the base's file and each node with a flat disk reads the same.
+pub fn bases_are_written_aside()
+    ensures disks { (opening : List ℕ → Option (List ℕ)) (s : State) (row : JobRecord) (base : ℕ)
+        (old new : Contents) → Stands s → JobsStand s.table → JobsRun s.table
+        → TargetFilesStand s → Contains s.table.jobs row → row.kind ≡ Commit
+        → row.target ≡ Some base → NoneLeftIn s base → WritesBase s base old new
+        → Agrees opening s old → Agrees opening s new }
+    ensures images { (s : State) (row : JobRecord) (base : ℕ) (old new : Contents)
+        → TableStands s.table → JobsStand s.table → JobsRun s.table → HeldAreUnsure s
+        → AllStarted s → Contains s.table.jobs row → row.kind ≡ Commit → row.target ≡ Some base
+        → WritesBase s base old new → ShowsImages s old → ShowsImages s new }
+    ensures none { (s : State) (base : ℕ) (c : Contents) → WritesBase s base c c }
+    ensures in_turn { (s : State) (base : ℕ) (old between new : Contents)
+        → WritesBase s base old between → WritesBase s base between new
+        → WritesBase s base old new }
 {}
 
 /// From its start's entry on it is never said of the image of a job's node that it maps no cluster, for as long as the job runs.

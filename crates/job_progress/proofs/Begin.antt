@@ -24,14 +24,15 @@ use Rattle.qmp_rules.specs.Ends.{settles_target}
 use Rattle.qmp_rules.specs.Queries.{bytes_of_node}
 use Rattle.qmp_rules.specs.Table.{job_at, node_by_id}
 use Rattle.flat_machine.specs.Begun.{begun_of, copy_bytes, backed_up, mixed}
-use Rattle.flat_machine.specs.Jobs.{begin, copied_to, granules_of, noted_start, started, target_bytes, target_file, unleft}
+use Rattle.flat_machine.specs.Jobs.{begin, copied_to, granules_of, noted_start, started, target_bytes, target_file, unleft, writes_target}
 use Rattle.flat_machine.specs.Machine.{after}
 use Rattle.flat_machine.specs.State.{State, Begun, Dirty, bytes_at_node}
 use Rattle.job_tables.specs.Jobs.{JobsStand}
 use Rattle.job_works.specs.Works.{work_of}
 use Rattle.job_works.proofs.Changed.{pushed_at, pushed_else}
 use Rattle.job_progress.specs.Beginning.{AreGranulesOf, CanBeCopied, begun_by, work_begun}
-use Rattle.job_progress.specs.Going.{copies_blocks, goal_by, goal_of, is_due, was_dirty, IsJobAhead, AreJobsAhead}
+use Rattle.job_progress.specs.Piecing.{follows}
+use Rattle.job_progress.specs.Going.{goal_by, goal_of, is_due, was_dirty, IsJobAhead, AreJobsAhead}
 use Rattle.job_progress.proofs.Entries.{goes_later}
 use Rattle.job_progress.proofs.Goes.{alike_itself, goes}
 
@@ -296,12 +297,18 @@ module _ (s : State) (reads : ℕ → List ℕ) (row : JobRecord) (target : ℕ)
   abbrev due : Option Dirty → ℕ → Bool
   due granules place = settles_target row.bitmap || was_dirty granules place
 
-  mirror_ahead : row.kind ≡ Mirror → (granules : Option Dirty) → granules_of s row row.bitmap ≡ granules
-      → IsAhead (due granules) (is_owed Mirror (begun_by row size granules)) source source (reads target)
-  mirror_ahead kind None is =
-      ahead_whole (due None) (is_owed Mirror (begun_by row size None)) source (reads target) size can.source can.whole
-      (λ i inside. or_none (is_left (begun_by row size None) i) ∙ all_is_left row size i inside)
-  mirror_ahead kind (Some d) is = absurd (let none : granules_of s row row.bitmap ≡ None = ap (granules_of s row) (can.bare kind) in cc)
+  -- of a mirror or a commit all is owed
+  all_owed : (k : JobKind) → follows k ≡ true → (i : ℕ) → i < size → is_owed k (begun_by row size None) i ≡ true
+  all_owed Mirror f i inside = or_none (is_left (begun_by row size None) i) ∙ all_is_left row size i inside
+  all_owed Commit f i inside = all_is_left row size i inside
+  all_owed Stream f i inside = absurd (false≢true f)
+  all_owed Backup f i inside = absurd (false≢true f)
+
+  follower_ahead : (k : JobKind) → follows k ≡ true → row.kind ≡ k → (granules : Option Dirty) → granules_of s row row.bitmap ≡ granules
+      → IsAhead (due granules) (is_owed k (begun_by row size granules)) source source (reads target)
+  follower_ahead k f kind None is =
+      ahead_whole (due None) (is_owed k (begun_by row size None)) source (reads target) size can.source can.whole (all_owed k f)
+  follower_ahead k f kind (Some d) is = absurd (let none : granules_of s row row.bitmap ≡ None = ap (granules_of s row) (can.bare (ap follows kind ∙ f)) in cc)
 
   backup_ahead : (granules : Option Dirty) → granules_of s row row.bitmap ≡ granules
       → IsAhead (due granules) (is_owed Backup (begun_by row size granules)) source
@@ -350,13 +357,15 @@ module _ (s : State) (reads : ℕ → List ℕ) (row : JobRecord) (target : ℕ)
     rows_none None = refl
     rows_none (Some d) = refl
 
-    by_kind : (k : JobKind) → row.kind ≡ k → copies_blocks k ≡ true
+    by_kind : (k : JobKind) → row.kind ≡ k → writes_target k ≡ true
         → IsAhead (due (granules_of s row row.bitmap)) (is_owed k (work_begun s row)) source (goal_by now row k) (reads target)
     by_kind Stream kind copies = absurd (false≢true copies)
-    by_kind Commit kind copies = absurd (false≢true copies)
+    by_kind Commit kind copies =
+        subst (λ goal. IsAhead (due (granules_of s row row.bitmap)) (is_owed Commit (work_begun s row)) source goal (reads target)) (sym source_now)
+        (follower_ahead Commit refl kind (granules_of s row row.bitmap) refl)
     by_kind Mirror kind copies =
         subst (λ goal. IsAhead (due (granules_of s row row.bitmap)) (is_owed Mirror (work_begun s row)) source goal (reads target)) (sym source_now)
-        (mirror_ahead kind (granules_of s row row.bitmap) refl)
+        (follower_ahead Mirror refl kind (granules_of s row row.bitmap) refl)
     by_kind Backup kind copies =
         subst (λ goal. IsAhead (due (granules_of s row row.bitmap)) (is_owed Backup (work_begun s row)) source goal (reads target)) (sym goal_is)
         (backup_ahead (granules_of s row row.bitmap) refl)
@@ -367,7 +376,7 @@ module _ (s : State) (reads : ℕ → List ℕ) (row : JobRecord) (target : ℕ)
             ap copy_bytes found_new
             ∙ ap (λ xs. backed_up (record { job = row.number; source = source; target = xs; granules = granules_of s row row.bitmap }) (granules_of s row row.bitmap)) target_is
 
-    new_goes : copies_blocks row.kind ≡ true → IsJobAhead first h now reads row (work_begun s row)
+    new_goes : writes_target row.kind ≡ true → IsJobAhead first h now reads row (work_begun s row)
     new_goes copies = record {
       begun = begin s row;
       found_disks = record {
@@ -382,6 +391,8 @@ module _ (s : State) (reads : ℕ → List ℕ) (row : JobRecord) (target : ℕ)
           subst (λ xs. IsAhead (is_due row (begin s row)) (is_owed row.kind (work_begun s row)) xs (goal_of now row) (reads target)) (sym source_now)
           (by_kind row.kind refl copies);
       copies = λ t there. absurd (Contains-nil t (subst (λ rows. Contains rows t) (rows_none (granules_of s row row.bitmap)) there));
+      whole = can.bare;
+      at_once = λ commit. rows_none (granules_of s row row.bitmap);
     }
 
 -- ---- all jobs
@@ -442,7 +453,7 @@ start_begins first s h reads row target works j at free none can go other work t
         subst (λ (w : JobWork). IsJobAhead first (h ++ Start row.number ∷ []) now reads other w) (sym one)
         (subst (λ (r : JobRecord). IsJobAhead first (h ++ Start row.number ∷ []) now reads r (work_begun s row)) (sym same)
         (new_goes s reads row target can first (h ++ Start row.number ∷ []) now started_so.table started_so.disks started_so.begun none
-        (ap (λ (r : JobRecord). copies_blocks r.kind) (sym same) ∙ copies)))
+        (ap (λ (r : JobRecord). writes_target r.kind) (sym same) ∙ copies)))
     by_test false e =
         let differ : other.number ≢ row.number = eqb-false other.number row.number e in
         let was : work_of works other.number ≡ Some work = sym (pushed_else works (work_begun s row) other.number (λ same. differ (same ∙ new_job))) ∙ found in

@@ -35,7 +35,7 @@ use Rattle.job_works.specs.Works.{work_of, with_changed, with_work, without_work
 use Rattle.job_works.proofs.Changed.{changed_at, changed_else, job_found, pushed_at, pushed_else, gone_else}
 use Rattle.job_progress.specs.Beginning.{begun_by, work_begun}
 use Rattle.job_progress.specs.Belonging.{HasWork, IsOfJob, AreWorksOf, without_row}
-use Rattle.job_progress.specs.Piecing.{mirror_of, marked_for, marked_if, marked_by}
+use Rattle.job_progress.specs.Piecing.{follower_of, marked_for, marked_if, marked_by}
 use Rattle.job_progress.specs.Leaving.{LeavesCopies, AllLeaveCopies, LeavesRows, AllLeaveRows}
 use Rattle.job_progress.proofs.Changed.{Came, came_itself, came_asked, came_ready, size_of}
 use Rattle.job_progress.proofs.Pieces.{source_held}
@@ -223,7 +223,7 @@ marked_belong t (Some row) part works belong =
     changed_belong t row.number (left_again part) (λ w is. (marks_sound part w).job ∙ is) works (λ w found. marks_sound part w) belong
 
 marked_if_belong : (so : Bool) (t : RunTable) (node : ℕ) (part : Extent) (works : List JobWork) → AreWorksOf t works → AreWorksOf t (marked_if so t node part works)
-marked_if_belong true t node part works belong = marked_belong t (mirror_of t node) part works belong
+marked_if_belong true t node part works belong = marked_belong t (follower_of t node) part works belong
 marked_if_belong false t node part works belong = belong
 
 pub marks_belong : (t : RunTable) (node : ℕ) (op : Op) (outcome : Outcome) (part : Extent) (works : List JobWork) → AreWorksOf t works
@@ -252,7 +252,7 @@ step_belongs t works was now belong found size room sound =
 -- every job's source is one of its nodes
 source_of : (t : RunTable) (row : JobRecord) (k : JobKind) → StandsByKind t row k → Contains row.held row.source
 source_of t row Stream s = subst (λ ids. Contains ids row.source) (sym s.held) (Contains-here row.source [])
-source_of t row Commit s = subst (λ ids. Contains ids row.source) (sym s.held) (Contains-here row.source (s.between ++ s.base ∷ []))
+source_of t row Commit s = source_held t row Commit refl s
 source_of t row Mirror s = source_held t row Mirror refl s
 source_of t row Backup s = source_held t row Backup refl s
 

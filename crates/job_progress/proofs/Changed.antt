@@ -1,5 +1,5 @@
 -- Changes that leave copies, one after another.
-use Rattle.std.proofs.Common.{◌≡◌, ◌≢◌, ℕ, Bool, true, false, cond, List, [], ◌∷◌, refl, sym, ap, ◌∙◌, subst, inl, inr, Option, Some, None}
+use Rattle.std.proofs.Common.{◌≡◌, ◌≢◌, ℕ, Bool, true, false, cond, List, [], ◌∷◌, ◌++◌, refl, sym, ap, ◌∙◌, subst, inl, inr, Option, Some, None}
 use Rattle.std.specs.Prelude.{◌==◌, not, IsSome, option_and_then}
 use Rattle.std.specs.List.{Contains}
 use Rattle.blk_graph.specs.declared.kind.Kind.{Kind}
@@ -24,30 +24,31 @@ use Rattle.flat_machine.specs.Agreement.{Contents}
 use Rattle.flat_machine.specs.Begun.{begun_of}
 use Rattle.flat_machine.specs.Changed.{beside, stepped, all_stepped, put, know_if, name_if, note_image, leave, left_disk, content_under, bytes_by_format, name_file, new_bytes, overlay_file}
 use Rattle.flat_machine.specs.Contents.{mapped_in, file_bytes}
+use Rattle.flat_machine.specs.Jobs.{writes_target}
 use Rattle.flat_machine.specs.Performing.{Performed, AllPerformed, IsQuiet}
 use Rattle.flat_machine.specs.State.{State, Content, Unknown, Mapped, Left, bytes_in, bytes_at_node, content_in, filename_of}
 use Rattle.flat_machine.proofs.Finds.{bytes_in-put_other, bytes_in-drop}
 use Rattle.flat_machine.proofs.Kept.{own_disk}
 use Rattle.job_tables.specs.Changes.{IsNoJobs}
-use Rattle.job_tables.specs.Jobs.{CopyStands, StandsByKind, JobsStand}
+use Rattle.job_tables.specs.Jobs.{CopyStands, CommitJobStands, StandsByKind, JobsStand}
 use Rattle.job_tables.specs.Rows.{nodes_of_job}
-use Rattle.job_tables.proofs.RowEdges.{in_either}
+use Rattle.job_tables.proofs.RowEdges.{in_either, in_left, in_right}
 use Rattle.job_works.specs.Works.{work_of}
-use Rattle.job_progress.specs.Going.{copies_blocks, AreJobsAhead}
+use Rattle.job_progress.specs.Going.{AreJobsAhead}
 use Rattle.job_progress.specs.Leaving.{AreNoJobs, LeavesCopies, AllLeaveCopies}
 use Rattle.job_progress.proofs.Stays.{IsOwn, own_then, IsOfJobs, not_gone, stays}
 use Rattle.job_progress.proofs.Goes.{IsAlike, alike_itself, goes}
 
 -- ---- what every table has
 
--- what copies holds its source and its target
+-- what copies holds its source and its target or base
 pub record HoldsBoth (row : JobRecord) : Type 0 where
   pub source : Contains (nodes_of_job row) row.source
   pub target : (target : ℕ) → row.target ≡ Some target → Contains (nodes_of_job row) target
 
 pub record Rests (works : List JobWork) (t : RunTable) : Type 0 where
   pub own : (node : ℕ) → IsOfJobs works t node → IsOwn t node
-  pub holds : (row : JobRecord) → Contains t.jobs row → IsSome (work_of works row.number) → copies_blocks row.kind ≡ true → HoldsBoth row
+  pub holds : (row : JobRecord) → Contains t.jobs row → IsSome (work_of works row.number) → writes_target row.kind ≡ true → HoldsBoth row
 
 copy_holds : (t : RunTable) (row : JobRecord) (kind : Kind) → CopyStands t row kind → HoldsBoth row
 copy_holds t row kind c = record {
@@ -59,15 +60,27 @@ copy_holds t row kind c = record {
       (rw (nodes_of_job, c.held) (Contains-there row.source (c.target ∷ row.read) c.target (Contains-here c.target row.read)));
 }
 
+commit_holds : (t : RunTable) (row : JobRecord) → CommitJobStands t row → HoldsBoth row
+commit_holds t row c = record {
+  source = rw (nodes_of_job, c.held) (Contains-here row.source ((c.between ++ c.base ∷ []) ++ row.read));
+  target = λ target is.
+      let both : Some c.base ≡ Some target = sym c.is_base ∙ is in
+      let one : c.base ≡ target = cc both in
+      subst (Contains (nodes_of_job row)) one
+      (in_left row.held row.read c.base
+      (subst (λ ids. Contains ids c.base) (sym c.held)
+      (Contains-there row.source (c.between ++ c.base ∷ []) c.base (in_right c.between (c.base ∷ []) c.base (Contains-here c.base [])))));
+}
+
 pub rests_by : (works : List JobWork) (t : RunTable) → JobsStand t → Rests works t
 rests_by works t j = record {
   own = λ node of. let p = (j.each of.row of.there).plain node of.held in record { row = p.row; found = p.there; own = p.own };
   holds = λ row there some copies. by_kind row row.kind copies (j.each row there).shape;
 }
   where
-    by_kind : (row : JobRecord) (k : JobKind) → copies_blocks k ≡ true → StandsByKind t row k → HoldsBoth row
+    by_kind : (row : JobRecord) (k : JobKind) → writes_target k ≡ true → StandsByKind t row k → HoldsBoth row
     by_kind row Stream copies s = absurd (false≢true copies)
-    by_kind row Commit copies s = absurd (false≢true copies)
+    by_kind row Commit copies s = commit_holds t row s
     by_kind row Mirror copies s = copy_holds t row driver.Mirror s
     by_kind row Backup copies s = copy_holds t row driver.BeforeWrite s
 
@@ -249,7 +262,7 @@ rests_then works t c leaves r = record {
       own_then t (changed t c) node (stays works t node (r.own node was) was c leaves);
   holds = λ later there some copies.
       let was = came works t later some c leaves there in
-      let both = r.holds was.row was.there (subst (λ n. IsSome (work_of works n)) was.alike.number some) (ap copies_blocks (sym was.alike.kind) ∙ copies) in
+      let both = r.holds was.row was.there (subst (λ n. IsSome (work_of works n)) was.alike.number some) (ap writes_target (sym was.alike.kind) ∙ copies) in
       record {
         source = subst (λ ids. Contains ids later.source) (sym was.nodes) (subst (Contains (nodes_of_job was.row)) (sym was.alike.source) both.source);
         target = λ target is. subst (λ ids. Contains ids target) (sym was.nodes) (both.target target (sym was.alike.target ∙ is));
@@ -266,7 +279,7 @@ module _ (works : List JobWork) (first : State) (h : List Event) where
       let some : IsSome (work_of works later.number) = subst IsSome (sym is) refl in
       let was = came works s.table later some c leaves there in
       let some_then = subst (λ n. IsSome (work_of works n)) was.alike.number some in
-      let both = r.holds was.row was.there some_then (ap copies_blocks (sym was.alike.kind) ∙ copies) in
+      let both = r.holds was.row was.there some_then (ap writes_target (sym was.alike.kind) ∙ copies) in
       let of_source : IsOfJobs works s.table was.row.source = record { row = was.row; there = was.there; held = both.source; has = some_then } in
       let own = r.own was.row.source of_source in
       let stay = stays works s.table was.row.source own of_source c leaves in
@@ -282,7 +295,7 @@ module _ (works : List JobWork) (first : State) (h : List Event) where
             let of_target : IsOfJobs works s.table target = record { row = was.row; there = was.there; held = both.target target to; has = some_then } in
             reads_stay works s target of_target c old new (r.own target of_target) leaves did;
       })
-      (go was.row work was.there (ap copies_blocks (sym was.alike.kind) ∙ copies) (ap (work_of works) (sym was.alike.number) ∙ is) going)
+      (go was.row work was.there (ap writes_target (sym was.alike.kind) ∙ copies) (ap (work_of works) (sym was.alike.number) ∙ is) going)
 
   quiet_goes : (s : State) (old new : Contents) → IsQuiet old new → AreJobsAhead first h s old.reads works → AreJobsAhead first h s new.reads works
   quiet_goes s old new quiet go row work there copies is going =

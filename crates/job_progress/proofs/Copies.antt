@@ -7,7 +7,7 @@ use Rattle.std.proofs.lemmas.List.{ext_get_or, take_all}
 use Rattle.blk_base.specs.Content.{bytes_at}
 use Rattle.blk_base.specs.Pieces.{block_size}
 use Rattle.blk_base.proofs.Contents.{get_or-bytes_at}
-use Rattle.blk_copy.specs.Rows.{is_of, has_row, is_in_flight}
+use Rattle.blk_copy.specs.Rows.{is_of, has_row, is_in_flight, without_row}
 use Rattle.blk_copy.specs.declared.transfers.Transfer.{Transfer}
 use Rattle.blk_graph.proofs.Members.{Contains-nil, Contains-here, Contains-there, Contains-cases, Contains-filter}
 use Rattle.blk_history.specs.declared.event.Event.{Event}
@@ -64,7 +64,31 @@ copied_goes first s h reads now row work block kind sound copies g = record {
   copies = λ t there.
       fewer first h s row g.begun work block kind sound t
       (g.copies t (Contains-filter (λ r. not (is_of work.job block r)) work.rows t there).0);
+  whole = g.whole;
+  at_once = λ commit. absurd (let same : Commit ≡ Backup = sym commit ∙ kind in cc);
 }
+
+pub passed_goes : (first s : State) (h : List Event) (reads now : ℕ → List ℕ) (row : JobRecord) (work : JobWork) (block : ℕ) → row.kind ≡ Commit
+    → ((base : ℕ) (due : ℕ → Bool) → row.target ≡ Some base
+    → IsAhead due (is_owed Commit work) (bytes_at_node s row.source) (bytes_at_node s row.source) (reads base)
+    → IsAhead due (is_owed Commit (after_copy block work)) (bytes_at_node s row.source) (bytes_at_node s row.source) (now base))
+    → IsJobAhead first h s reads row work → IsJobAhead first h s now row (after_copy block work)
+passed_goes first s h reads now row work block kind passes g = record {
+  begun = g.begun;
+  found_disks = g.found_disks;
+  target = g.target;
+  is_target = g.is_target;
+  ahead =
+      subst (λ k. IsAhead (is_due row g.begun) (is_owed k (after_copy block work)) (bytes_at_node s row.source) (goal_by s row k) (now g.target)) (sym kind)
+      (passes g.target (is_due row g.begun) g.is_target
+      (subst (λ k. IsAhead (is_due row g.begun) (is_owed k work) (bytes_at_node s row.source) (goal_by s row k) (reads g.target)) kind g.ahead));
+  copies = λ t there. absurd (Contains-nil t (subst (λ rows. Contains rows t) (none_then kind) there));
+  whole = g.whole;
+  at_once = none_then;
+}
+  where
+    none_then : row.kind ≡ Commit → (after_copy block work).rows ≡ []
+    none_then commit = ap (without_row work.job block) (g.at_once commit)
 
 -- ---- a block is read
 
@@ -232,6 +256,8 @@ module _ (first : State) (h : List Event) (reads : ℕ → List ℕ) (row : JobR
               past = of_either (λ (y : Transfer). y.position ≤ length h) (λ y was. (g.copies y was).past) (let at = position in omega arith) x among;
               holds = both.1 x among;
             };
+        whole = g.whole;
+        at_once = λ commit. absurd (false≢true (ap copies_blocks (sym commit) ∙ copies));
       }
 
 -- ---- a block is written after it was read
@@ -296,6 +322,8 @@ module _ (first s : State) (h : List Event) (reads now : ℕ → List ℕ) (row 
     copies = λ x there.
         let was = g.copies x (row_before row.kind x there) in
         record { past = was.past; holds = holds_then row.kind copies x (is_due row g.begun) (goal_of s row) (taken_bytes first h row x) was.holds };
+    whole = g.whole;
+    at_once = λ commit. absurd (false≢true (ap copies_blocks (sym commit) ∙ copies));
   }
 
 -- ---- nothing is owed any more

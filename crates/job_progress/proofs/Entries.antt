@@ -32,6 +32,8 @@ module _ (first : State) (h more : List Event) (s : State) (reads : ℕ → List
     is_target = g.is_target;
     ahead = g.ahead;
     copies = λ t there. open_later g.begun t (g.copies t there);
+    whole = g.whole;
+    at_once = g.at_once;
   }
 
 pub entries_leave : (first s now : State) (h : List Event) (e : Event) (reads : ℕ → List ℕ) (works : List JobWork)

@@ -14,6 +14,7 @@ use Rattle.qmp_rules.specs.Ends.{settles_target}
 use Rattle.qmp_rules.specs.Queries.{bytes_of_node}
 use Rattle.flat_machine.specs.Begun.{begun_of, copy_bytes}
 use Rattle.flat_machine.specs.State.{State, Begun, bytes_at_node}
+use Rattle.job_progress.specs.Piecing.{follows}
 use Rattle.job_progress.specs.Going.{goal_by, goal_of, was_dirty, is_due, FoundDisks, taken_bytes, IsCopyOpen, IsJobAhead}
 
 -- the row of the same job
@@ -97,4 +98,6 @@ module _ (first : State) (h : List Event) (s now : State) (reads then : ℕ → 
     is_target = a.target ∙ g.is_target;
     ahead = ahead_same g.begun g.target g.is_target g.ahead;
     copies = λ t there. open_same g.begun t (g.copies t there);
+    whole = λ f. a.bitmap ∙ g.whole (ap follows (sym a.kind) ∙ f);
+    at_once = λ commit. g.at_once (sym a.kind ∙ commit);
   }

@@ -1,24 +1,17 @@
 -- What is done for one job leaves the others.
-use Rattle.std.proofs.Common.{◌≡◌, ◌≢◌, ℕ, Bool, true, false, List, [], ◌∷◌, ◌++◌, refl, sym, ap, ◌∙◌, subst, Some, None}
+use Rattle.std.proofs.Common.{◌≡◌, ◌≢◌, ℕ, Bool, true, false, List, refl, sym, ap, ◌∙◌, subst, Some, None}
 use Rattle.std.specs.Prelude.{◌==◌}
 use Rattle.std.specs.List.{Contains}
-use Rattle.std.proofs.lemmas.Bool.{false≢true, eqb-true, eqb-false}
-use Rattle.blk_graph.specs.declared.kind.Kind.{Kind}
-use Rattle.blk_graph.specs.declared.kind.Kind.TheVariants as driver
-use Rattle.blk_graph.proofs.Members.{Contains-here, Contains-there}
+use Rattle.std.proofs.lemmas.Bool.{eqb-true, eqb-false}
 use Rattle.blk_history.specs.declared.event.Event.{Event}
 use Rattle.block_jobs.specs.Work.{JobWork}
-use Rattle.qmp_codec.specs.declared.event.JobKind.{JobKind}
-use Rattle.qmp_codec.specs.declared.event.JobKind.TheVariants.{Stream, Commit, Mirror, Backup}
 use Rattle.qmp_rules.specs.declared.rows.JobRecord.{JobRecord}
-use Rattle.qmp_rules.specs.Table.{RunTable}
+use Rattle.flat_machine.specs.Jobs.{writes_target}
 use Rattle.flat_machine.specs.State.{State}
-use Rattle.job_tables.specs.Jobs.{CopyStands, StandsByKind, JobsStand}
-use Rattle.job_tables.specs.Rows.{nodes_of_job}
-use Rattle.job_tables.proofs.RowEdges.{in_left, in_right, copy_holds}
+use Rattle.job_tables.specs.Jobs.{JobsStand}
 use Rattle.job_works.specs.Works.{work_of, with_work}
 use Rattle.job_works.proofs.Changed.{changed_at, changed_else, job_found}
-use Rattle.job_progress.specs.Going.{copies_blocks, IsJobAhead, AreJobsAhead}
+use Rattle.job_progress.specs.Going.{IsJobAhead, AreJobsAhead}
 use Rattle.job_progress.proofs.Goes.{alike_itself, goes}
 
 -- ---- the others go on
@@ -34,7 +27,7 @@ module _ (first s : State) (h : List Event) (reads now : ℕ → List ℕ) (row 
   keeps : (w : JobWork) → w.job ≡ after.job → after.job ≡ after.job
   keeps w e = refl
 
-  of_own : (other : JobRecord) (w : JobWork) → Contains s.table.jobs other → copies_blocks other.kind ≡ true → work_of (with_work after works) other.number ≡ Some w → w.met ≡ None
+  of_own : (other : JobRecord) (w : JobWork) → Contains s.table.jobs other → writes_target other.kind ≡ true → work_of (with_work after works) other.number ≡ Some w → w.met ≡ None
       → other.number ≡ after.job → IsJobAhead first h s now other w
   of_own other w there copies found going at =
       let one : other ≡ row = j.numbers other row there here (at ∙ number_is) in
@@ -44,10 +37,10 @@ module _ (first s : State) (h : List Event) (reads now : ℕ → List ℕ) (row 
       let w_is : w ≡ after = cc both in
       let met : after.met ≡ None = ap (λ (x : JobWork). x.met) (sym w_is) ∙ going in
       let step = own met in
-      let goes_row : IsJobAhead first h s now row after = step.1 (go row work here (ap (λ (r : JobRecord). copies_blocks r.kind) (sym one) ∙ copies) is step.0) in
+      let goes_row : IsJobAhead first h s now row after = step.1 (go row work here (ap (λ (r : JobRecord). writes_target r.kind) (sym one) ∙ copies) is step.0) in
       subst (λ (x : JobWork). IsJobAhead first h s now other x) (sym w_is) (subst (λ (r : JobRecord). IsJobAhead first h s now r after) (sym one) goes_row)
 
-  of_other : (other : JobRecord) (w : JobWork) → Contains s.table.jobs other → copies_blocks other.kind ≡ true → work_of (with_work after works) other.number ≡ Some w → w.met ≡ None
+  of_other : (other : JobRecord) (w : JobWork) → Contains s.table.jobs other → writes_target other.kind ≡ true → work_of (with_work after works) other.number ≡ Some w → w.met ≡ None
       → other.number ≢ after.job → IsJobAhead first h s now other w
   of_other other w there copies found going differ =
       let was : work_of works other.number ≡ Some w = sym (changed_else after.job (λ x. after) keeps other.number differ works) ∙ found in

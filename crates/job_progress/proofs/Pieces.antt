@@ -1,6 +1,6 @@
--- A piece of a guest's request leaves what jobs have copied, and what it writes of a mirror's source is owed from then on.
-use Rattle.std.proofs.Common.{◌≡◌, ◌≢◌, ℕ, zero, suc, ◌+◌, ◌-◌, ◌<◌, ◌≤◌, Bool, true, false, cond, List, [], ◌∷◌, length, map, refl, sym, ap, ◌∙◌, subst, inl, inr, arith, Option, Some, None}
-use Rattle.std.specs.Prelude.{◌==◌, ◌||◌, not, take, is_some, slice_index}
+-- A piece of a guest's request leaves what jobs have copied, and what it writes of a mirror's or a commit's source is owed from then on.
+use Rattle.std.proofs.Common.{◌≡◌, ◌≢◌, ℕ, zero, suc, ◌+◌, ◌-◌, ◌<◌, ◌≤◌, Bool, true, false, cond, List, [], ◌∷◌, ◌++◌, length, map, refl, sym, ap, ◌∙◌, subst, inl, inr, arith, Option, Some, None}
+use Rattle.std.specs.Prelude.{◌==◌, ◌&&◌, ◌||◌, not, take, is_some, slice_index}
 use Rattle.std.specs.List.{Contains, find, list_any}
 use Rattle.std.proofs.lemmas.Bool.{false≢true, eqb-true, eqb-false, eq-eqb}
 use Rattle.std.proofs.lemmas.List.{length-replicate}
@@ -35,7 +35,7 @@ use Rattle.qmp_rules.specs.Queries.{bytes_of_node}
 use Rattle.qmp_rules.specs.Table.{RunTable}
 use Rattle.flat_machine.specs.Agreement.{Contents}
 use Rattle.flat_machine.specs.Begun.{begun_of, copy_bytes}
-use Rattle.flat_machine.specs.Jobs.{unsure}
+use Rattle.flat_machine.specs.Jobs.{unsure, writes_target}
 use Rattle.flat_machine.specs.Machine.{disk_changed, with_disk, node_written, with_part, note, noted, is_noted, read_through, copies_at, path}
 use Rattle.flat_machine.specs.Performing.{IsQuiet}
 use Rattle.flat_machine.specs.State.{State, Begun, bytes_in, bytes_at_node}
@@ -48,41 +48,46 @@ use Rattle.job_tables.proofs.RowEdges.{in_left}
 use Rattle.job_works.specs.Works.{work_of, marked_again}
 use Rattle.job_works.proofs.Changed.{changed_at, changed_else}
 use Rattle.job_progress.specs.Belonging.{HasWork, AreWorksOf}
-use Rattle.job_progress.specs.Going.{copies_blocks, goal_by, goal_of, is_due, FoundDisks, taken_bytes, IsJobAhead, AreJobsAhead}
-use Rattle.job_progress.specs.Piecing.{NoTargetReads, IsGuarded, CanPass, mirrors_by, is_mirror_of, mirror_of, marked_for, marked_if, marked_by}
+use Rattle.job_progress.specs.Going.{goal_by, goal_of, is_due, FoundDisks, taken_bytes, IsJobAhead, AreJobsAhead}
+use Rattle.job_progress.specs.Piecing.{NoTargetReads, IsGuarded, CanPass, follows, is_follower_of, follower_of, marked_for, marked_if, marked_by}
 use Rattle.job_progress.proofs.Changed.{size_of}
 use Rattle.job_progress.proofs.Goes.{alike_itself, IsBeside, goes}
 use Rattle.job_progress.proofs.Stays.{IsOwn, IsAs, StaysAt, stays_mapped}
 
--- ---- the source of what copies is held for itself
+-- ---- the source of what copies is held for the job itself
 
 copies_source : (t : RunTable) (row : JobRecord) (kind : Kind) → CopyStands t row kind → Contains row.held row.source
 copies_source t row kind c = subst (λ ids. Contains ids row.source) (sym c.held) (Contains-here row.source (c.target ∷ []))
 
-pub source_held : (t : RunTable) (row : JobRecord) (k : JobKind) → copies_blocks k ≡ true → StandsByKind t row k → Contains row.held row.source
+pub source_held : (t : RunTable) (row : JobRecord) (k : JobKind) → writes_target k ≡ true → StandsByKind t row k → Contains row.held row.source
 source_held t row Stream copies s = absurd (false≢true copies)
-source_held t row Commit copies s = absurd (false≢true copies)
+source_held t row Commit copies s = subst (λ ids. Contains ids row.source) (sym s.held) (Contains-here row.source (s.between ++ s.base ∷ []))
 source_held t row Mirror copies s = copies_source t row driver.Mirror s
 source_held t row Backup copies s = copies_source t row driver.BeforeWrite s
 
--- ---- the mirror of a node
+-- ---- the mirror or commit of a node
 
-pub record Mirrors (t : RunTable) (node : ℕ) (row : JobRecord) : Type 0 where
+pub record Follows (t : RunTable) (node : ℕ) (row : JobRecord) : Type 0 where
   pub there : Contains t.jobs row
-  pub kind : row.kind ≡ Mirror
+  pub kind : follows row.kind ≡ true
   pub source : row.source ≡ node
 
-mirrors_so : (node : ℕ) (row : JobRecord) (k : JobKind) → mirrors_by node row k ≡ true → (k ≡ Mirror) × (row.source ≡ node)
-mirrors_so node row Mirror h = (refl, eqb-true row.source node h)
-mirrors_so node row Backup h = absurd (false≢true h)
-mirrors_so node row Stream h = absurd (false≢true h)
-mirrors_so node row Commit h = absurd (false≢true h)
+both_are : (a b : Bool) → (a && b) ≡ true → (a ≡ true) × (b ≡ true)
+both_are true b h = (refl, h)
+both_are false b h = absurd (false≢true h)
 
-found_mirrors : (t : RunTable) (node : ℕ) (row : JobRecord) → mirror_of t node ≡ Some row → Mirrors t node row
-found_mirrors t node row found =
-    let at = find-Some (is_mirror_of node) t.jobs row found in
-    let so = mirrors_so node row row.kind at.1 in
-    record { there = at.0; kind = so.0; source = so.1 }
+found_follows : (t : RunTable) (node : ℕ) (row : JobRecord) → follower_of t node ≡ Some row → Follows t node row
+found_follows t node row found =
+    let at = find-Some (is_follower_of node) t.jobs row found in
+    let so = both_are (follows row.kind) (row.source == node) at.1 in
+    record { there = at.0; kind = so.0; source = eqb-true row.source node so.1 }
+
+-- it has a target or base
+writes : (k : JobKind) → follows k ≡ true → writes_target k ≡ true
+writes Mirror h = refl
+writes Commit h = refl
+writes Stream h = absurd (false≢true h)
+writes Backup h = absurd (false≢true h)
 
 pub record IsFound (p : JobRecord → Bool) (rows : List JobRecord) : Type 0 where
   pub row : JobRecord
@@ -100,25 +105,25 @@ find_there p (x ∷ rows) row there is = elim (Contains-cases x rows row there) 
     by_test false e f = record { row = f.row; found = rw e f.found }
 
 -- there is one at most
-one_mirror : (t : RunTable) → JobsStand t → (node : ℕ) (row : JobRecord) → Mirrors t node row → mirror_of t node ≡ Some row
-one_mirror t j node row m = f.found ∙ ap Some same
+one_follower : (t : RunTable) → JobsStand t → (node : ℕ) (row : JobRecord) → Follows t node row → follower_of t node ≡ Some row
+one_follower t j node row m = f.found ∙ ap Some same
   where
-    passes : is_mirror_of node row ≡ true
+    passes : is_follower_of node row ≡ true
     passes = rw m.kind (eq-eqb row.source node m.source)
 
-    f : IsFound (is_mirror_of node) t.jobs
-    f = find_there (is_mirror_of node) t.jobs row m.there passes
+    f : IsFound (is_follower_of node) t.jobs
+    f = find_there (is_follower_of node) t.jobs row m.there passes
 
-    other : Mirrors t node f.row
-    other = found_mirrors t node f.row f.found
+    other : Follows t node f.row
+    other = found_follows t node f.row f.found
 
     held : Contains f.row.held node
     held = subst (Contains f.row.held) other.source
-        (source_held t f.row f.row.kind (ap copies_blocks other.kind) (j.each f.row other.there).shape)
+        (source_held t f.row f.row.kind (writes f.row.kind other.kind) (j.each f.row other.there).shape)
 
     held_by : Contains (nodes_of_job row) node
     held_by = in_left row.held row.read node
-        (subst (Contains row.held) m.source (source_held t row row.kind (ap copies_blocks m.kind) (j.each row m.there).shape))
+        (subst (Contains row.held) m.source (source_held t row row.kind (writes row.kind m.kind) (j.each row m.there).shape))
 
     same : f.row ≡ row
     same = j.slots f.row row other.there m.there (j.apart f.row row node other.there m.there held held_by)
@@ -149,8 +154,8 @@ unmarked None works part n differ = refl
 unmarked (Some row) works part n differ = changed_else row.number (left_again part) (λ w is. (marks_keep part w).job ∙ is) n (differ row refl) works
 
 unmarked_if : (so : Bool) (t : RunTable) (node : ℕ) (part : Extent) (works : List JobWork) (n : ℕ)
-    → ((row : JobRecord) → mirror_of t node ≡ Some row → n ≢ row.number) → work_of (marked_if so t node part works) n ≡ work_of works n
-unmarked_if true t node part works n differ = unmarked (mirror_of t node) works part n differ
+    → ((row : JobRecord) → follower_of t node ≡ Some row → n ≢ row.number) → work_of (marked_if so t node part works) n ≡ work_of works n
+unmarked_if true t node part works n differ = unmarked (follower_of t node) works part n differ
 unmarked_if false t node part works n differ = refl
 
 -- ---- what is put
@@ -208,7 +213,7 @@ module _ (first : State) (h : List Event) (s now : State) (node : ℕ) (op : Op)
   abbrev xs : List ℕ
   xs = put op part (done_by outcome part)
 
-  module _ (row : JobRecord) (there : Contains s.table.jobs row) (copies : copies_blocks row.kind ≡ true) where
+  module _ (row : JobRecord) (there : Contains s.table.jobs row) (copies : writes_target row.kind ≡ true) where
     own : IsOwn s.table row.source
     own =
         let p = (j.each row there).plain row.source (in_left row.held row.read row.source (source_held s.table row row.kind copies (j.each row there).shape)) in
@@ -286,6 +291,8 @@ module _ (first : State) (h : List Event) (s now : State) (node : ℕ) (op : Op)
             past = was.past;
             holds = subst (λ goal. HoldsGoal row.kind work t.cluster (is_due row g.begun) goal (taken_bytes first h row t)) (sym (goal_backup kind)) was.holds;
           };
+      whole = g.whole;
+      at_once = g.at_once;
     }
       where
         nothing_owed : AreAll false (is_owed row.kind work) part.start (length xs)
@@ -293,8 +300,8 @@ module _ (first : State) (h : List Event) (s now : State) (node : ℕ) (op : Op)
             within_part false (is_owed row.kind work) part (length xs) (put_long op part (done_by outcome part))
             (subst (λ k. AreAll false (is_owed k work) part.start part.len) (sym kind) (guarded row work there kind is found met))
 
-    -- of a mirror it is owed
-    module _ (kind : row.kind ≡ Mirror) (is : row.source ≡ node) (was : JobWork) (found : work_of works row.number ≡ Some was) (met : was.met ≡ None) where
+    -- of a mirror or a commit it is owed
+    module _ (is : row.source ≡ node) (was : JobWork) (found : work_of works row.number ≡ Some was) (met : was.met ≡ None) where
       abbrev marked : JobWork
       marked = left_again part was
 
@@ -314,8 +321,8 @@ module _ (first : State) (h : List Event) (s now : State) (node : ℕ) (op : Op)
       bound : part.start + part.len ≤ was.size
       bound = subst (λ n. part.start + part.len ≤ n) (sym size_is) (subst (λ n. end_of part ≤ bytes_of_node s.table n) (sym is) within)
 
-      all_owed : AreAll true (is_owed Mirror marked) part.start (length xs)
-      all_owed = within_part true (is_owed Mirror marked) part (length xs) (put_long op part (done_by outcome part)) (marks_owe was part met Mirror sound bound)
+      all_owed : (k : JobKind) → AreAll true (is_owed k marked) part.start (length xs)
+      all_owed k = within_part true (is_owed k marked) part (length xs) (put_long op part (done_by outcome part)) (marks_owe was part met k sound bound)
 
       all_left : AreAll true (is_left marked) part.start (length xs)
       all_left = within_part true (is_left marked) part (length xs) (put_long op part (done_by outcome part)) (marks_owe was part met Backup sound bound)
@@ -338,19 +345,43 @@ module _ (first : State) (h : List Event) (s now : State) (node : ℕ) (op : Op)
           (λ from to. absurd (false≢true (sym (not_true (is_left marked place) good) ∙ all_left place from to)))
           (λ apart. get_or-with_bytes_outside (bytes_at_node s row.source) part.start xs place apart))
 
-      mirror_goes : IsJobAhead first h s old.reads row was → IsJobAhead first h now new.reads row marked
-      mirror_goes g = record {
+      -- so it is ahead, where its goal is the source as it is
+      ahead_then : (k : JobKind) → ((x : State) → goal_by x row k ≡ bytes_at_node x row.source) → row.kind ≡ k → (g : IsJobAhead first h s old.reads row was)
+          → IsAhead (is_due row g.begun) (is_owed row.kind marked) (bytes_at_node now row.source) (goal_of now row) (new.reads g.target)
+      ahead_then k goal kind g =
+          subst (λ k. IsAhead (is_due row g.begun) (is_owed k marked) (bytes_at_node now row.source) (goal_by now row k) (new.reads g.target)) (sym kind)
+          (subst (λ bytes. IsAhead (is_due row g.begun) (is_owed k marked) (bytes_at_node now row.source) bytes (new.reads g.target)) (sym (goal now))
+          (subst (λ source. IsAhead (is_due row g.begun) (is_owed k marked) source source (new.reads g.target)) (sym (written is))
+          (subst (λ made. IsAhead (is_due row g.begun) (is_owed k marked) disk disk made) (sym (target_same g.target g.is_target))
+          (written_is_owed (is_due row g.begun) (is_owed k was) (is_owed k marked) (bytes_at_node s row.source) (old.reads g.target) part.start xs
+          (inside is g.found_disks.whole) (marks_grow was part met k) (all_owed k)
+          (subst (λ bytes. IsAhead (is_due row g.begun) (is_owed k was) (bytes_at_node s row.source) bytes (old.reads g.target)) (goal s)
+          (subst (λ k. IsAhead (is_due row g.begun) (is_owed k was) (bytes_at_node s row.source) (goal_by s row k) (old.reads g.target)) kind g.ahead))))))
+
+      commit_goes : row.kind ≡ Commit → IsJobAhead first h s old.reads row was → IsJobAhead first h now new.reads row marked
+      commit_goes kind g = record {
         begun = g.begun;
         found_disks = begun_then g.begun is g.found_disks;
         target = g.target;
         is_target = g.is_target;
-        ahead =
-            subst (λ k. IsAhead (is_due row g.begun) (is_owed k marked) (bytes_at_node now row.source) (goal_by now row k) (new.reads g.target)) (sym kind)
-            (subst (λ source. IsAhead (is_due row g.begun) (is_owed Mirror marked) source source (new.reads g.target)) (sym (written is))
-            (subst (λ made. IsAhead (is_due row g.begun) (is_owed Mirror marked) disk disk made) (sym (target_same g.target g.is_target))
-            (written_is_owed (is_due row g.begun) (is_owed Mirror was) (is_owed Mirror marked) (bytes_at_node s row.source) (old.reads g.target) part.start xs
-            (inside is g.found_disks.whole) (marks_grow was part met Mirror) all_owed
-            (subst (λ k. IsAhead (is_due row g.begun) (is_owed k was) (bytes_at_node s row.source) (goal_by s row k) (old.reads g.target)) kind g.ahead))));
+        ahead = ahead_then Commit (λ x. refl) kind g;
+        copies = λ t at. absurd (Contains-nil t (subst (λ rows. Contains rows t) (none_then kind) at));
+        whole = g.whole;
+        at_once = none_then;
+      }
+        where
+          none_then : row.kind ≡ Commit → marked.rows ≡ []
+          none_then commit = (marks_keep part was).rows ∙ g.at_once commit
+
+      mirror_goes : row.kind ≡ Mirror → IsJobAhead first h s old.reads row was → IsJobAhead first h now new.reads row marked
+      mirror_goes kind g = record {
+        begun = g.begun;
+        found_disks = begun_then g.begun is g.found_disks;
+        target = g.target;
+        is_target = g.is_target;
+        ahead = ahead_then Mirror (λ x. refl) kind g;
+        whole = g.whole;
+        at_once = λ commit. absurd (let same : Commit ≡ Mirror = sym commit ∙ kind in cc);
         copies = λ t at.
             let before = g.copies t (subst (λ rows. Contains rows t) (marks_keep part was).rows at) in
             record {
@@ -369,20 +400,27 @@ module _ (first : State) (h : List Event) (s now : State) (node : ℕ) (op : Op)
     unnoted : is_noted outcome ≡ false → row.source ≡ node → bytes_at_node now row.source ≡ bytes_at_node s row.source
     unnoted none is = written is ∙ rw (nothing_done outcome part none) refl
 
-    -- the work of another job than the node's mirror
-    its_work : (work : JobWork) → ((m : JobRecord) → Mirrors s.table node m → m ≢ row)
+    -- the work of another job than the node's mirror or commit
+    its_work : (work : JobWork) → ((m : JobRecord) → Follows s.table node m → m ≢ row)
         → work_of (marked_if (is_noted outcome) s.table node part works) row.number ≡ Some work → work_of works row.number ≡ Some work
-    its_work work no_mirror found =
+    its_work work no_follower found =
         sym (unmarked_if (is_noted outcome) s.table node part works row.number (λ m is same.
-        let mirror = found_mirrors s.table node m is in
-        no_mirror m mirror (j.numbers m row mirror.there there (sym same)))) ∙ found
+        let f = found_follows s.table node m is in
+        no_follower m f (j.numbers m row f.there there (sym same)))) ∙ found
 
-    of_mirror : row.kind ≡ Mirror → row.source ≡ node → (work : JobWork) → (so : Bool) → is_noted outcome ≡ so
+    goes_marked : (k : JobKind) → follows k ≡ true → row.kind ≡ k → row.source ≡ node → (was : JobWork) → work_of works row.number ≡ Some was → was.met ≡ None
+        → IsJobAhead first h s old.reads row was → IsJobAhead first h now new.reads row (left_again part was)
+    goes_marked Stream f kind is was found met g = absurd (false≢true f)
+    goes_marked Backup f kind is was found met g = absurd (false≢true f)
+    goes_marked Mirror f kind is was found met g = mirror_goes is was found met kind g
+    goes_marked Commit f kind is was found met g = commit_goes is was found met kind g
+
+    of_follower : follows row.kind ≡ true → row.source ≡ node → (work : JobWork) → (so : Bool) → is_noted outcome ≡ so
         → work_of (marked_if so s.table node part works) row.number ≡ Some work → work.met ≡ None
         → IsJobAhead first h now new.reads row work
-    of_mirror kind is work false noted found met = else_goes work (unnoted noted is) (go row work there copies found met)
-    of_mirror kind is work true noted found met =
-        subst (IsJobAhead first h now new.reads row) (sym same) (mirror_goes kind is was has.there was_met (go row was there copies has.there was_met))
+    of_follower kind is work false noted found met = else_goes work (unnoted noted is) (go row work there copies found met)
+    of_follower kind is work true noted found met =
+        subst (IsJobAhead first h now new.reads row) (sym same) (goes_marked row.kind kind refl is was has.there was_met (go row was there copies has.there was_met))
       where
         has : HasWork s.table works row
         has = belong.each row there
@@ -390,9 +428,9 @@ module _ (first : State) (h : List Event) (s now : State) (node : ℕ) (op : Op)
         was : JobWork
         was = has.work
 
-        marked : work_of (marked_for (mirror_of s.table node) part works) row.number ≡ Some (left_again part was)
+        marked : work_of (marked_for (follower_of s.table node) part works) row.number ≡ Some (left_again part was)
         marked = ap (λ found. work_of (marked_for found part works) row.number)
-            (one_mirror s.table j node row (record { there = there; kind = kind; source = is }))
+            (one_follower s.table j node row (record { there = there; kind = kind; source = is }))
             ∙ marked_at works row.number part was has.there
 
         same : work ≡ left_again part was
@@ -401,18 +439,15 @@ module _ (first : State) (h : List Event) (s now : State) (node : ℕ) (op : Op)
         was_met : was.met ≡ None
         was_met = sym (marks_keep part was).met ∙ ap (λ (x : JobWork). x.met) (sym same) ∙ met
 
-    by_kind : (k : JobKind) → row.kind ≡ k → copies_blocks k ≡ true → row.source ≡ node → (work : JobWork)
+    by_kind : (k : JobKind) → row.kind ≡ k → writes_target k ≡ true → row.source ≡ node → (work : JobWork)
         → work_of (marked_if (is_noted outcome) s.table node part works) row.number ≡ Some work → work.met ≡ None
         → IsJobAhead first h now new.reads row work
     by_kind Stream kind c is work found met = absurd (false≢true c)
-    by_kind Commit kind c is work found met = absurd (false≢true c)
-    by_kind Mirror kind c is work found met = of_mirror kind is work (is_noted outcome) refl found met
+    by_kind Commit kind c is work found met = of_follower (ap follows kind) is work (is_noted outcome) refl found met
+    by_kind Mirror kind c is work found met = of_follower (ap follows kind) is work (is_noted outcome) refl found met
     by_kind Backup kind c is work found met =
-        let own_work = its_work work (λ m mirror same. other_kind (sym mirror.kind ∙ ap (λ (r : JobRecord). r.kind) same ∙ kind)) found in
+        let own_work = its_work work (λ m f same. false≢true (sym (ap follows (ap (λ (r : JobRecord). r.kind) same ∙ kind)) ∙ f.kind)) found in
         backup_goes kind is work own_work met (go row work there copies own_work met)
-      where
-        other_kind : Mirror ≡ Backup → ⊥
-        other_kind e = cc e
 
     pub goes_with : (work : JobWork) → work_of (marked_if (is_noted outcome) s.table node part works) row.number ≡ Some work → work.met ≡ None
         → IsJobAhead first h now new.reads row work
@@ -422,7 +457,7 @@ module _ (first : State) (h : List Event) (s now : State) (node : ℕ) (op : Op)
         by_test true e = by_kind row.kind refl copies (eqb-true row.source node e) work found met
         by_test false e =
             let differ : row.source ≢ node = eqb-false row.source node e in
-            let own_work = its_work work (λ m mirror same. differ (ap (λ (r : JobRecord). r.source) (sym same) ∙ mirror.source)) found in
+            let own_work = its_work work (λ m f same. differ (ap (λ (r : JobRecord). r.source) (sym same) ∙ f.source)) found in
             else_goes work (other_source differ) (go row work there copies own_work met)
 
   pub write_goes : AreJobsAhead first h now new.reads (marked_if (is_noted outcome) s.table node part works)

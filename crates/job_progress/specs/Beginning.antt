@@ -3,12 +3,12 @@ use Rattle.std.specs.Prelude.{◌≡◌, ◌⊎◌, ◌<◌, ◌%◌, ℕ, true,
 use Rattle.blk_base.specs.Pieces.{block_size}
 use Rattle.blk_bitmaps.specs.Rows.{granule_count}
 use Rattle.block_jobs.specs.Work.{JobWork, all_left, begun, granules_left, sector_size}
-use Rattle.qmp_codec.specs.declared.event.JobKind.TheVariants.{Mirror}
 use Rattle.qmp_rules.specs.declared.rows.JobRecord.{JobRecord}
 use Rattle.qmp_rules.specs.Ends.{settles_target}
 use Rattle.qmp_rules.specs.Queries.{bytes_of_node}
 use Rattle.flat_machine.specs.Jobs.{granules_of}
 use Rattle.flat_machine.specs.State.{State, Dirty, bytes_at_node}
+use Rattle.job_progress.specs.Piecing.{follows}
 
 -- all of its disk, or what the bitmap holds
 abbrev pub begun_by : JobRecord → ℕ → Option Dirty → JobWork
@@ -27,8 +27,8 @@ pub record AreGranulesOf (size : ℕ) (d : Dirty) : Type 0 where
       ⊎ (d.granularity % block_size ≡ 0)
   pub whole : length d.set ≡ granule_count size d.granularity
 
--- Source and target have disks of one size, and a target that a backup by bitmap is to settle has the state's. No mirror copies
--- by bitmap.
+-- Source and target, or base, have disks of one size, and a target that a backup by bitmap is to settle has the state's. No
+-- mirror or commit copies by bitmap.
 pub record CanBeCopied (s : State) (reads : ℕ → List ℕ) (row : JobRecord) (target : ℕ) : Type 0
   where
     pub is_target : row.target ≡ Some target
@@ -37,6 +37,6 @@ pub record CanBeCopied (s : State) (reads : ℕ → List ℕ) (row : JobRecord) 
     pub found : length (bytes_at_node s target) ≡ bytes_of_node s.table row.source
     pub settled : (d : Dirty) → granules_of s row row.bitmap ≡ Some d
         → settles_target row.bitmap ≡ true → reads target ≡ bytes_at_node s target
-    pub bare : row.kind ≡ Mirror → row.bitmap ≡ None
+    pub bare : follows row.kind ≡ true → row.bitmap ≡ None
     pub granules : (d : Dirty) → granules_of s row row.bitmap ≡ Some d
         → AreGranulesOf (bytes_of_node s.table row.source) d

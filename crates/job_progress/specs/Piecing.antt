@@ -1,12 +1,12 @@
 -- A piece of a guest's request, beside what jobs copy.
-use Rattle.std.specs.Prelude.{◌≡◌, ℕ, Bool, false, ◌==◌, if◌then◌else◌, List, Contains, Option, Some, None, find}
+use Rattle.std.specs.Prelude.{◌≡◌, ℕ, Bool, false, ◌==◌, ◌&&◌, true, if◌then◌else◌, List, Contains, Option, Some, None, find}
 use Rattle.blk_base.specs.Pieces.{Extent}
 use Rattle.blk_base.specs.declared.fault.Outcome.{Outcome}
 use Rattle.block_jobs.specs.Ahead.{AreAll, is_owed}
 use Rattle.blk_graph.specs.declared.edge.Role.TheVariants.{File}
 use Rattle.block_jobs.specs.Work.{JobWork}
 use Rattle.qmp_codec.specs.declared.event.JobKind.{JobKind}
-use Rattle.qmp_codec.specs.declared.event.JobKind.TheVariants.{Mirror, Backup}
+use Rattle.qmp_codec.specs.declared.event.JobKind.TheVariants.{Commit, Mirror, Backup}
 use Rattle.qmp_rules.specs.declared.rows.JobRecord.{JobRecord}
 use Rattle.qmp_rules.specs.Table.{RunTable, child}
 use Rattle.trace_codec.specs.declared.op.Op.{Op}
@@ -41,24 +41,25 @@ CanPass t works node op part = Unit {0}
 
 -- ---- marks
 
-abbrev pub mirrors_by : ℕ → JobRecord → JobKind → Bool
-mirrors_by node row Mirror = row.source == node
-mirrors_by node row kind = false
+-- a mirror and a commit follow their source: what is written there they have to copy again
+abbrev pub follows : JobKind → Bool
+follows Mirror = true
+follows Commit = true
+follows kind = false
 
--- the job mirrors the node
-abbrev pub is_mirror_of : ℕ → JobRecord → Bool
-is_mirror_of node row = mirrors_by node row row.kind
+abbrev pub is_follower_of : ℕ → JobRecord → Bool
+is_follower_of node row = follows row.kind && (row.source == node)
 
-abbrev pub mirror_of : RunTable → ℕ → Option JobRecord
-mirror_of t node = find (is_mirror_of node) t.jobs
+abbrev pub follower_of : RunTable → ℕ → Option JobRecord
+follower_of t node = find (is_follower_of node) t.jobs
 
 abbrev pub marked_for : Option JobRecord → Extent → List JobWork → List JobWork
 marked_for None part works = works
 marked_for (Some row) part works = marked_again row.number part works
 
--- where something was written, the mirror of the node has to copy the part again
+-- where something was written, the mirror or commit of the node has to copy the part again
 abbrev pub marked_if : Bool → RunTable → ℕ → Extent → List JobWork → List JobWork
-marked_if so t node part works = if so then marked_for (mirror_of t node) part works else works
+marked_if so t node part works = if so then marked_for (follower_of t node) part works else works
 
 abbrev pub marked_by : Op → Outcome → RunTable → ℕ → Extent → List JobWork → List JobWork
 marked_by (Write span payload) outcome t node part works =

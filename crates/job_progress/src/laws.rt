@@ -14,7 +14,7 @@ ghost use Rattle.blk_copy.specs.Rows.{is_in_flight};
 ghost use Rattle.blk_copy.specs.declared.transfers.Transfer.{Transfer};
 ghost use Rattle.block_jobs.specs.Work.{JobWork, IsJobWork, after_copy, after_settle, after_take, next_block};
 ghost use Rattle.job_copies.specs.Settling.{HoldsGoal};
-ghost use Rattle.qmp_codec.specs.declared.event.JobKind.TheVariants.{Backup};
+ghost use Rattle.qmp_codec.specs.declared.event.JobKind.TheVariants.{Commit, Backup};
 ghost use Rattle.qmp_rules.specs.declared.change.Change.{Change};
 ghost use Rattle.qmp_rules.specs.declared.rows.JobRecord.{JobRecord};
 ghost use Rattle.qmp_rules.specs.Ends.{settles_target};
@@ -78,8 +78,8 @@ pub fn ends_leave_copies()
         (after s (End row.number why offset)) new.reads (without_work row.number works) }
 {}
 
-/// A piece of a guest's request: of a backup's source only what isn't owed is written, and what is written of a mirror's is owed
-/// from then on.
+/// A piece of a guest's request: of a backup's source only what isn't owed is written, and what is written of a mirror's or a
+/// commit's is owed from then on.
 pub fn pieces_leave_copies()
     ensures { (first s : State) (h : List Event) (drive : ℕ) (op : Op) (outcome : Outcome)
         (part : Extent) (old new : Contents) (works : List JobWork) → JobsStand s.table
@@ -91,7 +91,8 @@ pub fn pieces_leave_copies()
         (marked_by op outcome s.table (disk_node s.table drive) part works) }
 {}
 
-/// A block is copied at once, is read, or is written after it was read; and the work of one job leaves those of the others.
+/// A block is copied at once, for a backup or in its turn for a commit, is read, or is written after it was read; and the work of
+/// one job leaves those of the others.
 pub fn copies_go_on()
     ensures copied { (first s : State) (h : List Event) (reads now : ℕ → List ℕ) (row : JobRecord)
         (work : JobWork) (block : ℕ) → row.kind ≡ Backup → IsJobWork work
@@ -99,6 +100,13 @@ pub fn copies_go_on()
         → IsAhead due (is_owed Backup work) (bytes_at_node s row.source) goal (reads target)
         → IsAhead due (is_owed Backup (after_copy block work)) (bytes_at_node s row.source) goal
         (now target)) → IsJobAhead first h s reads row work
+        → IsJobAhead first h s now row (after_copy block work) }
+    ensures passed { (first s : State) (h : List Event) (reads now : ℕ → List ℕ) (row : JobRecord)
+        (work : JobWork) (block : ℕ) → let source = bytes_at_node s row.source in
+        row.kind ≡ Commit → ((base : ℕ) (due : ℕ → Bool) → row.target ≡ Some base
+        → IsAhead due (is_owed Commit work) source source (reads base)
+        → IsAhead due (is_owed Commit (after_copy block work)) source source (now base))
+        → IsJobAhead first h s reads row work
         → IsJobAhead first h s now row (after_copy block work) }
     ensures taken { (first : State) (h : List Event) (reads : ℕ → List ℕ) (row : JobRecord)
         (work : JobWork) (t : Transfer) → copies_blocks row.kind ≡ true → IsJobWork work
@@ -125,7 +133,7 @@ pub fn copies_go_on()
         → AreJobsAhead first h s reads works → AreJobsAhead first h s now (with_work after works) }
 {}
 
-/// Once nothing is left and no copy is in flight, the target reads as it is to, where each place is due.
+/// Once nothing is left and no copy is in flight, the target or base reads as it is to, where each place is due.
 pub fn copies_are_made()
     ensures { (first s : State) (h : List Event) (reads : ℕ → List ℕ) (row : JobRecord)
         (work : JobWork) (target : ℕ) → row.target ≡ Some target → work.rows ≡ []

@@ -1,4 +1,4 @@
-use Rattle.job_commands.proofs.BegunKept.{command_begun, failure_begun, start_begun, backup_begun, mirror_begun}
+use Rattle.job_commands.proofs.BegunKept.{command_begun, failure_begun, start_begun, backup_begun, mirror_begun, commit_begun}
 use Rattle.job_commands.proofs.laws.jobs_have_begun_still.Goals as goal
 
 pub returns-clause-accepted : goal.returns-clause-accepted
@@ -15,3 +15,6 @@ returns-clause-backup c = backup_begun
 
 pub returns-clause-mirror : goal.returns-clause-mirror
 returns-clause-mirror c = mirror_begun
+
+pub returns-clause-commit : goal.returns-clause-commit
+returns-clause-commit c = commit_begun
