@@ -85,6 +85,8 @@ module _ (w v : WorldSeen) (is : IsPutBack w v) (o : Opening) (comes : Comes o w
             subst (IsAhead (is_due row was.begun) (is_owed row.kind work) (bytes_at_node s row.source) (goal_of s row))
             (sym (is.called.disks was.target)) was.ahead;
         copies = was.copies;
+        whole = was.whole;
+        at_once = was.at_once;
       }
 
   pub put_back_comes : Comes o v

@@ -5,7 +5,7 @@ use Rattle.blk_base.specs.Pieces.{Extent}
 use Rattle.blk_base.specs.declared.fault.Outcome.{Outcome}
 use Rattle.block_jobs.specs.Work.{JobWork}
 use Rattle.flat_machine.specs.Machine.{is_noted}
-use Rattle.job_progress.specs.Piecing.{is_mirror_of, marked_by, marked_for, marked_if}
+use Rattle.job_progress.specs.Piecing.{is_follower_of, marked_by, marked_for, marked_if}
 use Rattle.qmp_rules.specs.Table.{RunTable}
 use Rattle.trace_codec.specs.declared.op.Op.{Op}
 use Rattle.trace_codec.specs.declared.op.Op.TheVariants.{Read, Write, Zero, Flush, Discard}
@@ -17,7 +17,7 @@ pub marked_so : (op : Op) (outcome : Outcome) (t u : RunTable) (node : ℕ) (par
 marked_so op outcome t u node part works written is same = ap (λ some. marked_in (noted_part outcome some) u node works) is ∙ by_op op
   where
     all_of : (so : Bool) → marked_in (cond so (Some part) None) u node works ≡ marked_if so t node part works
-    all_of true = ap (λ jobs. marked_for (find (is_mirror_of node) jobs) part works) same
+    all_of true = ap (λ jobs. marked_for (find (is_follower_of node) jobs) part works) same
     all_of false = refl
 
     nothing : (so : Bool) → marked_in (cond so None None) u node works ≡ works

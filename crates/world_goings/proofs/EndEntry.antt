@@ -161,7 +161,7 @@ module _ (opening : List ℕ → Option (List ℕ)) (first s : State) (h : List 
   suits = copy_suits s row rests.stands run here copies rows go files started
 
   pub end_performed : AllPerformed s (changes_at_end s row why) old new
-  end_performed = end_done s row j run here copies rows first h work why old new agrees.disks may loses
+  end_performed = end_done s row j run here copies first h work why old new agrees.disks may loses
 
   to_end : RestsToEnd s row
   to_end = copy_rests s row rests.stands j run here copies

@@ -28,6 +28,7 @@ use Rattle.flat_machine.proofs.Recorded.{all_stepped-dirty}
 use Rattle.flat_machine.proofs.Resting.{stepped_table}
 use Rattle.job_ends.specs.Ended.{LosesFilter, MayEndSo}
 use Rattle.job_ends.specs.Rows.{AreCopyRows}
+use Rattle.job_ends.proofs.Ends.{writes}
 use Rattle.job_ends.proofs.Held.{ended_held}
 use Rattle.job_ends.proofs.Others.{others_ahead}
 use Rattle.job_entries.proofs.Found.{ended_begun}
@@ -153,7 +154,7 @@ module _ (o : Opening) (w v : WorldSeen) (row : JobRecord) (why : JobEnd) (offse
     may : MayEndSo (start o) h s (disk_of w.nodes) row has.work why
     may =
         entry.ends_so (start o) h s (disk_of w.nodes) row has.work (work_of w.works row.number) why has.there did.made
-        (λ done. going.ahead row has.work there lone.kind has.there (sym found ∙ entry.success_met (seen_sources w) row.number why done did.met))
+        (λ done. going.ahead row has.work there (writes row.kind lone.kind) has.there (sym found ∙ entry.success_met (seen_sources w) row.number why done did.met))
 
     beside : entry.StaysBeside s next
     beside = entry.end_beside s row why offset at lone.group

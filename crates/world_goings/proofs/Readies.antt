@@ -17,7 +17,7 @@ use Rattle.flat_machine.specs.Agreement.{Agrees}
 use Rattle.flat_machine.specs.Changed.{all_stepped}
 use Rattle.flat_machine.specs.Final.{bytes_named}
 use Rattle.flat_machine.specs.Imaging.{ShowsImages}
-use Rattle.flat_machine.specs.Jobs.{can_be_ready, readied_by}
+use Rattle.flat_machine.specs.Jobs.{can_be_ready, readied_by, writes_target}
 use Rattle.flat_machine.specs.Machine.{after, replay}
 use Rattle.flat_machine.specs.Marks.{IsCalm}
 use Rattle.flat_machine.specs.Opening.{start}
@@ -62,7 +62,7 @@ pub ready_agrees : (o : Opening) (w : WorldSeen) (row : JobRecord) (work : JobWo
 ready_agrees o w row work comes whole joined told here mirror is none all =
     let shows = comes.shows told in
     target_alike o w whole row here work mirror shows
-    ((comes.going told).ahead row work (subst (λ (t : RunTable). Contains t.jobs row) (sym shows.table.table_is) here) (whole.jobs.lone row here).kind is none) all
+    ((comes.going told).ahead row work (subst (λ (t : RunTable). Contains t.jobs row) (sym shows.table.table_is) here) (ap writes_target mirror) is none) all
 
 -- ---- all of it
 

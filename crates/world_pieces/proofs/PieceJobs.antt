@@ -1,4 +1,4 @@
--- Jobs beside a piece of a guest's request: no commit runs, jobs stay as they stand, and are as far as before but for what a mirror has to copy again.
+-- Jobs beside a piece of a guest's request: no commit runs, jobs stay as they stand, and are as far as before but for what a mirror or commit has to copy again.
 use Rattle.std.proofs.Common.{◌≡◌, ◌≢◌, ℕ, ◌==◌, Bool, true, false, cond, List, [], ◌∷◌, Option, Some, None, refl, sym, ◌∙◌, ap, subst}
 use Rattle.std.specs.Prelude.{AllPairs, Contains}
 use Rattle.std.specs.List.{cons_option}
@@ -24,7 +24,7 @@ use Rattle.job_commands.specs.Bitmaps.{UsesStand}
 use Rattle.job_ends.specs.Rows.{AreCopyRows}
 use Rattle.job_progress.specs.Belonging.{AreWorksOf}
 use Rattle.job_progress.specs.Going.{copies_blocks}
-use Rattle.job_progress.specs.Piecing.{CanPass, IsGuarded, NoTargetReads, NoTargetUnder, mirror_of, marked_by, marked_for, marked_if}
+use Rattle.job_progress.specs.Piecing.{CanPass, IsGuarded, NoTargetReads, NoTargetUnder, follower_of, marked_by, marked_for, marked_if}
 use Rattle.job_progress.proofs.Belong.{sizes_belong}
 use Rattle.job_progress.proofs.Pieces.{marks_keep}
 use Rattle.job_works.specs.Works.{with_changed}
@@ -60,7 +60,7 @@ module _ (t : RunTable) (works : List JobWork) (aside : ℕ) (jobs : AreJobsKept
           let of = jobs.stand.filters node there (ap is_job_filter kind) in
           by_kind of.row.kind (jobs.lone of.row of.there).kind (of.kind ∙ ap Some kind)
 
--- ---- a mirror's part is marked
+-- ---- a mirror's or a commit's part is marked
 
 -- which leaves the faults that jobs keep
 changed_faults : (job : ℕ) (f : JobWork → JobWork) → ((work : JobWork) → (f work).met ≡ work.met) → (works : List JobWork) → faults_kept (with_changed job f works) ≡ faults_kept works
@@ -74,12 +74,12 @@ changed_faults job f same (work ∷ works) = by_test (work.job == job) (changed_
 pub marked_faults : (op : Op) (outcome : Outcome) (t : RunTable) (node : ℕ) (part : Extent) (works : List JobWork) → faults_kept (marked_by op outcome t node part works) ≡ faults_kept works
 marked_faults op outcome t node part works = by_op op
   where
-    by_mirror : (found : Option JobRecord) → faults_kept (marked_for found part works) ≡ faults_kept works
-    by_mirror None = refl
-    by_mirror (Some row) = changed_faults row.number (left_again part) (λ work. (marks_keep part work).met) works
+    by_follower : (found : Option JobRecord) → faults_kept (marked_for found part works) ≡ faults_kept works
+    by_follower None = refl
+    by_follower (Some row) = changed_faults row.number (left_again part) (λ work. (marks_keep part work).met) works
 
     by_test : (so : Bool) → faults_kept (marked_if so t node part works) ≡ faults_kept works
-    by_test true = by_mirror (mirror_of t node)
+    by_test true = by_follower (follower_of t node)
     by_test false = refl
 
     by_op : (o : Op) → faults_kept (marked_by o outcome t node part works) ≡ faults_kept works
