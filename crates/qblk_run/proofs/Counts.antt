@@ -17,7 +17,7 @@ use Rattle.job_copies.specs.Guarding.{Guards, after_guard}
 use Rattle.blk_base.specs.Pieces.{Extent}
 use Rattle.blk_base.specs.declared.fault.Outcome.{Outcome}
 use Rattle.flat_machine.specs.Machine.{is_noted}
-use Rattle.job_progress.specs.Piecing.{marked_by, marked_for, marked_if, mirror_of}
+use Rattle.job_progress.specs.Piecing.{marked_by, marked_for, marked_if, follower_of}
 use Rattle.qmp_rules.specs.Table.{RunTable}
 use Rattle.qmp_rules.specs.declared.rows.JobRecord.{JobRecord}
 use Rattle.trace_codec.specs.declared.op.Op.{Op}
@@ -263,7 +263,7 @@ module _ (P : List JobWork → Type 0) (again : (job : ℕ) (span : Extent) (wor
   keeps-found (Some row) part works so = again row.number part works so
 
   keeps-noted : (noted : Bool) (t : RunTable) (node : ℕ) (part : Extent) (works : List JobWork) → P works → P (marked_if noted t node part works)
-  keeps-noted true t node part works so = keeps-found (mirror_of t node) part works so
+  keeps-noted true t node part works so = keeps-found (follower_of t node) part works so
   keeps-noted false t node part works so = so
 
   pub marked-keeps : (op : Op) (outcome : Outcome) (t : RunTable) (node : ℕ) (part : Extent) (works : List JobWork) → P works → P (marked_by op outcome t node part works)
